@@ -759,7 +759,8 @@ const start = async () => {
     $("given").textContent = "This browser is too old for the page: it lacks WebAssembly or DecompressionStream.";
     return;
   }
-  const whole = await through(fromBase85($("program").textContent.trim()), new DecompressionStream("deflate"), Infinity);
+  const packed = fromBase85($("program").textContent.trim());
+  const whole = fromLzma(packed.subarray(4), new DataView(packed.buffer).getUint32(0, true));
   const length = new DataView(whole.buffer).getUint32(0, true);
   offerExamples(JSON.parse(decoder.decode(whole.subarray(4, 4 + length))));
   program = new Program(whole.slice(4 + length), $("worker").textContent);

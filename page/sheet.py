@@ -3,18 +3,18 @@
 import base64
 import hashlib
 import json
+import lzma
 import re
 import struct
-import zlib
 from pathlib import Path
 
 HERE = Path(__file__).resolve().parent
 TOP = HERE.parent
 EXAMPLES = TOP / "examples"
-SCRIPTS = "strings books design trace picture states refusals entities cleaning labels openings inputs runs dom drawing page".split()
+SCRIPTS = "strings unpacking books design trace picture states refusals entities cleaning labels openings inputs runs dom drawing page".split()
 PICTURE_RULES = re.compile(r"^\.body\{.*?(?=^@media)", re.M | re.S)
 COLORS = re.compile(r"^:root\{.*?\n(?=\*\{)", re.M | re.S)
-MOST_BYTES = 550_000
+MOST_BYTES = 500_000
 
 
 COMMENT = re.compile(r"^\s*(?://.*|/\*\*(?:[^*]|\*(?!/))*\*/)$", re.M)
@@ -59,17 +59,30 @@ def despelled(text):
     return base64.b85decode(text.replace(b",", b"<"))
 
 
+PACKING = [{"id": lzma.FILTER_LZMA1, "preset": 9 | lzma.PRESET_EXTREME, "lc": 4, "lp": 0, "pb": 0, "dict_size": 2**22}]
+"""What unpacking.js knows: a raw stream, with four bits of the byte before as its context, and no place."""
+
+
+def squeezed(data):
+    """Bytes, packed: their length in four bytes, and the stream."""
+    return spelled(struct.pack("<I", len(data)) + lzma.compress(data, lzma.FORMAT_RAW, filters=PACKING))
+
+
+def unsqueezed(text):
+    """The bytes that were packed so."""
+    return lzma.decompress(despelled(text)[4:], lzma.FORMAT_RAW, filters=PACKING)
+
+
 def packed(module):
-    """The examples and the program, compressed: the length of the examples in four bytes, their JSON, and the module."""
+    """The examples and the program, packed: the length of the examples in four bytes, their JSON, and the module."""
     told = json.dumps(samples(), separators=(",", ":")).encode()
-    squeeze = zlib.compressobj(9, zlib.DEFLATED, 15, 9)
-    return spelled(squeeze.compress(struct.pack("<I", len(told)) + told + module) + squeeze.flush())
+    return squeezed(struct.pack("<I", len(told)) + told + module)
 
 
 def unpacked(page):
     """A page with what is packed in it as it was before: what compresses it may differ from machine to machine."""
     found = re.search(rb'(<script type="application/octet-stream" id="program">)([^<]*)', page)
-    return page[: found.start(2)] + zlib.decompress(despelled(found.group(2))) + page[found.end(2) :]
+    return page[: found.start(2)] + unsqueezed(found.group(2)) + page[found.end(2) :]
 
 
 def hash_of(text):
@@ -105,6 +118,6 @@ def page_of(module):
 def module_of(page):
     """The program in a page."""
     found = re.search(rb'<script type="application/octet-stream" id="program">([^<]*)', page)
-    whole = zlib.decompress(despelled(found.group(1)))
+    whole = unsqueezed(found.group(1))
     (length,) = struct.unpack_from("<I", whole)
     return whole[4 + length :]

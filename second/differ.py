@@ -1,12 +1,13 @@
 #!/usr/bin/env python3
 """Holds the program and `check.py` against each other: on each input both must say the same, word for word.
 
-    differ.py [--short] [--keep FOLDER] PROGRAM [MUTANTS]
+    differ.py [--short] [--definitions] [--keep FOLDER] PROGRAM [MUTANTS]
 
 The inputs are all of examples/, what the program decides and lays out of it, networks and blueprints that are thrown
 together, and so many mutants of all these (20000 where none is told). It prints counts by kind and every difference,
-and ends with 1 where there is one. `--short` runs about a hundred. Nothing is written but, with `--keep`, the inputs
-of differences into that folder. The generator is fixed: with one program the inputs are always the same."""
+and ends with 1 where there is one. `--short` runs about a hundred. With `--definitions` all mutants are of certificates
+with definitions, of their own or thrown together. Nothing is written but, with `--keep`, the inputs of differences into
+that folder. The generator is fixed: with one program the inputs are always the same."""
 
 import argparse
 import random
@@ -229,6 +230,28 @@ def some_step(chance, data):
     else:
         front = front + [chance.choice((b"1", b"-1", b"2", b"-9", b"-12"))]
     lines[at] = b" ".join([words[0], *front, b"0", *rest])
+    return b"\n".join(lines)
+
+
+def is_definition(line):
+    return line[:2] in (b"p ", b"c ", b"v ")
+
+
+def some_definition(chance, data):
+    """A definition with another number, sign or order of words, or one more, fewer, or elsewhere."""
+    lines = data.split(b"\n")
+    places = [n for n, line in enumerate(lines) if is_definition(line)]
+    if not places:
+        return mutant(chance, data)
+    one, other, how = chance.choice(places), chance.choice(places), chance.randrange(9)
+    if how < 6:
+        lines[one] = chance.choice((some_number, some_number, some_sign, some_order))(chance, lines[one])
+    elif how == 6:
+        lines[one], lines[other] = lines[other], lines[one]
+    elif how == 7:
+        lines.insert(chance.randrange(len(lines)), lines.pop(one))
+    else:
+        lines.insert(one, thrown_definition(chance, 20, 6).encode())
     return b"\n".join(lines)
 
 
@@ -525,17 +548,32 @@ def mutants(differ, chance, sources, count):
             differ.none(request, options, mutant(chance, data), formula)
 
 
+def defined_mutants(differ, chance, sources, count):
+    """Mutants of certificates with definitions: every other one of one with its own, where there are such."""
+    thrown = sources["certificate"]
+    own = [it for it in thrown if any(map(is_definition, it[2].split(b"\n")))]
+    for number in range(count):
+        if own and number % 2:
+            kind, (design, prop, data) = "certificate with its definitions", chance.choice(own)
+        else:
+            kind, (design, prop, data) = "certificate with thrown definitions", chance.choice(thrown)
+            data = with_definitions(chance, design, prop, data)
+        data = chance.choice((mutant, some_definition))(chance, data)
+        differ.compare(kind, ["check", prop], design + data)
+
+
 def main():
     words = argparse.ArgumentParser(description="Holds the program and check.py against each other.")
     words.add_argument("program")
     words.add_argument("mutants", nargs="?", type=int)
     words.add_argument("--short", action="store_true")
+    words.add_argument("--definitions", action="store_true")
     words.add_argument("--keep", type=Path)
     told = words.parse_args()
     differ = Differ(told.program, told.keep)
     sources = examples(differ, told.short)
     count = told.mutants if told.mutants is not None else SHORT if told.short else MUTANTS
-    mutants(differ, random.Random(1), sources, count)
+    (defined_mutants if told.definitions else mutants)(differ, random.Random(1), sources, count)
     for counts in differ.kinds, differ.answers:
         print("\n".join(f"{count:7} {name}" for name, count in sorted(counts.items())) + "\n")
     print(f"{sum(differ.kinds.values())} inputs, {differ.wrong} differences, {differ.late} runs too long")

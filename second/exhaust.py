@@ -1,18 +1,22 @@
 #!/usr/bin/env python3
 """Holds `layout` against a list of all layouts of small grids.
 
-    exhaust.py PROGRAM [REQUESTS]
+    exhaust.py PROGRAM [REQUESTS] [--cells N] [--seconds N]
 
 It lists every layout of at most three splitters, inputs and outputs in some grids of at most ten cells, and makes so many
 requests for these grids (5000 where none is told): networks of listed layouts and networks that are thrown together, with
 pins, directions, sides and blocks. The program must find a layout exactly where one is listed. What it finds must lay the
-request by `check.py` and be read back by `recover`; a certificate that there is none must be accepted, and refused
-behind any one changed number. It prints how many it compared, and ends with 1 where one is wrong. It writes nothing."""
+request by `check.py` and be read back by `recover`; a certificate that there is none must be accepted. How many with one
+changed number are still accepted, and how many refused, it counts. It prints how many it compared, and ends with 1 where
+one is wrong. It writes nothing. With `--cells` it leaves out grids of more cells, whose lists take most of its time, and
+with `--seconds` it begins no request after so many."""
 
+import argparse
 import random
 import re
 import subprocess
 import sys
+import time
 from collections import Counter, defaultdict
 from itertools import permutations, product
 
@@ -267,6 +271,12 @@ def request_text(net, pins, blocks):
 
 
 # ---- Comparing. ----
+def kind_of(pins):
+    """Whether a request has pins on cells, sides, both, or none of them."""
+    sides = sum(pin.cell is None for pin in pins)
+    return "free" if not pins else "pins" if not sides else "sides" if sides == len(pins) else "pins and sides"
+
+
 class Comparing:
     def __init__(self, program):
         self.program, self.told, self.wrong = program, Counter(), 0
@@ -284,7 +294,7 @@ class Comparing:
         options = ["--grid", f"{listing.width}x{listing.height}"]
         text = request_text(net, pins, blocks)
         listed, (status, written) = listing.has(net, pins, blocks), self.run(["layout", *options], text.encode())
-        self.told[f"{'pins' if pins else 'free'} {'blocks' if blocks else 'clear'} {status}"] += 1
+        self.told[f"{kind_of(pins)} {'blocks' if blocks else 'clear'} {status}"] += 1
         if status != (0 if listed else 1):
             self.fail(f"status {status}, {'some' if listed else 'none'} listed", options, text)
         elif listed:
@@ -302,7 +312,7 @@ class Comparing:
             self.fail("a layout of another request", options, text)
 
     def refuted(self, chance, options, text, written):
-        """The certificate is accepted, and with one changed number it isn't."""
+        """The certificate is accepted; whether it is with one changed number is counted."""
         if self.run(["check-layout", *options], text.encode() + written)[0] != 1:
             self.fail("a certificate that is not accepted", options, text)
         places = list(NUMBER.finditer(written))
@@ -315,19 +325,24 @@ class Comparing:
 
 
 def main():
-    if len(sys.argv) not in (2, 3):
-        sys.exit("usage: exhaust.py PROGRAM [REQUESTS]")
-    chance, comparing = random.Random(1), Comparing(sys.argv[1])
-    wanted = int(sys.argv[2]) if len(sys.argv) > 2 else REQUESTS
+    words = argparse.ArgumentParser(description="Holds layout against a list of all layouts of small grids.")
+    words.add_argument("program")
+    words.add_argument("requests", nargs="?", type=int, default=REQUESTS)
+    words.add_argument("--cells", type=int, default=10)
+    words.add_argument("--seconds", type=int)
+    told = words.parse_args()
+    begin, chance, comparing, count = time.monotonic(), random.Random(1), Comparing(told.program), 0
     listings = []
-    for grid in GRIDS:
-        listings.append(Listing(*grid))
-        print("{}x{}: {} layouts of {} networks".format(*grid, listings[-1].count, len(listings[-1].groups)), flush=True)
-    for _ in range(wanted):
+    for width, height in GRIDS:
+        if width * height <= told.cells:
+            listings.append(Listing(width, height))
+            print(f"{width}x{height}: {listings[-1].count} layouts of {len(listings[-1].groups)} networks", flush=True)
+    while count < told.requests and (told.seconds is None or time.monotonic() < begin + told.seconds):
         listing = listings[min(chance.randrange(len(listings) + 6), len(listings) - 1)]
         comparing.compare(chance, listing, *thrown_request(chance, listing))
-    print("\n".join(f"{count:7} {name}" for name, count in sorted(comparing.told.items())))
-    print(f"{wanted} requests compared, {comparing.wrong} wrong")
+        count += 1
+    print("\n".join(f"{number:7} {name}" for name, number in sorted(comparing.told.items())))
+    print(f"{count} requests compared, {comparing.wrong} wrong")
     sys.exit(comparing.wrong > 0)
 
 

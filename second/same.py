@@ -23,22 +23,13 @@ from opinion import Answer, Formula, need
 from exhaust import network
 
 PAIRS, MUTANTS, SECONDS = 300, 12, 20
-COMPARED = 64  # edges are compared where neither network has more of them than this
 WORDS = ("0", "1", "-1", "1/2", "2/3", "3/2", "-7", "f", "b", "r", "")  # what a word of a mutant becomes
 DIFFER = ("differ", "load", "room", "flow", "mark", "flow", "mark", "end")
 
 
-def are_abreast(edge, other):
-    """Whether they begin at one input, or end at one output, or both lead from splitter to splitter."""
-    (start, target), (origin, aim) = (edge.start, edge.target), (other.start, other.target)
-    return (start == origin and start[0] == "i") or (target == aim and target[0] == "o") or (
-        start[0] == target[0] == origin[0] == aim[0] == "s")
-
-
 def same_formula(first, second):
-    """The laws of a state of each network, of equal loads and rooms, which of two edges that may carry the same carries
-    more, and that an output carries another flow. Variables are the first network's marks, the second's, and the rows;
-    columns are flows alike, and then loads and rooms."""
+    """The laws of a state of each network, of equal loads and rooms, and that an output carries another flow. Variables
+    are the first network's marks, the second's, and the rows; columns are flows alike, and then loads and rooms."""
     edges, others = len(first.edges), len(second.edges)
     formula = Formula(edges + others)
     for net, before, behind in (first, 0, others), (second, edges, 0):
@@ -54,10 +45,6 @@ def same_formula(first, second):
         formula.clauses += [[variable(literal) for literal in clause] for clause in laws.clauses]
         formula.variables += len(laws.rows)
     formula.columns = edges + others + first.counts["i"] + first.counts["o"]
-    if max(edges, others) <= COMPARED:
-        for a, edge in enumerate(first.edges):
-            for b in (edges + b for b, other in enumerate(second.edges) if are_abreast(edge, other)):
-                formula.clauses += [[formula.row([x], [y]), formula.row([y], [x], ">")] for x, y in ((a, b), (b, a))]
     pairs = [(first.ins[o][0], edges + second.ins[o][0]) for o in first.ends("o")]
     formula.clauses.append([formula.row([x], [y], ">") for a, b in pairs for x, y in ((a, b), (b, a))])
     return formula
@@ -115,9 +102,10 @@ def answer_to(text):
         return found.status, found.text
 
 
-def thrown(chance, inputs, outputs):
-    """A network in which each end has an edge, and splitters have what is left, thrown together."""
-    splitters = chance.randint(0 if inputs == outputs else 1, 4)
+def thrown(chance, inputs, outputs, most=4):
+    """A network of at most so many splitters in which each end has an edge, and splitters have what is left, thrown
+    together."""
+    splitters = chance.randint(0 if inputs == outputs else 1, most)
     starts, targets = [("i", i) for i in range(inputs)], [("o", o) for o in range(outputs)]
     for s in range(splitters):
         starts += [("s", s)] * chance.choice((1, 2, 2))
@@ -126,7 +114,7 @@ def thrown(chance, inputs, outputs):
         less, sort = (starts, "outs") if len(starts) < len(targets) else (targets, "ins")
         free = [s for s in range(splitters) if less.count(("s", s)) < 2]
         if not free:
-            return thrown(chance, inputs, outputs)
+            return thrown(chance, inputs, outputs, most)
         less.append(("s", chance.choice(free)))
     chance.shuffle(targets)
     return network(inputs, outputs, splitters, zip(starts, targets))

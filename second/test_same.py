@@ -17,8 +17,8 @@ PREFERRING = (*SPLITTER[:-1], "give s0 2", "end")
 
 # Of two belts: the first carries no more than the second, which takes all its load or fills its room; and the same of
 # the second.
-STEPS = ("f -35 -15 -25 0 1 1 1", "f -35 -16 -27 0 1 1 1", "r -35 0 10 12 30 24 26 31 0",
-         "f -36 -29 -11 0 1 1 1", "f -36 -30 -13 0 1 1 1", "r -36 0 23 25 33 11 13 34 0", "r 0 32 35 29 0")
+STEPS = ("f -31 -15 -25 0 1 1 1", "f -31 -16 -27 0 1 1 1", "r -31 0 10 12 28 24 26 29 0",
+         "f -32 -29 -11 0 1 1 1", "f -32 -30 -13 0 1 1 1", "r -32 0 23 25 31 11 13 32 0", "r 0 30 33 27 0")
 DIFFER = ("differ", "load 1 0", "room 1 1", "flow 1 0 1/2 1/2", "mark f f f f", "flow 1 0", "mark f f", "end")
 
 
@@ -31,8 +31,8 @@ class Sameness(unittest.TestCase):
         self.assertEqual(answer(*BELT, *BELT, "same", *STEPS, "end"), (0, "same\n"))
         self.assertEqual(answer(*BELT, "", *BELT, "", "same", *STEPS, "end", ""), (0, "same\n"))
         for steps, refused in ((STEPS[:-1], "52 NoVerdict"), ((*STEPS[1:],), "51 BadStep 3 hint"),
-                               ((*STEPS[:2], "r -36 0 10 12 30 24 26 31 0"), "51 BadStep 4 unit"),
-                               (("f -35 -15 -26 0 1 1 1",), "51 BadStep 2 sum"), (("same",), "50 CertLine 2")):
+                               ((*STEPS[:2], "r -32 0 10 12 28 24 26 29 0"), "51 BadStep 4 unit"),
+                               (("f -31 -15 -26 0 1 1 1",), "51 BadStep 2 sum"), (("same",), "50 CertLine 2")):
             self.assertEqual(answer(*BELT, *BELT, "same", *steps, "end"), (9, f"refused {refused}\n"))
         self.assertEqual(answer(*BELT, *BELT, "same", *STEPS, "end", "end"), (9, "refused 50 CertLine 10\n"))
 

@@ -1,6 +1,7 @@
 """What is left out of a design and how its bare halves are opened: the same as the report's tools do it, byte for byte."""
 
 import json
+import random
 import subprocess
 import unittest
 
@@ -47,6 +48,19 @@ main();
 SPELLER = """
 const texts = JSON.parse(require("fs").readFileSync(0, "utf8"));
 require("fs").writeSync(1, JSON.stringify(texts.map((it) => [...fromBase85(it)])));
+"""
+UNPACKER = """
+const texts = JSON.parse(require("fs").readFileSync(0, "utf8"));
+const whole = (text) => {
+  const packed = fromBase85(text);
+  try {
+    return [...fromLzma(packed.subarray(4), new DataView(packed.buffer).getUint32(0, true))];
+  } catch (fault) {
+    if (fault instanceof Damaged) return fault.message;
+    throw fault;
+  }
+};
+require("fs").writeSync(1, JSON.stringify(texts.map(whole)));
 """
 SPELLINGS = ["4 to 4", "4-4", "4:4", "4x4", "4→4", "4 -> 2", "3 => 5 balancer", "8 × 8 (9x11)", "v2.0", "4-to-4 and 2-to-2", "1:2:3", "[color=red]6[/color] to 6", "10x10cm", "", "a 4–4", "0 to 4", "4 to 4.5"]
 
@@ -134,6 +148,21 @@ class Readings(unittest.TestCase):
         told = json.loads(run_scripts(["strings"], SPELLER, json.dumps([sheet.spelled(it) for it in asked]).encode()))
         self.assertEqual([bytes(it) for it in told], asked)
         self.assertEqual([sheet.despelled(sheet.spelled(it).encode()) for it in asked], asked)
+
+    def test_what_is_packed_is_unpacked(self):
+        chance = random.Random(4)
+        asked = [b"", b"a", bytes(4000), bytes(range(256)) * 3, b"ab" * 300 + b"abc" * 200, chance.randbytes(3000)]
+        asked += [bytes(chance.choices(b"abcd", k=5000)), b"".join(chance.randbytes(40) * chance.randint(1, 9) for _ in range(60))]
+        asked += [chance.randbytes(2**17) + bytes(99), (EXAMPLES / "balancer-4-to-4.json").read_bytes() * 2]
+        texts = [sheet.squeezed(it) for it in asked]
+        self.assertEqual([sheet.unsqueezed(it.encode()) for it in texts], asked)
+        cut = [sheet.spelled(sheet.despelled(it.encode())[:-20]) for it in texts[-2:]]
+        whole = self.unpacked([*texts, *cut])
+        self.assertEqual([bytes(it) for it in whole[:-2]], asked)
+        self.assertEqual(whole[-2:], ["what is packed in the page ends too early"] * 2)
+
+    def unpacked(self, texts):
+        return json.loads(run_scripts(["strings", "unpacking"], UNPACKER, json.dumps(texts).encode()))
 
 
 if __name__ == "__main__":

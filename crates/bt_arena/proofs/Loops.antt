@@ -90,21 +90,6 @@ numbers_more a (x ∷ xs) (suc i) d lt =
     ap (λ n. enumerate_from a (take n (x ∷ xs))) (let e : suc i + 1 ≡ suc (i + 1) = omega arith in e)
     ∙ ap (λ l. (a, x) ∷ l) (numbers_more (a + 1) xs i d (omega arith) ∙ ap (λ n. enumerate_from (a + 1) (take i xs) ++ (n, get_or xs i d) ∷ []) (let e : a + 1 + i ≡ a + suc i = omega arith in e))
 
--- what a numbered item adds
-pub numbered_more : {X A : Type 0} (f : ℕ × X → List A) (xs : List X) (old now new : List A) (i : ℕ) (d : X) → i < length xs → now ≡ old ++ flat_map f (enumerate_from 0 (take i xs))
-    → new ≡ now ++ f (i, get_or xs i d) → new ≡ old ++ flat_map f (enumerate_from 0 (take (i + 1) xs))
-numbered_more f xs old now new i d l e h =
-    let one : enumerate_from 0 (take (i + 1) xs) ≡ enumerate_from 0 (take i xs) ++ (i, get_or xs i d) ∷ [] =
-    numbers_more 0 xs i d l ∙ ap (λ n. enumerate_from 0 (take i xs) ++ (n, get_or xs i d) ∷ []) (let z : 0 + i ≡ i = omega arith in z) in
-    let more : flat_map f (enumerate_from 0 (take (i + 1) xs)) ≡ flat_map f (enumerate_from 0 (take i xs)) ++ f (i, get_or xs i d) =
-    ap (flat_map f) one ∙ flat_map-append f (enumerate_from 0 (take i xs)) ((i, get_or xs i d) ∷ []) ∙ ap (λ l. flat_map f (enumerate_from 0 (take i xs)) ++ l) (append-nil (f (i, get_or xs i d))) in
-    h ∙ ap (λ l. l ++ f (i, get_or xs i d)) e ∙ append_assoc old (flat_map f (enumerate_from 0 (take i xs))) (f (i, get_or xs i d)) ∙ ap (λ l. old ++ l) (sym more)
-
--- what all numbered items add
-pub numbered_all : {X A : Type 0} (f : ℕ × X → List A) (xs : List X) (old now : List A) (i : ℕ) → length xs ≤ i → now ≡ old ++ flat_map f (enumerate_from 0 (take i xs))
-    → now ≡ old ++ flat_map f (enumerate_from 0 xs)
-numbered_all f xs old now i l e = e ∙ ap (λ x. old ++ flat_map f (enumerate_from 0 x)) (take_all i xs l)
-
 one_tested : {X : Type 0} (x : X) (xs ys : List X) (b : Bool) → xs ≡ ys → cond b (x ∷ xs) xs ≡ cond b (x ∷ []) [] ++ ys
 one_tested x xs ys true e = ap (λ l. x ∷ l) e
 one_tested x xs ys false e = e

@@ -1,17 +1,15 @@
-//! Goals for `balanced` and `drawn-evenly` of networks without loops: from the outputs back a backed edge is full, so the
+//! Aims for `balanced` and `drawn-evenly` of networks without loops: from the outputs back a backed edge is full, so the
 //! edges out of each splitter carry the same, and so do all outputs. From the inputs on it is the other way round: an edge
 //! that is free is full, so the edges into each splitter carry the same.
-use crate::atoms::{Atoms, mark};
-use crate::distances::ranked_splitters;
-use crate::order::{edges_at, loopless};
 use bt_cnf::{Formula, Lit};
 use bt_extend::NamedLit;
 use bt_flow::{Property, Role};
+use bt_graph::{edges_at, has_no_preference, list_at, loopless, places_of};
 use bt_net::Net;
-use bt_theory::Goal;
+use bt_scopes::{Aim, Atoms, add_opposites, mark_of};
 use std::alloc::{AllocError, Global};
 
-/// What goals are made of.
+/// What aims are made of.
 #[derive(Drop)]
 struct Sources<'a> {
     formula: &'a Formula,
@@ -24,47 +22,45 @@ struct Sources<'a> {
     behind: Vec<Vec<usize>>,
     /// For each splitter the place of its scope.
     scopes: Vec<usize>,
-    goals: Vec<Goal>,
+    aims: Vec<Aim>,
 }
 
-/// The goals of a property of a network, over its formula and the scopes that `scopes_of` makes. There are none where a
+/// The aims of a property of a network, over its formula and the scopes that `scopes_of` makes. There are none where a
 /// splitter prefers an edge, where edges have different caps, where the network has loops or no splitters, and of other
 /// properties.
-pub fn goals_of(
+pub fn aims_of(
     alloc: Global,
     net: &Net,
     property: Property,
     formula: &Formula,
-) -> Result<Vec<Goal>, AllocError> {
+) -> Result<Vec<Aim>, AllocError> {
     match property {
-        Property::Balanced => even_goals(alloc, net, formula, false),
-        Property::DrawnEvenly => even_goals(alloc, net, formula, true),
+        Property::Balanced => even_aims(alloc, net, formula, false),
+        Property::DrawnEvenly => even_aims(alloc, net, formula, true),
         Property::Unlimited | Property::Full => Ok(Vec::new(alloc)),
     }
 }
 
-/// The goals, from the outputs or from the inputs.
-fn even_goals(
+/// The aims, from the outputs or from the inputs.
+fn even_aims(
     alloc: Global,
     net: &Net,
     formula: &Formula,
     from_inputs: bool,
-) -> Result<Vec<Goal>, AllocError> {
+) -> Result<Vec<Aim>, AllocError> {
     let order = loopless(alloc, net, from_inputs)?;
     if order.is_empty() || order.len() < net.splitters() as usize || !is_plain(net) {
         return Ok(Vec::new(alloc));
     }
     let mut sources = sources_of(alloc, net, formula, from_inputs)?;
     sources.add_all(alloc, &order)?;
-    Ok(sources.goals)
+    Ok(sources.aims)
 }
 
 /// Whether no splitter prefers an edge, and all caps are equal: else what is full need not be even.
 fn is_plain(net: &Net) -> bool {
-    for splitter in 0..net.splitters() as usize {
-        if net.give(splitter).is_some() || net.take(splitter).is_some() {
-            return false;
-        }
+    if !has_no_preference(net) {
+        return false;
     }
     match net.edges().first() {
         Some(first) => net.edges().iter().all(|edge| edge.cap == first.cap),
@@ -92,32 +88,12 @@ fn sources_of<'a>(
         before,
         behind,
         scopes: places_of(alloc, net, from_inputs)?,
-        goals: Vec::new(alloc),
+        aims: Vec::new(alloc),
     })
 }
 
-/// For each splitter the place of its scope among those of the search.
-fn places_of(alloc: Global, net: &Net, from_inputs: bool) -> Result<Vec<usize>, AllocError> {
-    let mut places = vec![in alloc; 0; net.splitters() as usize]?;
-    let order = ranked_splitters(alloc, net, from_inputs)?;
-    for (place, splitter) in order.iter().enumerate() {
-        if *splitter < places.len() {
-            places[*splitter] = place;
-        }
-    }
-    Ok(places)
-}
-
-/// The edges of a splitter.
-fn at(lists: &[Vec<usize>], splitter: usize) -> &[usize] {
-    match lists.get(splitter) {
-        Some(edges) => edges,
-        None => &[],
-    }
-}
-
 impl<'a> Sources<'a> {
-    /// Adds the goals of the splitters in this order, and those of the ends.
+    /// Adds the aims of the splitters in this order, and those of the ends.
     fn add_all(&mut self, alloc: Global, order: &[usize]) -> Result<(), AllocError> {
         for splitter in order {
             self.add_full(alloc, *splitter)?;
@@ -126,23 +102,23 @@ impl<'a> Sources<'a> {
             self.add_even(alloc, *splitter)?;
         }
         let comparisons = self.scopes.len();
-        self.add_ends(alloc, comparisons)
+        add_opposites(alloc, self.formula, &mut self.aims, comparisons)
     }
 
     /// Adds that each edge behind a splitter with the mark is full.
     fn add_full(&mut self, alloc: Global, splitter: usize) -> Result<(), AllocError> {
         let place = self.scopes.get(splitter).copied().unwrap_or(0);
-        for edge in at(&self.behind, splitter) {
-            for other in at(&self.before, splitter) {
-                let marked = mark(self.formula, *edge, !self.backed);
+        for edge in list_at(&self.behind, splitter) {
+            for other in list_at(&self.before, splitter) {
+                let marked = mark_of(self.formula, *edge, !self.backed);
                 let full = self.atoms.full(*other);
-                add_both(alloc, &mut self.goals, marked, full, place)?;
+                add_both(alloc, &mut self.aims, marked, full, place)?;
             }
         }
-        for edge in at(&self.behind, splitter) {
-            let marked = mark(self.formula, *edge, !self.backed);
+        for edge in list_at(&self.behind, splitter) {
+            let marked = mark_of(self.formula, *edge, !self.backed);
             let full = self.atoms.full(*edge);
-            add_both(alloc, &mut self.goals, marked, full, place)?;
+            add_both(alloc, &mut self.aims, marked, full, place)?;
         }
         Ok(())
     }
@@ -150,38 +126,20 @@ impl<'a> Sources<'a> {
     /// Adds that each of two edges before a splitter carries at least what the other one does.
     fn add_even(&mut self, alloc: Global, splitter: usize) -> Result<(), AllocError> {
         let place = self.scopes.get(splitter).copied().unwrap_or(0);
-        if let [first, second] = at(&self.before, splitter) {
+        if let [first, second] = list_at(&self.before, splitter) {
             let one = self.atoms.not_below(*first, *second);
             let other = self.atoms.not_below(*second, *first);
-            add_one(alloc, &mut self.goals, one, place)?;
-            add_one(alloc, &mut self.goals, other, place)?;
-        }
-        Ok(())
-    }
-
-    /// Adds that the literals of the last clause are false, by the scope at a place.
-    fn add_ends(&mut self, alloc: Global, place: usize) -> Result<(), AllocError> {
-        let Some(last) = self
-            .formula
-            .clause_at(self.formula.clauses().saturating_sub(1))
-        else {
-            return Ok(());
-        };
-        for lit in self.formula.clause(last) {
-            let opposite = Lit {
-                var: lit.var,
-                positive: !lit.positive,
-            };
-            add_one(alloc, &mut self.goals, Some(opposite), place)?;
+            add_one(alloc, &mut self.aims, one, place)?;
+            add_one(alloc, &mut self.aims, other, place)?;
         }
         Ok(())
     }
 }
 
-/// Adds the goal of two literals, in both orders.
+/// Adds the aim of two literals, in both orders.
 fn add_both(
     alloc: Global,
-    goals: &mut Vec<Goal>,
+    aims: &mut Vec<Aim>,
     first: Option<Lit>,
     second: Option<Lit>,
     place: usize,
@@ -192,38 +150,38 @@ fn add_both(
     let Some(other) = second else {
         return Ok(());
     };
-    add_pair(alloc, goals, &one, &other, place)?;
-    add_pair(alloc, goals, &other, &one, place)
+    add_pair(alloc, aims, &one, &other, place)?;
+    add_pair(alloc, aims, &other, &one, place)
 }
 
-/// Adds the goal of two literals in this order.
+/// Adds the aim of two literals in this order.
 fn add_pair(
     alloc: Global,
-    goals: &mut Vec<Goal>,
+    aims: &mut Vec<Aim>,
     one: &Lit,
     other: &Lit,
     place: usize,
 ) -> Result<(), AllocError> {
-    add_goal(alloc, goals, &[*one, *other], place)
+    add_aim(alloc, aims, &[*one, *other], place)
 }
 
-/// Adds the goal of a literal, where there is one.
+/// Adds the aim of a literal, where there is one.
 fn add_one(
     alloc: Global,
-    goals: &mut Vec<Goal>,
+    aims: &mut Vec<Aim>,
     lit: Option<Lit>,
     place: usize,
 ) -> Result<(), AllocError> {
     match lit {
-        Some(lit) => add_goal(alloc, goals, &[lit], place),
+        Some(lit) => add_aim(alloc, aims, &[lit], place),
         None => Ok(()),
     }
 }
 
-/// Adds a goal with the scope at a place.
-fn add_goal(
+/// Adds an aim with the scope at a place.
+fn add_aim(
     alloc: Global,
-    goals: &mut Vec<Goal>,
+    aims: &mut Vec<Aim>,
     lits: &[Lit],
     place: usize,
 ) -> Result<(), AllocError> {
@@ -234,9 +192,9 @@ fn add_goal(
             positive: lit.positive,
         })?;
     }
-    goals.push(Goal {
+    aims.push(Aim {
         lits: names,
-        scopes: Vec::from_slice(alloc, &[place])?,
+        scope: place,
     })?;
     Ok(())
 }

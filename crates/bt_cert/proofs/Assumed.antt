@@ -1,10 +1,9 @@
 -- What is assumed of variables, and clauses under it.
-use Rattle.std.proofs.Common.{◌≡◌, ℕ, ◌<◌, ◌⊎◌, inl, inr, arith, Bool, true, false, not, List, [], ◌∷◌, ◌++◌, length, get_or, set, Option, None, Some, ap, sym, ◌∙◌, refl, subst, length-append, length-set, get_or-set_same, get_or-set_other}
-use Rattle.std.specs.Prelude.{Contains}
+use Rattle.std.proofs.Common.{◌≡◌, ℕ, ◌⊎◌, inl, inr, arith, Bool, true, false, not, List, [], ◌∷◌, ◌++◌, length, get_or, Option, None, Some, sym, ◌∙◌, refl, subst, length-append}
 use Rattle.std.specs.List.{All}
-use Rattle.std.proofs.lemmas.Bool.{false≢true, cases_eq}
+use Rattle.std.proofs.lemmas.Bool.{false≢true}
 use Rattle.std.proofs.lemmas.List.{get_or_append_left}
-use Rattle.std.proofs.lemmas.List.Elements.{All-push, All-contains, All-from_get_or, All-weaker, Contains-push, Contains-push_cases, Contains-append_left}
+use Rattle.std.proofs.lemmas.List.Elements.{All-push, All-contains, All-from_get_or, All-weaker, Contains-push, Contains-append_left}
 use Rattle.bt_cnf.specs.declared.literal.Lit.{Lit}
 use Rattle.bt_cert.specs.inner.Assuming.{value_at, AreTrailed, AreUnset, IsTrueIn, IsFalseIn, IsUnsetIn, IsUnitIn, HasNoUnit, IsUnitSoFar}
 
@@ -14,26 +13,6 @@ front_of P xs ys x is all =
       λ k d inside. subst P (get_or_append_left ys (x ∷ []) d k inside) (joined k d (omega (arith, inside, length-append ys (x ∷ [])))),
       All-contains P (ys ++ x ∷ []) x joined (Contains-push ys x),
     )
-
--- the last variable on the trail has no value any more
-pub trailed_pop : (values : List (Option Bool)) (trail rest : List ℕ) (place : ℕ) → trail ≡ rest ++ place ∷ [] → AreTrailed values trail → AreTrailed (set values place None) rest
-trailed_pop values trail rest place is are =
-    let parts = front_of (λ var. var < length values) trail rest place is are.inside in
-    record {
-      inside = All-weaker (λ var. var < length values) (λ var. var < length (set values place None)) (λ var below. omega (arith, below, length-set values place None)) rest parts.0;
-      named = λ var value set_is.
-          elim (cases_eq var place) [
-            | inl same ↦ absurd (apart value (sym (get_or-set_same values place None None parts.1) ∙ ap (λ n. get_or (set values place None) n None) (sym same) ∙ set_is))
-            | inr differs ↦
-                elim (Contains-push_cases rest place var (subst (λ xs. Contains xs var) is (are.named var value (sym (get_or-set_other values place var None None differs) ∙ set_is)))) [
-                  | inl among ↦ among
-                  | inr last ↦ absurd (differs (sym last))
-                ]
-          ];
-    }
-  where
-    apart : (value : Bool) → None ≡ Some value → ⊥
-    apart value e = cc
 
 -- where nothing is on the trail, no variable has a value
 pub all_unset : (values : List (Option Bool)) (trail : List ℕ) → length trail ≡ 0 → AreTrailed values trail → AreUnset values
@@ -90,27 +69,6 @@ module _ (values : List (Option Bool)) where
     unset = so_far.unset;
     others = All-push (Other lit) front lit so_far.others (inl refl);
   }
-
-  -- a clause with a true literal
-  pub no_unit_true : (clause : List Lit) (lit : Lit) → Contains clause lit → IsTrueIn values lit → HasNoUnit values clause
-  no_unit_true clause lit among is_true l unit =
-      elim (All-contains (Other l) clause lit unit.others among) [
-        | inl same ↦ unset_not_true values l unit.unset (subst (IsTrueIn values) same is_true)
-        | inr is_false ↦ true_not_false values lit is_true is_false
-      ]
-
-  -- a clause with two literals without a value
-  pub no_unit_two : (clause : List Lit) (first second : Lit) → Contains clause first → Contains clause second → IsUnsetIn values first → IsUnsetIn values second → (first ≡ second → ⊥)
-      → HasNoUnit values clause
-  no_unit_two clause first second one two first_unset second_unset differ l unit =
-      differ (this first one first_unset ∙ sym (this second two second_unset))
-    where
-      this : (x : Lit) → Contains clause x → IsUnsetIn values x → x ≡ l
-      this x among is_unset =
-          elim (All-contains (Other l) clause x unit.others among) [
-            | inl same ↦ same
-            | inr is_false ↦ absurd (unset_not_false values x is_unset is_false)
-          ]
 
   -- a clause of false literals
   pub no_unit_false : (clause : List Lit) → All (IsFalseIn values) clause → HasNoUnit values clause

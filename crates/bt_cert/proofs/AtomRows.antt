@@ -1,5 +1,5 @@
 -- The rows of atoms that literals negate.
-use Rattle.std.proofs.Common.{◌≡◌, ℕ, zero, suc, ◌<◌, arith, Bool, true, false, List, [], ◌∷◌, ◌++◌, length, get_or, Option, None, Some, Ok, Err, ap, sym, ◌∙◌, refl, subst, map}
+use Rattle.std.proofs.Common.{◌≡◌, ℕ, zero, suc, ◌<◌, arith, true, false, List, [], ◌∷◌, ◌++◌, length, get_or, Option, None, Some, Ok, Err, ap, sym, ◌∙◌, refl, subst, map}
 use Rattle.std.specs.List.{All, AllZip, zip}
 use Rattle.std.proofs.lemmas.List.{map-append, length-map, get_or-map}
 use Rattle.std.proofs.lemmas.List.Elements.{All-push}
@@ -46,13 +46,6 @@ negated_row f l None negative none =
     λ row negates.
     let among = negates.1 in
     none among.0 0 (omega (arith, among.1, length-map f.atoms (λ a. a.0))) (var_at f.atoms among.0 (l.var, row) among.1 among.2)
-
--- a positive literal negates no atom
-pub negates_none : (f : FormulaParts) (l : Lit) → l.positive ≡ true → IsNegatedRow f l None
-negates_none f l positive row negates = clash l.positive positive negates.0
-  where
-    clash : (b : Bool) → b ≡ true → b ≡ false → ⊥
-    clash b t f = cc
 
 -- one more literal that negates an atom
 pub picks_more : (f : FormulaParts) (lits : List Lit) (picks : List ℕ) (l : Lit) (place : ℕ) → IsPicked f lits picks true → IsNegatedRow f l (Some place)

@@ -1,5 +1,5 @@
 -- The definitions at the front of a certificate: they are one list, and how far they were read.
-use Rattle.std.proofs.Common.{◌≡◌, ◌≢◌, ℕ, ◌+◌, ◌-◌, ◌<◌, ◌≤◌, ◌⊎◌, List, [], ◌∷◌, ◌++◌, Bool, true, false, length, Some, Result, Ok, Err, OnOk, refl, sym, ◌∙◌, ap, subst, inl, inr, arith, append_assoc, append-nil, length-append}
+use Rattle.std.proofs.Common.{◌≡◌, ◌≢◌, ℕ, ◌-◌, ◌<◌, ◌≤◌, ◌⊎◌, List, [], ◌∷◌, ◌++◌, Bool, true, false, length, Some, Result, Ok, Err, OnOk, refl, sym, ◌∙◌, ap, subst, inl, inr, arith, append_assoc, append-nil, length-append}
 use Rattle.std.specs.List.{flat_map}
 use Rattle.std.proofs.lemmas.Bool.{cases_lt, false≢true}
 use Rattle.std.proofs.lemmas.Grind.{flat_map-append}
@@ -14,7 +14,7 @@ use Rattle.bt_extend.specs.declared.definition.Definition.{Definition}
 use Rattle.bt_extend.specs.declared.definition.Definition.TheVariants.{Comparison, Cases, Disjunction}
 use Rattle.bt_extend.proofs.OneDefinition.{definition_same}
 use Rattle.bt_extend.proofs.InLine.{definition_in_line}
-use Rattle.bt_cert.specs.Certificates.{MayStand, ComesFirst, NoneComesFirst, AreDefined}
+use Rattle.bt_cert.specs.Certificates.{MayStand, NoneComesFirst, AreDefined}
 use Rattle.bt_cert.specs.inner.Defining.{DefiningParts, GoesOn, MayAllStand, HasDefined, DefinesOn, ReachesSteps, IsDefined, MaySo, DefinesNothing, TakesLine, TakesLastLine}
 use Rattle.bt_cert.specs.declared.defining.TheConstants.{MOST_DEFINITIONS}
 
@@ -94,19 +94,6 @@ lines_push ds d =
     flat_map-append definition_line ds (d ∷ []) ∙ ap (λ l. flat_map definition_line ds ++ l) (append-nil (definition_line d))
 
 -- ---- how far definitions were read
-
--- nothing was read
-pub defined_none : (f : FormulaParts) (p : DefiningParts) → p.part ≡ [] → p.count ≡ 0 → p.stopped ≡ false → HasDefined f [] f p
-defined_none f p part count stands = record {
-  definitions = [];
-  stand = tt;
-  few = omega arith;
-  text_is = sym part;
-  formula = refl;
-  count = count;
-  goes_on = λ on. subst (Lacks 10) (sym part) (All-nil (λ b. b ≢ 10));
-  stops = λ s more. absurd (false≢true (sym stands ∙ s));
-}
 
 -- no more definitions may come
 pub reaches : (f : FormulaParts) (text : List ℕ) (now : FormulaParts) (p : DefiningParts) → (GoesOn p → ⊥) → HasDefined f text now p → ReachesSteps f text now p

@@ -1,5 +1,5 @@
 -- Definitions that are read from a source, block by block, and the steps behind them.
-use Rattle.std.proofs.Common.{◌≡◌, ℕ, ◌+◌, ◌-◌, ◌<◌, ◌≤◌, List, [], ◌++◌, length, Option, Result, Ok, Err, refl, sym, ◌∙◌, ap, subst, inl, inr, arith, append_assoc, append-nil, length-append}
+use Rattle.std.proofs.Common.{◌≡◌, ℕ, ◌+◌, ◌-◌, ◌≤◌, List, [], ◌++◌, length, Option, Result, Ok, Err, refl, subst, inl, inr, arith, append_assoc, append-nil, length-append}
 use Rattle.std.specs.Io.KnownBytes.{Consumes, IsAtEnd, Keeps}
 use Rattle.std.proofs.KnownBytes.{Consumes-nil, Consumes-trans, Consumes-kept}
 use Rattle.bt_answers.specs.Answers.{UnlessMemory}
@@ -12,7 +12,7 @@ use Rattle.bt_extend.specs.Extending.{extended}
 use Rattle.bt_extend.specs.declared.definition.Definition.{Definition}
 use Rattle.bt_cert.specs.Certificates.{AreStepsRead, AreDefined, IsCertRead}
 use Rattle.bt_cert.specs.Readings.{AnswersBy, ChecksBy, IsCheckedBy, ExtendsBy, IsExtendedAfter}
-use Rattle.bt_cert.specs.inner.Defining.{DefiningParts, GoesOn, HasDefined, DefinesOn, ReachesSteps, TakesLastLine, ReadsToSteps, ReadsToEnd, ReadsDefinitions}
+use Rattle.bt_cert.specs.inner.Defining.{DefiningParts, GoesOn, HasDefined, DefinesOn, ReachesSteps, TakesLastLine, ReadsToSteps, ReadsToEnd}
 use Rattle.bt_cert.specs.declared.defining.TheConstants.{MOST_DEFINITIONS}
 use Rattle.bt_cert.specs.declared.fault.CertFault.{CertFault}
 use Rattle.bt_cert.specs.declared.fault.CertFault.TheVariants.{CertLine, BadStep, NoVerdict, CertWide, ReadFault, TooLong, Memory}
@@ -206,17 +206,6 @@ ended_extended f head limit source before old after new told read reached =
       formula = all.formula;
     })
 
--- what it is where the definitions weren't read
-pub refused_extended : (f : FormulaParts) (head : List ℕ) (limit : ℕ) (source : Passage) (before : FormulaParts) (old : DefiningParts) (after : FormulaParts) (new : DefiningParts)
-    (fault : CertFault) → ReadsDefinitions limit source before old after new (Err fault) → IsExtendedAfter f head source after (Err fault)
-refused_extended f head limit source before old after new ReadFault h = tt
-refused_extended f head limit source before old after new TooLong h = tt
-refused_extended f head limit source before old after new Memory h = tt
-refused_extended f head limit source before old after new (CertLine n) h = absurd h
-refused_extended f head limit source before old after new (BadStep n cause) h = absurd h
-refused_extended f head limit source before old after new NoVerdict h = absurd h
-refused_extended f head limit source before old after new (CertWide n row column) h = absurd h
-
 no_fault : (f : FormulaParts) (text : List ℕ) → IsCertRead f text (Err ReadFault) → ⊥
 no_fault f text h = h.read
 
@@ -237,17 +226,6 @@ ended_checked f is head limit source before old after new told read reached h =
       answers_of Memory (IsCertRead f text) (one_answer f is text) told
           (unless_behind f after text new.part new.count all.definitions all.defined all.formula all.count told h),
     )
-
--- what is told where the definitions weren't read
-pub definitions_refused : (f : FormulaParts) (head : List ℕ) (limit : ℕ) (source : Passage) (before : FormulaParts) (old : DefiningParts) (after : FormulaParts) (new : DefiningParts)
-    (fault : CertFault) → ReadsDefinitions limit source before old after new (Err fault) → IsCheckedBy (IsCertRead f) head limit source (Err fault)
-definitions_refused f head limit source before old after new ReadFault h = h
-definitions_refused f head limit source before old after new TooLong h = h
-definitions_refused f head limit source before old after new Memory h = h
-definitions_refused f head limit source before old after new (CertLine n) h = absurd h
-definitions_refused f head limit source before old after new (BadStep n cause) h = absurd h
-definitions_refused f head limit source before old after new NoVerdict h = absurd h
-definitions_refused f head limit source before old after new (CertWide n row column) h = absurd h
 
 -- the head's definitions
 pub head_read : (f : FormulaParts) (p : DefiningParts) (head : List ℕ) (now : FormulaParts) (q : DefiningParts) → HasDefined f [] f p → DefinesOn f p head now q → HasDefined f head now q

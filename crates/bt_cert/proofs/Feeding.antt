@@ -1,14 +1,14 @@
 -- A certificate that is read from a source, block by block.
-use Rattle.std.proofs.Common.{◌≡◌, ℕ, ◌+◌, ◌<◌, ◌≤◌, List, [], ◌++◌, length, Option, None, Some, Result, Ok, Err, refl, sym, ◌∙◌, ap, subst, inl, inr, arith, append_assoc, append-nil, length-append}
+use Rattle.std.proofs.Common.{◌≡◌, ℕ, ◌+◌, ◌≤◌, List, [], ◌++◌, length, Option, None, Some, Result, Ok, Err, refl, sym, ◌∙◌, ap, subst, inl, inr, arith, append_assoc, append-nil, length-append}
 use Rattle.std.specs.Io.KnownBytes.{Consumes, IsAtEnd, Keeps}
 use Rattle.bt_answers.specs.Answers.{UnlessMemory}
 use Rattle.bt_answers.proofs.OneAnswer.{answers_of}
-use Rattle.bt_io.specs.Bytes.{Takes, TakesAtMost}
+use Rattle.bt_io.specs.Bytes.{TakesAtMost}
 use Rattle.bt_io.specs.Passages.{Passage}
 use Rattle.bt_cnf.specs.Formulas.{FormulaParts, IsFormula}
 use Rattle.bt_cert.specs.Certificates.{AreStepsRead}
 use Rattle.bt_cert.specs.Readings.{AnswersBy, IsCheckedBy}
-use Rattle.bt_cert.specs.inner.Feeding.{IsFed, ReadsRest, ReadsWhole}
+use Rattle.bt_cert.specs.inner.Feeding.{IsFed, ReadsWhole}
 use Rattle.bt_cert.specs.inner.Stages.{Progress, HasRead, ReadsOn}
 use Rattle.bt_cert.specs.declared.fault.CertFault.{CertFault}
 use Rattle.bt_cert.specs.declared.fault.CertFault.TheVariants.{CertLine, BadStep, NoVerdict, CertWide, ReadFault, TooLong, Memory}
@@ -82,17 +82,6 @@ whole_checked first f formula head limit source start old new told start_is noth
     checked_at (AreStepsRead first f) (λ text wrong. wrong) (λ text wrong. wrong) head limit source told
     (whole.bytes, whole.all, whole.few, answers_of Memory (AreStepsRead first f (head ++ whole.bytes)) (one_steps_answer first f formula (head ++ whole.bytes)) told right)
 
--- what is told where it was not
-pub rest_refused : (Right : List ℕ → Result (Unit {0}) CertFault → Type 0) (head : List ℕ) (limit : ℕ) (source : Passage) (old new : Progress) (fault : CertFault)
-    → ReadsRest limit source old new (Err fault) → IsCheckedBy Right head limit source (Err fault)
-rest_refused Right head limit source old new ReadFault h = h
-rest_refused Right head limit source old new TooLong h = h
-rest_refused Right head limit source old new (CertLine n) h = absurd h
-rest_refused Right head limit source old new (BadStep n cause) h = absurd h
-rest_refused Right head limit source old new NoVerdict h = absurd h
-rest_refused Right head limit source old new (CertWide n row column) h = absurd h
-rest_refused Right head limit source old new Memory h = absurd h
-
 -- what is told where the whole text was read before
 pub finished : (first : ℕ) (f : FormulaParts) (text : List ℕ) (start old : Progress) (told : Result (Unit {0}) CertFault) → start.known.formula ≡ f → HasRead first [] start
     → ReadsOn start text old → ((begin : ℕ) (text : List ℕ) → HasRead begin text old → UnlessMemory Memory (AreStepsRead begin old.known.formula text) told)
@@ -105,16 +94,6 @@ keeps_as None mid after bytes p q = tt
 keeps_as (Some xs) None after bytes p q = absurd p
 keeps_as (Some xs) (Some ys) None bytes p q = absurd q
 keeps_as (Some xs) (Some ys) (Some zs) bytes p q = p ∙ ap (λ t. bytes ++ t) (sym q)
-
--- the source failed
-pub fed_until_fault : (limit taken : ℕ) (source : Passage) (mid : Option (List ℕ)) (old p : Progress) → IsFed source.before mid taken old p
-    → Keeps mid source.after → taken ≤ limit → TakesAtMost source limit
-fed_until_fault limit taken source mid old p fed keeps few = (fed.bytes, keeps_as source.before mid source.after fed.bytes fed.consumed keeps, omega (arith, fed.many))
-
--- one byte past the limit was taken
-pub fed_too_long : (limit taken : ℕ) (source : Passage) (old p : Progress) → IsFed source.before source.after taken old p
-    → limit < taken → taken ≤ limit + 1 → Takes source (limit + 1)
-fed_too_long limit taken source old p fed more few = (fed.bytes, fed.consumed, omega (arith, fed.many))
 
 -- nothing was taken
 pub unfed : (source : Passage) (limit : ℕ) → source.before ≡ source.after → TakesAtMost source limit

@@ -6,13 +6,12 @@ use Rattle.bt_cnf.specs.Formulas.{LitsBelow, IsFormula}
 use Rattle.bt_cnf.specs.declared.literal.Lit.{Lit}
 use Rattle.bt_log.proofs.NegatedAtoms.{negated_below}
 use Rattle.bt_cert.specs.inner.Checking.{Checking, JudgesStep}
-use Rattle.bt_cert.specs.StepLines.{Lemma, Learnt, lit_of}
+use Rattle.bt_cert.specs.StepLines.{Lemma, lit_of}
 use Rattle.bt_extend.specs.declared.written.WrittenLit.{WrittenLit}
 use Rattle.bt_cert.specs.declared.fault.Cause.TheVariants as cause
 use Rattle.bt_cert.specs.declared.fault.StepFault.{StepFault}
 use Rattle.bt_cert.specs.declared.fault.StepFault.TheVariants as fault
 use Rattle.bt_cert.specs.inner.Knowing.{AddsClause}
-use Rattle.bt_cert.specs.inner.Refuting.{JudgesLearnt, places_of}
 use Rattle.bt_cert.specs.inner.Weighing.{JudgesLemma}
 
 -- a written literal that is of no variable
@@ -27,24 +26,13 @@ module _ (old new : Checking) (same : new.formula ≡ old.formula) (lits : List 
   pub lemma_unread : (weights : List Ratio) → IsFormula old.formula → (LitsBelow old.formula.vars (map lit_of lits) → ⊥) → JudgesStep old (Lemma lits weights) new (Err (fault.Fails cause.Literal))
   lemma_unread weights is none = (λ rows negate. none (negated_below old.formula (map lit_of lits) rows is negate), same)
 
-  pub learnt_unread : (hints : List ℕ) → (LitsBelow old.formula.vars (map lit_of lits) → ⊥) → JudgesStep old (Learnt lits hints) new (Err (fault.Fails cause.Literal))
-  learnt_unread hints none = (λ are. none are.variables, same)
-
   -- a step that isn't valid
   pub lemma_refused : (weights : List Ratio) (e : StepFault) → JudgesLemma old.formula (map lit_of lits) weights (Err e) → JudgesStep old (Lemma lits weights) new (Err e)
   lemma_refused weights (fault.Fails cause) judged = (judged, same)
   lemma_refused weights (fault.Wide at) judged = (judged, same)
   lemma_refused weights fault.Memory judged = same
 
-  pub learnt_refused : (hints : List ℕ) (e : StepFault) → JudgesLearnt old (map lit_of lits) (places_of hints) (Err e) → JudgesStep old (Learnt lits hints) new (Err e)
-  learnt_refused hints (fault.Fails cause) judged = (judged, same)
-  learnt_refused hints (fault.Wide at) judged = absurd judged
-  learnt_refused hints fault.Memory judged = same
-
 module _ (old new : Checking) (lits : List WrittenLit) (empty : Bool) (added : AddsClause old (map lit_of lits) new empty) where
   -- a valid step
   pub lemma_kept : (weights : List Ratio) → JudgesLemma old.formula (map lit_of lits) weights (Ok tt) → JudgesStep old (Lemma lits weights) new (Ok empty)
   lemma_kept weights judged = (judged, added.0, added.1)
-
-  pub learnt_kept : (hints : List ℕ) → JudgesLearnt old (map lit_of lits) (places_of hints) (Ok tt) → JudgesStep old (Learnt lits hints) new (Ok empty)
-  learnt_kept hints judged = ((judged, tt), added.0, added.1)

@@ -10,7 +10,7 @@ use Rattle.bt_cnf.specs.Units.{opposite, IsUnit, HasNoBothSigns}
 use Rattle.bt_log.specs.Units.{UnitsRefute}
 use Rattle.bt_cnf.proofs.Signs.{twice}
 use Rattle.bt_log.proofs.Sound.{true_or}
-use Rattle.bt_cert.specs.inner.Assuming.{value_at, AreUnset, IsTrueIn, IsFalseIn, IsUnitIn, Propagates, Tells, with_value}
+use Rattle.bt_cert.specs.inner.Assuming.{value_at, IsTrueIn, IsFalseIn, IsUnitIn, Propagates, Tells, with_value}
 use Rattle.bt_cert.proofs.Assumed.{true_not_false, unset_not_false, unset_not_true}
 
 lit_is : (l m : Lit) → l.var ≡ m.var → l.positive ≡ m.positive → l ≡ m
@@ -47,13 +47,6 @@ joins_back before x m = (λ among. flip (Contains-push_cases before x m among), 
     back : (x ≡ m) ⊎ Contains before m → Contains (before ++ x ∷ []) m
     back (inl same) = subst (λ y. Contains (before ++ x ∷ []) y) same (Contains-push before x)
     back (inr among) = Contains-append_left before (x ∷ []) m among
-
--- where nothing is assumed, no literal is false
-pub tells_nothing : (values : List (Option Bool)) → AreUnset values → Tells values []
-tells_nothing values unset l below = (
-  λ is_false. absurd (unset_not_false values l (unset l.var None below) is_false),
-  λ (k, inside, is). absurd (omega (arith, inside)),
-)
 
 -- one more literal is false, which wasn't true
 pub tells_more : (values : List (Option Bool)) (before after : List Lit) (x : Lit) → Tells values before → Joins before x after → x.var < length values → (IsTrueIn values x → ⊥)

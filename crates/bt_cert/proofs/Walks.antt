@@ -1,5 +1,5 @@
 -- A walk over hints, step by step.
-use Rattle.std.proofs.Common.{◌≡◌, ℕ, ◌<◌, ◌≤◌, ◌+◌, ◌-◌, ◌↔◌, arith, Bool, true, false, List, [], ◌∷◌, ◌++◌, length, get_or, take, drop, Option, IsTrue, ap, sym, ◌∙◌, subst, map, length-append, take-append-drop}
+use Rattle.std.proofs.Common.{◌≡◌, ℕ, ◌<◌, ◌≤◌, ◌+◌, ◌-◌, ◌↔◌, arith, Bool, false, List, [], ◌∷◌, ◌++◌, length, get_or, take, drop, Option, IsTrue, ap, sym, ◌∙◌, subst, map, length-append, take-append-drop}
 use Rattle.std.specs.Prelude.{Contains}
 use Rattle.std.specs.List.{All}
 use Rattle.std.proofs.lemmas.List.{map-append, length-map, get_or-map, get_or_append_left, drop_more, drop_all}
@@ -10,9 +10,8 @@ use Rattle.bt_log.specs.Units.{UnitsRefute}
 use Rattle.bt_cnf.specs.Units.{clause_at}
 use Rattle.bt_cert.specs.inner.Checking.{Checking}
 use Rattle.bt_cert.specs.Judging.{AreHints}
-use Rattle.bt_cert.specs.inner.Assuming.{Propagates, with_value, IsFalseIn}
+use Rattle.bt_cert.specs.inner.Assuming.{Propagates, IsFalseIn}
 use Rattle.bt_cert.specs.inner.Refuting.{IsSound, IsPropagated, IsRefuted, hinted, places_of}
-use Rattle.bt_cert.proofs.Assumed.{one_unit}
 use Rattle.bt_cert.proofs.Told.{refuted}
 
 -- what is among the first items is among all
@@ -53,17 +52,6 @@ pub hinted_below : (known : Checking) (hints : List ℕ) → IsSound known → A
 hinted_below known hints sound are =
     All-map (LitsBelow known.formula.vars) (clause_at known.clauses) (places_of hints)
     (λ k d inside. sound.clauses (get_or (places_of hints) k d) [] (are k d inside))
-
--- one more clause was a unit
-pub walks_on : (known : Checking) (old new : List (Option Bool)) (units : List ℕ) (i : ℕ) (last : List Lit) → i < length units
-    → IsPropagated old (clause_at known.clauses (get_or units i 0 - 1)) new true → Propagates old (hinted known (drop i units)) last ↔ Propagates new (hinted known (drop (i + 1) units)) last
-walks_on known old new units i last inside (l, unit, is) =
-    let clause = clause_at known.clauses (get_or units i 0 - 1) in
-    let rest = hinted known (drop (i + 1) units) in
-    subst (λ xs. Propagates old (hinted known xs) last ↔ Propagates new rest last) (sym (drop_more units i 0 inside)) (
-      λ (other, also, left). subst (λ after. Propagates after rest last) (ap (λ (m : Lit). with_value old m.var m.positive) (one_unit old clause l other unit also) ∙ sym is) left,
-      λ left. (l, unit, subst (λ after. Propagates after rest last) is left),
-    )
 
 -- one more clause was no unit
 pub walks_no_more : (known : Checking) (old new : List (Option Bool)) (units : List ℕ) (i : ℕ) (last : List Lit) → i < length units

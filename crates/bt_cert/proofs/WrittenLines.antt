@@ -15,8 +15,7 @@ use Rattle.bt_cert.specs.StepLines.{WrittenStep, Lemma, Learnt, IsWritten, writt
 use Rattle.bt_extend.specs.declared.written.WrittenLit.{WrittenLit}
 use Rattle.bt_cert.specs.Certificates.{SpellsNoStep}
 use Rattle.bt_cert.specs.inner.Lines.{IsStepRead}
-use Rattle.bt_extend.specs.Items.{LeadsToNone, HaveNoSpace, StopsAfter}
-use Rattle.bt_text.proofs.Pieces.{piece_is}
+use Rattle.bt_extend.specs.Items.{LeadsToNone, StopsAfter}
 use Rattle.bt_extend.proofs.Numbers.{number_lacks, number_same, number_not_zero, lit_lacks, lit_same, lit_not_zero}
 use Rattle.bt_frac.proofs.FracTexts.{frac_text_lacks}
 use Rattle.bt_extend.proofs.ItemLists.{words_begin, words_same, words_lack, map_same, stops_at}
@@ -108,12 +107,6 @@ no_learnt_at_end text after lits hints rest last stand stops zero numbers stops'
     some (stops_at IsNumber decimal hints_have_no_space after hints others last (32 ∷ 48 ∷ []) numbers stops' written.1 (zero_begins []) hints_end_none same)
 no_learnt_at_end text after lits hints rest last stand stops zero numbers stops' some (Lemma other weights) written e =
     differ 114 102 _ _ (λ same. omega arith) (e ∙ lemma_line other weights)
-
--- a line that begins with neither is that of no step
-pub no_step_at_first : (line : List ℕ) → ((rest : List ℕ) → line ≡ 102 ∷ rest → ⊥) → ((rest : List ℕ) → line ≡ 114 ∷ rest → ⊥) → SpellsNoStep line
-no_step_at_first line no_f no_r (Lemma lits weights) written e = no_f (words written_lit_text lits ++ 32 ∷ 48 ∷ words frac_text weights) (e ∙ lemma_line lits weights)
-no_step_at_first line no_f no_r (Learnt lits hints) written e =
-    no_r (words written_lit_text lits ++ 32 ∷ 48 ∷ (words decimal hints ++ 32 ∷ 48 ∷ [])) (e ∙ learnt_line lits hints)
 
 lits_same : (xs ys : List WrittenLit) (r s : List ℕ) → All IsWrittenLit xs → All IsWrittenLit ys → BeginsWith 32 r → BeginsWith 32 s
     → words written_lit_text xs ++ 32 ∷ 48 ∷ r ≡ words written_lit_text ys ++ 32 ∷ 48 ∷ s → (xs ≡ ys) × (r ≡ s)

@@ -1,5 +1,6 @@
 pub mod Assignments
 pub mod Choosing
+pub mod Codes
 pub mod Formulas
 pub mod Meeting
 pub mod Places

@@ -1,4 +1,5 @@
 -- What the contracts of private functions cite.
 pub mod RowPlaces
+pub mod Codes
 pub mod Unset
 pub mod Worths

@@ -1,1 +1,4 @@
 pub mod Certified
+mod Shown
+mod SomeRows
+mod Taken

@@ -4,9 +4,10 @@ ghost use Rattle.bt_decide.specs.Verdicts.{IsVerdict};
 ghost use Rattle.bt_decide.specs.inner.Outcomes.{IsVerdictOf};
 ghost use Rattle.bt_simulate.specs.Simulations.{IsBreaking};
 
+use crate::arguing::argument_for;
 use crate::verdict::Verdict;
-use bt_arguments::{goals_of, scopes_of};
 use bt_cnf::{Chooser, Limits};
+use bt_extend::Definition;
 use bt_fenc::{encode, state_of};
 use bt_flow::{Property, State};
 use bt_net::Net;
@@ -58,33 +59,35 @@ fn search<C: Chooser>(
     ensures { IfOk result (IsVerdict net.now property limits) }
 {
     let formula = encode(alloc, net, property)?;
-    let scopes = scopes_of(alloc, net, property, formula.rows())?;
-    let goals = goals_of(alloc, net, property, &formula)?;
-    let mut definitions = Vec::new(alloc);
+    let mut argument = argument_for(alloc, net, property, &formula)?;
     let outcome = solve(
         alloc,
         formula,
-        &mut definitions,
-        &scopes,
-        &[],
-        &goals,
+        &mut argument.definitions,
+        &argument.scopes,
+        &argument.goals,
         choosers,
         limits,
     )?;
-    let verdict = verdict_of(alloc, net, outcome)?;
+    let verdict = verdict_of(alloc, net, argument.definitions, outcome)?;
     Ok(verdict)
 }
 
 /// The verdict on a property of the network, of what deciding its flow formula came to.
-fn verdict_of(alloc: Global, net: &Net, outcome: Outcome) -> Result<Verdict, AllocError>
-    ensures { IfOk result (IsVerdictOf net.now outcome) }
+fn verdict_of(
+    alloc: Global,
+    net: &Net,
+    definitions: Vec<Definition>,
+    outcome: Outcome,
+) -> Result<Verdict, AllocError>
+    ensures { IfOk result (IsVerdictOf net.now definitions.items outcome) }
 {
     match outcome {
         Outcome::Sat { values, assignment } => {
             let state = state_of(alloc, net, &values, &assignment)?;
             Ok(Verdict::No(state))
         }
-        Outcome::Refuted(log) => Ok(Verdict::Yes(log)),
-        Outcome::GaveUp(cause) => Ok(Verdict::GaveUp(cause)),
+        Outcome::Refuted(log) => Ok(Verdict::Yes { definitions, log }),
+        Outcome::GaveUp(cause) => Ok(Verdict::GaveUp { definitions, cause }),
     }
 }

@@ -2,6 +2,7 @@
 //! evidence.
 #![tactic(auto)]
 
+mod arguing;
 mod deciding;
 mod guessing;
 mod law;

@@ -47,14 +47,6 @@ lowest : (members : List Member) (major : ℕ) (first : Json) (i : ℕ) (v : Jso
     → IsFault members major first i v fault → IsLowest members major first i v fault
 lowest members major first i v fault p f = record { is_fault = f; no_lower = none_below members major first i v (number_of_fault fault) p }
 
-pub lowest_unsupported : (members : List Member) (major : ℕ) (first : Json) (i : ℕ) (v : Json) (name : List ℕ) → IsUnsupported v name → IsLowest members major first i v (Unsupported i name)
-lowest_unsupported members major first i v name h = lowest members major first i v (Unsupported i name) (record {
-  named = λ lt. absurd (omega arith);
-  right = λ lt. absurd (omega arith);
-  on_grid = λ lt. absurd (omega arith);
-  plain = λ lt. absurd (omega arith);
-}) (refl, h)
-
 pub lowest_bad : (members : List Member) (major : ℕ) (first : Json) (i : ℕ) (v : Json) (member : Member) → IsNamed v → IsBadMember major v member → IsLowest members major first i v (BadMember i member)
 lowest_bad members major first i v member n h = lowest members major first i v (BadMember i member) (record {
   named = λ _. n;

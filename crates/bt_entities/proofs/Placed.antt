@@ -280,28 +280,6 @@ preferred_none v name preferred e p s =
     let h : Prefers v name None = rw e at p in
     even_or_sided v name (h s.0) s.1
 
-pub special_input : (v : Json) (priority : Priority) (hand : Hand) → Lacks v (codes "control_behavior") → Lacks v (codes "filter") → priority.take ≡ Some hand → HasPriority v priority → IsFirstSpecial special_in_layouts v InputPriority
-special_input v priority hand a b e p = inr (has_none v _ a, inr (has_none v _ b, inl (preferred_side v (codes "input_priority") priority.take hand e p.takes, refl)))
-
-pub special_output : (v : Json) (priority : Priority) (hand : Hand) → Lacks v (codes "control_behavior") → Lacks v (codes "filter") → priority.take ≡ None → priority.give ≡ Some hand → HasPriority v priority
-    → IsFirstSpecial special_in_layouts v OutputPriority
-special_output v priority hand a b e o p =
-    inr (
-      has_none v _ a,
-      inr (
-        has_none v _ b,
-        inr (
-          preferred_none v (codes "input_priority") priority.take e p.takes,
-          inl (preferred_side v (codes "output_priority") priority.give hand o p.gives, refl),
-        ),
-      ),
-    )
-
-pub plain_design : (v : Json) → Lacks v (codes "control_behavior") → Lacks v (codes "filter") → IsPlain special_in_designs v
-plain_design v a b member (inl h) = has_none v _ a h.0
-plain_design v a b member (inr (first_fails, inl h)) = has_none v _ b h.0
-plain_design v a b member (inr (first_fails, inr (none, h))) = h
-
 pub plain_layout : (v : Json) (priority : Priority) → Lacks v (codes "control_behavior") → Lacks v (codes "filter") → priority.take ≡ None → priority.give ≡ None → HasPriority v priority → IsPlain special_in_layouts v
 plain_layout v priority a b e o p member (inl h) = has_none v _ a h.0
 plain_layout v priority a b e o p member (inr (first_fails, inl h)) = has_none v _ b h.0

@@ -1,5 +1,5 @@
 -- The line of a definition: what is read of it.
-use Rattle.std.proofs.Common.{◌≡◌, ◌==◌, ℕ, ◌+◌, ◌-◌, Bool, false, cond, List, [], ◌∷◌, ◌++◌, length, Option, Some, None, Result, Ok, Err, IfOk, MatchOption, refl, sym, ◌∙◌, ap, subst, inl, inr, arith, append-nil}
+use Rattle.std.proofs.Common.{◌≡◌, ◌==◌, ℕ, ◌+◌, Bool, false, List, [], ◌∷◌, ◌++◌, length, Option, Some, None, Result, Ok, Err, IfOk, MatchOption, refl, sym, ◌∙◌, ap, subst, inl, inr, arith, append-nil}
 use Rattle.std.specs.Fmt.{decimal}
 use Rattle.std.proofs.lemmas.Bool.{false≢true}
 use Rattle.std.specs.List.{All}
@@ -19,9 +19,6 @@ use Rattle.bt_extend.proofs.NoItems.{differ, lits_have_no_space, hints_have_no_s
 use Rattle.bt_extend.proofs.Numbers.{lit_not_zero}
 
 -- ---- forms
-
-pub whole_form : (text rest : List ℕ) (form : FormParts) → BeginsWithForm text form rest → rest ≡ [] → IsFormText text form
-whole_form text rest form h none = record { is_form = h.is_form; text_is = h.text_is ∙ ap (λ r. form_text form ++ r) none ∙ append-nil (form_text form) }
 
 pub form_whole : (text : List ℕ) (form : FormParts) → IsFormText text form → BeginsWithForm text form []
 form_whole text form h = record { is_form = h.is_form; text_is = h.text_is ∙ sym (append-nil (form_text form)); begins = inl refl }
@@ -71,9 +68,6 @@ no_comparison text none (Comparison form) written e = none form (record { is_for
 no_comparison text none (Cases var first second) written e = differ 112 99 _ _ (λ same. omega arith) e
 no_comparison text none (Disjunction lits) written e = differ 112 118 _ _ (λ same. omega arith) e
 
-pub comparison_read : (text : List ℕ) (form : FormParts) → IsFormText text form → IsDefinitionRead (112 ∷ text) (Some (Comparison form))
-comparison_read text form h = (h.is_form, ap (λ t. 112 ∷ t) h.text_is)
-
 pub numbered : (var : ℕ) → IsNumbered var → IsNumber (var + 1)
 numbered var h = record { positive = omega arith; short = h }
 
@@ -103,16 +97,6 @@ no_forms text forms number leads none (Cases var first second) written e =
     none first second (record { is_first = written.1; is_second = written.2; text_is = both.1 })
 no_forms text forms number leads none (Disjunction lits) written e = differ 99 118 _ _ (λ same. omega arith) e
 
-pub cases_read : (text forms : List ℕ) (number var : ℕ) (first second : FormParts) → LeadsToItem IsNumber decimal text number forms → var ≡ number - 1
-    → AreForms forms first second → IsDefinitionRead (99 ∷ text) (Some (Cases var first second))
-cases_read text forms number var first second leads var_is h =
-    let positive = leads.0.positive in
-    let short = leads.0.short in
-    let number_is : number ≡ var + 1 = omega (arith, positive, var_is) in (
-      (omega (arith, short, number_is), h.is_first, h.is_second),
-      ap (λ t. 99 ∷ t) (leads.1.text_is ∙ ap (λ n. 32 ∷ (decimal n ++ forms)) number_is ∙ ap (λ f. 32 ∷ (decimal (var + 1) ++ f)) h.text_is),
-    )
-
 -- ---- literals
 
 abbrev pub CanStand : NamedLit → Type 0
@@ -124,10 +108,6 @@ named_no_space l h = lits_have_no_space (record { number = l.var + 1; positive =
 pub named_not_zero : (l : NamedLit) → CanStand l → named_text l ≡ 48 ∷ [] → ⊥
 named_not_zero l h e = lit_not_zero (record { number = l.var + 1; positive = l.positive }) (numbered l.var h) e
 
-pub disjunction_read : (text rest : List ℕ) (lits : List NamedLit) → All CanStand lits → StopsAfter CanStand named_text text lits rest → rest ≡ 32 ∷ 48 ∷ []
-    → IsDefinitionRead (118 ∷ text) (Some (Disjunction lits))
-disjunction_read text rest lits stand stops ends = (stand, ap (λ t. 118 ∷ t) (stops.text_is ∙ ap (λ r. words named_text lits ++ r) ends))
-
 pub no_disjunction : (text rest : List ℕ) (lits : List NamedLit) → All CanStand lits → StopsAfter CanStand named_text text lits rest → (rest ≡ 32 ∷ 48 ∷ [] → ⊥)
     → IsDefinitionRead (118 ∷ text) None
 no_disjunction text rest lits stand stops more (Comparison form) written e = differ 118 112 _ _ (λ same. omega arith) e
@@ -135,15 +115,6 @@ no_disjunction text rest lits stand stops more (Cases var first second) written 
 no_disjunction text rest lits stand stops more (Disjunction others) written e =
     more (stops_at CanStand named_text named_no_space text lits others rest (32 ∷ 48 ∷ []) stand stops written (inr (48 ∷ [], refl))
     (zero_is_none CanStand named_text named_not_zero [] (inl refl)) (tail_is 118 text (words named_text others ++ 32 ∷ 48 ∷ []) e))
-
--- the literal whose word was read as one that is written
-pub named_read : (bytes : List ℕ) (lit : WrittenLit) (var : ℕ) → IsWrittenLit lit → bytes ≡ written_lit_text lit → var ≡ lit.number - 1
-    → IsNumbered var × (bytes ≡ named_text (record { var = var; positive = lit.positive }))
-named_read bytes lit var h e var_is =
-    let positive = h.positive in
-    let short = h.short in
-    let number_is : lit.number ≡ var + 1 = omega (arith, positive, var_is) in
-    (omega (arith, short, number_is), e ∙ ap (λ n. cond lit.positive (decimal n) (45 ∷ decimal n)) number_is)
 
 pub no_named : (bytes : List ℕ) → ((lit : WrittenLit) → IsWrittenLit lit → bytes ≡ written_lit_text lit → ⊥) → (l : NamedLit) → IsNumbered l.var → bytes ≡ named_text l → ⊥
 no_named bytes none l h e = none (record { number = l.var + 1; positive = l.positive }) (numbered l.var h) e

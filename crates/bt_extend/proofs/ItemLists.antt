@@ -73,10 +73,6 @@ pub record Walks {A : Type 0} (P : A → Type 0) (word : A → List ℕ) (text :
   pub text_is : text ≡ words word items ++ rest
   pub begins : BeginsWith 32 text → BeginsWith 32 rest
 
-pub walk_start : {A : Type 0} (P : A → Type 0) (word : A → List ℕ) (text : List ℕ) (items : List A) → items ≡ [] → Walks P word text items text
-walk_start P word text [] none = record { stand = All-nil P; text_is = refl; begins = λ b. b }
-walk_start P word text (x ∷ xs) none = absurd cc
-
 pub walk_more : {A : Type 0} (P : A → Type 0) (word : A → List ℕ) (text : List ℕ) (items : List A) (rest after : List ℕ) (x : A)
     → Walks P word text items rest → LeadsToItem P word rest x after → Walks P word text (items ++ x ∷ []) after
 walk_more P word text items rest after x walk leads = record {

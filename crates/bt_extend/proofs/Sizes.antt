@@ -5,8 +5,8 @@ use Rattle.bt_cnf.specs.Formulas.{FormulaParts, AscendBelow}
 use Rattle.bt_cnf.specs.declared.literal.Lit.{Lit}
 use Rattle.bt_extend.specs.Definitions as formula
 use Rattle.bt_extend.specs.Definitions.{IsDefinition}
-use Rattle.bt_extend.specs.Extending.{asserted, denied, lit_of, opposite_of, with_comparison, with_column, with_definition, extended, AreDefinitions}
-use Rattle.bt_extend.specs.Forms.{FormParts, column_less, less_column}
+use Rattle.bt_extend.specs.Extending.{asserted, denied, lit_of, opposite_of, with_column, with_definition, extended, AreDefinitions}
+use Rattle.bt_extend.specs.Forms.{FormParts}
 use Rattle.bt_extend.specs.declared.definition.NamedLit.{NamedLit}
 use Rattle.bt_extend.specs.declared.definition.Definition.{Definition}
 use Rattle.bt_extend.specs.declared.definition.Definition.TheVariants.{Comparison, Cases, Disjunction}

@@ -1,6 +1,6 @@
 -- Formulas that definitions extend one after another.
 use Rattle.std.proofs.Common.{◌≡◌, ℕ, ◌<◌, ◌≤◌, ◌+◌, List, [], ◌∷◌, ◌++◌, length, get_or, take, drop, ap, sym, ◌∙◌, refl, subst, arith, append-nil}
-use Rattle.std.proofs.lemmas.List.{take-append-drop, take_all, take_more, drop_more, drop_all}
+use Rattle.std.proofs.lemmas.List.{take-append-drop, take_all, take_more, drop_more}
 use Rattle.bt_cnf.specs.Formulas.{FormulaParts}
 use Rattle.bt_extend.specs.Definitions.{IsDefinition}
 use Rattle.bt_extend.specs.Extending.{with_definition, extended, AreDefinitions, BeginsWithNone, AreTaken}

@@ -1,5 +1,5 @@
 -- The words of terms, one term after another.
-use Rattle.std.proofs.Common.{◌≡◌, ℕ, ◌+◌, ◌<◌, ◌≤◌, ◌^◌, List, [], ◌∷◌, ◌++◌, length, get_or, refl, sym, ◌∙◌, ap, arith, append_assoc, append-nil}
+use Rattle.std.proofs.Common.{◌≡◌, ℕ, ◌+◌, ◌<◌, ◌≤◌, ◌^◌, List, [], ◌∷◌, ◌++◌, length, get_or, refl, sym, ◌∙◌, ap, arith, append_assoc}
 use Rattle.std.specs.List.{All}
 use Rattle.std.proofs.lemmas.Grind.{flat_map-append}
 use Rattle.std.proofs.lemmas.List.Elements.{All-head, All-tail, All-nil, All-cons}
@@ -61,11 +61,6 @@ odd_word rest (v ∷ vs) few some e = let long : length rest ≡ length (words_o
 pub no_pair : (words rest : List Nonzero) (terms : List (ℕ × Ratio)) → words ≡ words_of terms ++ rest → length rest < 2 → (length rest ≡ 0 → ⊥) → TellNoTerms words
 no_pair words rest terms is few some us all e =
     let found = after_terms terms us rest all (sym is ∙ e) in odd_word rest found.0 few some found.2
-
--- no word is left
-pub words_whole : (words rest : List Nonzero) (terms : List (ℕ × Ratio)) → words ≡ words_of terms ++ rest → length rest ≡ 0 → words ≡ words_of terms
-words_whole words [] terms is none = is ∙ append-nil (words_of terms)
-words_whole words (w ∷ rest) terms is none = absurd (omega arith)
 
 placed_from : (least : ℕ) (terms : List (ℕ × Ratio)) → AreColumnsFrom least (columns_of terms) → All IsPlaced terms
 placed_from least [] are = All-nil IsPlaced

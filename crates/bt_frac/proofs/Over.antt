@@ -114,9 +114,3 @@ are_over_split (r ∷ rs) ss [] d e = absurd e
 are_over_split (r ∷ rs) ss (w ∷ ws) d e =
     let rest = are_over_split rs ss ws d e.1 in
     (w ∷ rest.0, (rest.1.0, ap (λ l. w ∷ l) rest.1.1, (e.0, rest.1.2), rest.1.3))
-
-pub are_over_append : (rs ss : List Ratio) (us vs : List ℤ) (d : ℕ) → AreOver rs us d → AreOver ss vs d → AreOver (rs ++ ss) (us ++ vs) d
-are_over_append [] ss [] vs d e f = f
-are_over_append [] ss (u ∷ us) vs d e f = absurd e
-are_over_append (r ∷ rs) ss [] vs d e f = absurd e
-are_over_append (r ∷ rs) ss (u ∷ us) vs d e f = (e.0, are_over_append rs ss us vs d e.1 f)

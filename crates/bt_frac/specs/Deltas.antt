@@ -1,10 +1,9 @@
 -- A fraction and a multiple of an infinitesimal: less than each positive fraction, and above 0.
 use Rattle.std.specs.Prelude.{◌⊎◌}
 use Rattle.std.specs.declared.cmp.Ordering.{Ordering}
-use Rattle.std.specs.Ordering.{MatchOrdering, on, then_cmp}
+use Rattle.std.specs.Ordering.{MatchOrdering}
 use Rattle.bt_frac.specs.Ratio.{Ratio, IsLowest, SameRatio, IsSum, CanAdd, IsWide, IsLess, negated}
 use Rattle.bt_frac.specs.Products.{IsProduct}
-use Rattle.bt_frac.specs.Ordered.{ratio_cmp}
 use Rattle.bt_frac.specs.declared.delta.Delta.{Delta}
 
 -- both parts are in lowest terms
@@ -50,7 +49,3 @@ SameDelta a b = SameRatio a.value b.value × SameRatio a.tiny b.tiny
 -- o is the order of a and b
 abbrev pub IsOrderOfDeltas : Ordering → Delta → Delta → Type 0
 IsOrderOfDeltas o a b = MatchOrdering o (IsLessDelta a b) (SameDelta a b) (IsLessDelta b a)
-
--- the order that `Ord` gives
-abbrev pub delta_cmp : Delta → Delta → Ordering
-delta_cmp = then_cmp (on (λ d. d.value) ratio_cmp) (on (λ d. d.tiny) ratio_cmp)

@@ -10,10 +10,6 @@ use Rattle.std.proofs.lemmas.List.FromFn.{map-range_with_len_more}
 pub power_small : (e : ℕ) → e ≤ 7 → 2 ^ e ≤ 128
 power_small e small = pow-le-pow_right {n = 2} (omega arith) small
 
--- two small factors have a small product
-pub product_small : (a b m n : ℕ) → a ≤ m → b ≤ n → a * b ≤ m * n
-product_small a b m n p q = mul-le-mul p q
-
 range_more : (a n : ℕ) → range_with_len a (n + 1) ≡ range_with_len a n ++ (a + n) ∷ []
 range_more a zero = ap (λ k. k ∷ []) (sym (add-zero a))
 range_more a (suc n) =

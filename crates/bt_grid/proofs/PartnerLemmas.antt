@@ -10,14 +10,6 @@ use Rattle.bt_parts.proofs.Pieces.{piece_if_paired}
 use Rattle.bt_grid.specs.Pairing.{partner_of, ArePartners, IsFirstUnpaired}
 use Rattle.bt_grid.specs.inner.Partners.{HasPartners}
 
--- no parts
-pub no_partners : (parts : List Part) (partners : List (Option ℕ)) → partners ≡ [] → HasPartners parts partners 0
-no_partners parts partners e = record {
-  count = ap length e;
-  other_end = λ i j lt. absurd (omega arith);
-  none_alone = λ i lt. absurd (omega arith);
-}
-
 -- one more part
 pub more_partners : (parts : List Part) (partners : List (Option ℕ)) (n : ℕ) (partner : Option ℕ) → HasPartners parts partners n
     → ((j : ℕ) → (partner ≡ Some j) ↔ ArePaired parts n j) → (partner ≡ None → IsPieceAt parts n → ⊥)

@@ -5,7 +5,7 @@ use bt_model::{MOST_ACROSS, Request};
 use bt_net::Demand;
 use bt_parts::{Part, Rect};
 use bt_route::{Sketch, find_sketch};
-use bt_shrink::{Goal, Shrunk, shrink};
+use bt_shrink::{Goal, Shrunk, find_turned, shrink};
 use std::alloc::{AllocError, Global};
 
 /// The greatest rectangle.
@@ -22,6 +22,13 @@ const CELL_EFFORT: u64 = 200;
 
 /// How often that is tried.
 const RUNS: u64 = 3;
+
+/// For about so many conflicts of a light search a layout is looked for that half a turn maps onto itself: it takes few or
+/// very many.
+const TURN_EFFORT: u64 = 40_000;
+
+/// Of how many rectangles such layouts are looked for by turns.
+const TURNS: u64 = 2;
 
 /// The parts of a sketch.
 fn parts_of(alloc: Global, sketch: &Sketch) -> Result<Vec<Part>, AllocError> {
@@ -112,6 +119,54 @@ pub fn seek_by_lessening(
     Ok(None)
 }
 
+/// Whether the rectangle of a request is as wide as high, or one less.
+fn is_squarish(request: &Request) -> bool {
+    let Rect { width, height } = request.rect();
+    width == height || width.saturating_add(1) == height
+}
+
+/// Whether halves of splitters and ends take at most half of the cells of a request's rectangle.
+fn is_wide(request: &Request) -> bool {
+    let (net, rect) = (request.net(), request.rect());
+    let halves = u64::from(net.splitters()).saturating_mul(2);
+    let ends = u64::from(net.inputs()).saturating_add(u64::from(net.outputs()));
+    let cells = u64::from(rect.width).saturating_mul(u64::from(rect.height));
+    halves.saturating_add(ends).saturating_mul(2) <= cells
+}
+
+/// Of the first requests, of those whose rectangles are squarish, by turns one of the least that are wide; or the last one,
+/// where none is.
+fn to_turn(requests: &[Request], end: usize, number: u64) -> Option<&Request> {
+    let mut last = None;
+    let mut left = number % TURNS;
+    for request in requests.iter().take(end) {
+        if !is_squarish(request) {
+            continue;
+        }
+        last = Some(request);
+        if is_wide(request) {
+            if left == 0 {
+                break;
+            }
+            left -= 1;
+        }
+    }
+    last
+}
+
+/// Looks for a layout of one of the first requests that half a turn maps onto itself. Other numbers begin other searches.
+fn seek_turned_below(
+    alloc: Global,
+    requests: &[Request],
+    end: usize,
+    number: u64,
+) -> Result<Option<Shrunk>, AllocError> {
+    match to_turn(requests, end, number) {
+        Some(request) => find_turned(alloc, request, request.rect(), TURN_EFFORT, number),
+        None => Ok(None),
+    }
+}
+
 /// A plan in the greatest rectangle that is made smaller than the rectangles of some requests.
 fn seek_from_greatest(
     alloc: Global,
@@ -132,7 +187,7 @@ fn seek_from_greatest(
 }
 
 /// Makes the layout smaller that was found, or a plan where none was.
-pub fn seek_lesser(
+fn seek_shrunk(
     alloc: Global,
     requests: &[Request],
     found: Option<&Laid>,
@@ -158,4 +213,24 @@ pub fn seek_lesser(
         ),
         None => seek_from_greatest(alloc, request, effort, number),
     }
+}
+
+/// Looks for a layout that half a turn maps onto itself; or makes the layout smaller that was found, or a plan where none
+/// was.
+pub fn seek_lesser(
+    alloc: Global,
+    requests: &[Request],
+    found: Option<&Laid>,
+    effort: u64,
+    number: u64,
+) -> Result<Option<Shrunk>, AllocError> {
+    let end = match found {
+        Some(laid) => laid.place,
+        None => requests.len(),
+    };
+    let turned = seek_turned_below(alloc, requests, end, number)?;
+    if turned.is_some() {
+        return Ok(turned);
+    }
+    seek_shrunk(alloc, requests, found, effort, number)
 }

@@ -16,9 +16,6 @@ pub record Looks (least : ℕ) (columns rest : List ℕ) : Type 0 where
   pub ascend : AreColumnsFrom from rest
   pub back : (o : Option ℕ) → IsLeastFrom least rest o → IsLeastFrom least columns o
 
-pub looks_first : (least : ℕ) (columns : List ℕ) → AreColumnsFrom 0 columns → Looks least columns columns
-looks_first least columns ascend = record { from = 0; ascend = ascend; back = λ o h. h }
-
 pub contains_later : (x y : ℕ) (xs : List ℕ) → Contains xs y → Contains (x ∷ xs) y
 contains_later x y xs h = Contains-append_right (x ∷ []) xs y h
 

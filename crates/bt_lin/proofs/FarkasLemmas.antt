@@ -1,9 +1,8 @@
 -- The one answer to whether a weighted sum of rows is false.
-use Rattle.std.proofs.Common.{◌≡◌, ℕ, ◌<◌, ◌≤◌, ◌+◌, arith, List, [], ◌∷◌, length, get_or, take, zero, suc, ℤ, Option, None, Some, IfSome, IfNone, Bool, true, false, IsTrue, ◌↔◌, Ok, Err, ◌⊎◌, inl, inr, pos, ◌<ℤ◌, map, ap, sym, ◌∙◌, refl, subst}
+use Rattle.std.proofs.Common.{◌≡◌, ℕ, ◌<◌, ◌≤◌, ◌+◌, arith, List, [], ◌∷◌, length, get_or, take, zero, suc, ℤ, Option, None, Some, IfSome, IfNone, Bool, true, IsTrue, ◌↔◌, Ok, Err, ◌⊎◌, inl, inr, pos, ◌<ℤ◌, map, ap, sym, ◌∙◌, refl, subst}
 use Rattle.std.specs.Prelude.{Contains}
 use Rattle.std.specs.List.{All, Any}
 use Rattle.std.specs.declared.result.Result.{Result}
-use Rattle.std.proofs.lemmas.Bool.{false≢true}
 use Rattle.std.proofs.lemmas.List.{take_all}
 use Rattle.std.proofs.lemmas.List.Elements.{All-contains, All-head, All-tail}
 use Rattle.bt_answers.specs.Answers.{HasOneAnswer}
@@ -292,7 +291,3 @@ module _ (sum : List (RowParts × Ratio)) (named : List ℕ) (same : columns_in 
 
       from : IsFalseSum sum → IsTrue columns.cancel × IsFalseBound total (Any IsStrict sum)
       from f = (cancel.1 (λ c below. f.columns c), (bound_by total (Any IsStrict sum) all_runs).1 f.bounds)
-
--- a sum with a weight that its row may not have
-pub bad_weight : (sum : List (RowParts × Ratio)) → (All MayWeigh sum → ⊥) → IsFarkas sum (Ok false)
-bad_weight sum bad = (λ may row place w. bad may, (λ h. absurd (false≢true h), λ f. absurd (bad f.weights)))

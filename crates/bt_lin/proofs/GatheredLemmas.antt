@@ -42,10 +42,6 @@ rise_by least [] up first = tt
 rise_by least (e ∷ entries) up first =
     (first e (omega arith), rise_by e.column entries (λ i j d order inside. up (suc i) (suc j) d (omega arith) (omega (arith, inside))) (λ d some. up 0 1 d (omega arith) (omega (arith, some))))
 
-rise_more : (least more : ℕ) (entries : List Entry) → Rise least entries → ((d : Entry) → 0 < length entries → more ≤ (get_or entries 0 d).column) → Rise more entries
-rise_more least more [] rise first = tt
-rise_more least more (e ∷ entries) rise first = (first e (omega arith), rise.1)
-
 -- a column below all has no entry
 pub none_below : (least column : ℕ) (entries : List Entry) → Rise least entries → column < least → entries_at column entries ≡ []
 none_below least column [] rise below = refl

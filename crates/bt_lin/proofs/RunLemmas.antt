@@ -1,5 +1,5 @@
 -- Running sums: their steps have one result, and lead to the sum.
-use Rattle.std.proofs.Common.{◌≡◌, ℕ, ◌<◌, ◌*◌, arith, ℤ, pos, ◌+ℤ◌, ◌*ℤ◌, List, [], ◌∷◌, ◌++◌, sym, ◌∙◌, refl, subst, inl, inr}
+use Rattle.std.proofs.Common.{◌≡◌, ℕ, ◌<◌, ◌*◌, arith, ℤ, pos, ◌+ℤ◌, ◌*ℤ◌, List, [], ◌∷◌, ◌++◌, sym, refl, subst, inl, inr}
 use Rattle.std.specs.List.{AllByRecursion}
 use Rattle.std.proofs.lemmas.Int.{ints}
 use Rattle.bt_frac.specs.Ratio.{Ratio, IsLowest, SameRatio, IsOver, IsSum, CanAdd}
@@ -41,11 +41,6 @@ runs_through s u t [] pair rest (r, a, more) same wide = step_fits s pair r a (s
 runs_through s u t (x ∷ front) pair rest (r, a, more) (q, b, less) wide =
     let same : q ≡ r = one_step s x q r b a in
     runs_through r u t front pair rest more (subst (λ y. RunsTo y front u) same less) wide
-
--- two sums through the same pairs end alike
-pub runs_one : (s t u : Ratio) (pairs : List (Ratio × Ratio)) → RunsTo s pairs t → RunsTo s pairs u → t ≡ u
-runs_one s t u [] a b = sym a ∙ b
-runs_one s t u (pair ∷ pairs) (r, a, more) (q, b, less) = runs_one r t u pairs more (subst (λ y. RunsTo y pairs u) (one_step s pair q r b a) less)
 
 -- one more pair
 pub runs_more : (s t u : Ratio) (pairs : List (Ratio × Ratio)) (pair : Ratio × Ratio) → RunsTo s pairs t → AddsProduct t pair u → RunsTo s (pairs ++ pair ∷ []) u

@@ -54,9 +54,6 @@ pub record ArePartlyLowered (u g : ℕ) (terms items : Numbers) (i : ℕ) : Type
   pub rest : drop i items ≡ drop i terms
   pub same_length : length items ≡ length terms
 
-pub lowered_start : (u g : ℕ) (terms : Numbers) → ArePartlyLowered u g terms terms 0
-lowered_start u g terms = record { over = record { same = refl; small = All-nil (λ t. IsSmall t.1) }; rest = refl; same_length = refl }
-
 pub lowered_here : (u g : ℕ) (terms items : Numbers) (i : ℕ) (x : ℕ × ℤ) → i < length items → ArePartlyLowered u g terms items i → get_or items i x ≡ get_or terms i x
 lowered_here u g terms items i x inside so_far =
     let inside' : i < length terms = subst (λ n. i < n) so_far.same_length inside in

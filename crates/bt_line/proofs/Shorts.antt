@@ -138,9 +138,6 @@ number_over p under (t ∷ numbers) = at (t.0 == p) (coefficient_at p (terms_ove
 pub over_more : (under : ℕ) (numbers : Numbers) (p : ℕ) (z : ℤ) → terms_over under (numbers ++ (p, z) ∷ []) ≡ terms_over under numbers ++ (p, reduced z under) ∷ []
 over_more under numbers p z = map-append (λ t. (t.0, reduced t.1 under)) numbers ((p, z) ∷ [])
 
-pub divides_itself : (n : ℕ) → Divides n n
-divides_itself n = (1, omega arith)
-
 pub divides_next : (d m n : ℕ) → Divides d m → Divides m n → Divides d n
 divides_next d m n (k, e) (l, f) = (k * l, sym (mul_assoc d k l) ∙ ap (λ t. t * l) e ∙ f)
 

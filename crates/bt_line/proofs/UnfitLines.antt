@@ -1,30 +1,25 @@
 -- Operations of lines that don't fit, and where all fit.
-use Rattle.std.proofs.Common.{◌≡◌, ◌≢◌, ℕ, ◌+◌, ◌*◌, ◌/◌, ◌<◌, ◌^◌, arith, lit<, suc, pos, neg_ℤ, ◌+ℤ◌, ◌*ℤ◌, ℤ, Bool, true, false, if◌then◌else◌, ◌==◌, ◌&&◌, [], ◌∷◌, length, set, length-set, Result, Ok, Err, IfOk, IfErr, Option, Some, None, ap, sym, ◌∙◌, refl, subst, inl, inr}
+use Rattle.std.proofs.Common.{◌≡◌, ℕ, ◌*◌, ◌/◌, ◌<◌, ◌^◌, arith, lit<, pos, neg_ℤ, ◌+ℤ◌, ◌*ℤ◌, Bool, true, false, if◌then◌else◌, ◌==◌, [], ◌∷◌, Result, Ok, Err, IfOk, IfErr, Some, None, ap, sym, ◌∙◌, refl, subst}
 use Rattle.std.specs.List.{All}
-use Rattle.std.proofs.lemmas.Int.{ints}
 use Rattle.std.proofs.lemmas.Bool.Decides.{nat_tests}
-use Rattle.std.proofs.lemmas.Bool.{cases_lt}
-use Rattle.std.proofs.lemmas.List.{get_or-set_same, get_or-set_other}
 use Rattle.std.proofs.Math.Nat.{eq-one_of_dvd-one}
-use Rattle.std.proofs.Math.IntN.{*ℤ_comm}
 use Rattle.bt_frac.specs.Ratio.{Ratio, IsLowest, FitsPart, IsWide, negated}
-use Rattle.bt_frac.specs.Products.{IsProduct, IsDivision}
-use Rattle.bt_frac.specs.Values.{nothing, times}
+use Rattle.bt_frac.specs.Products.{IsProduct}
+use Rattle.bt_frac.specs.Values.{times}
 use Rattle.bt_frac.proofs.Euclid.{lowest_same}
-use Rattle.bt_frac.proofs.Ring.{neg_mul}
 use Rattle.bt_lin.specs.WeightedRows.{coefficient_at}
-use Rattle.bt_line.specs.Lines.{one, Terms, HasNumber, IsLine, IsCombination, total}
+use Rattle.bt_line.specs.Lines.{one, Terms, HasNumber, IsLine, IsCombination}
 use Rattle.bt_line.specs.Unfits.{IsNone, IsUnfitStep, IsUnfit, IsUnfitShare, IsUnfitTerm, IsUnfitZero}
 use Rattle.bt_line.specs.declared.unfit.Operation.{Operation}
 use Rattle.bt_line.specs.declared.unfit.Operation.TheVariants.{Add, Mul, Div}
 use Rattle.bt_line.specs.declared.unfit.Unfit.{Unfit}
 use Rattle.std.specs.declared.alloc.AllocError.{AllocError}
 use Rattle.bt_line.specs.inner.Shares.{IsNegatedShare, AreNegatedShares}
-use Rattle.bt_line.specs.Substituting.{IsZeroLine, IsSubstituted}
-use Rattle.bt_line.proofs.Indicators.{decide, indicator, indicator_some, here_is, other_is, lacking_total, total_at, none_lacks, number_has, times_one}
-use Rattle.bt_line.proofs.Numbers.{Positive, nothing_some, Alike, alike, itself, back, next, both_plus, both_times, swap_plus, swap_times, group_times, drop_zero, times_positive, times_zero, negated_times, zero_alike}
-use Rattle.bt_line.proofs.Shares.{negated_twice, negated_low, shares_lack, shares_zero}
-use Rattle.bt_line.proofs.Zeros.{one_some, one_times, one_lowest, negated_alike, share_is}
+use Rattle.bt_line.specs.Substituting.{IsZeroLine}
+use Rattle.bt_line.proofs.Indicators.{number_has}
+use Rattle.bt_line.proofs.Numbers.{Positive, Alike, alike, next, times_positive}
+use Rattle.bt_line.proofs.Shares.{negated_low, shares_lack, shares_zero}
+use Rattle.bt_line.proofs.Zeros.{one_some, one_times, one_lowest}
 
 -- 1 times a number fits, and is the number
 one_product : (by : Ratio) → Positive by → IsProduct one by by

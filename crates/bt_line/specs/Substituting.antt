@@ -1,5 +1,5 @@
 -- What a position stands for, put in place of it in a line.
-use Rattle.std.specs.Prelude.{◌≡◌, ◌≢◌, ℕ, ◌⊎◌, [], ◌∷◌, length, Option, Some, None, slice_set, ◌==◌, if◌then◌else◌}
+use Rattle.std.specs.Prelude.{◌≡◌, ℕ, ◌⊎◌, [], ◌∷◌, Option, Some, None}
 use Rattle.bt_frac.specs.Ratio.{Ratio, IsLowest, negated}
 use Rattle.bt_frac.specs.Products.{IsDivision}
 use Rattle.bt_lin.specs.WeightedRows.{coefficient_at}

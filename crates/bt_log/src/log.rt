@@ -11,21 +11,22 @@ use crate::pooled_step::{Hints, Literals, PooledStep, Weights};
 use crate::printing::print_step;
 use crate::step::StepView;
 use bt_arena::{Id, Pool};
-use bt_cnf::Lit;
+use bt_cnf::{Lit, Packed, pack_all};
 use bt_frac::Frac;
 use bt_io::{Sink, WriteFault, write_all_of};
 use std::alloc::{AllocError, Global};
 use std::marker::Model;
 
 /// Steps, each of which adds a clause. The formula's clauses have the numbers below `first`, and those
-/// of the steps follow.
+/// of the steps follow. A literal and a hint take four bytes each; a variable's number from 2^31 on, and a hint from
+/// 2^32 on, is want of memory.
 #[derive(Drop)]
 pub struct Log {
     first: usize,
     steps: Vec<PooledStep>,
-    lits: Pool<Lit, Literals>,
+    lits: Pool<Packed, Literals>,
     weights: Pool<Frac, Weights>,
-    hints: Pool<usize, Hints>,
+    hints: Pool<u32, Hints>,
 }
 
 impl Model for Log {
@@ -60,7 +61,8 @@ impl Log {
     pub fn add_lemma(&mut self, lits: &[Lit], weights: &[Frac]) -> Result<(), AllocError>
         ensures { AddsStep self.old (Lemma lits.now weights.now) self.new result }
     {
-        let ids = keep_both(&mut self.lits, &mut self.weights, lits, weights)?;
+        let packed = pack_all(self.steps.allocator().clone()?, lits)?;
+        let ids = keep_both(&mut self.lits, &mut self.weights, &packed, weights)?;
         self.steps.push(PooledStep::Lemma {
             lits: ids.0,
             weights: ids.1,
@@ -72,7 +74,9 @@ impl Log {
     pub fn add_learnt(&mut self, lits: &[Lit], hints: &[usize]) -> Result<(), AllocError>
         ensures { AddsStep self.old (Learnt lits.now hints.now) self.new result }
     {
-        let ids = keep_both(&mut self.lits, &mut self.hints, lits, hints)?;
+        let packed = pack_all(self.steps.allocator().clone()?, lits)?;
+        let narrow = narrow_all(self.steps.allocator().clone()?, hints)?;
+        let ids = keep_both(&mut self.lits, &mut self.hints, &packed, &narrow)?;
         self.steps.push(PooledStep::Learnt {
             lits: ids.0,
             hints: ids.1,
@@ -121,9 +125,9 @@ impl Log {
 
 /// Keeps the lists of a step. Where memory runs out, the pools may hold a list that no step names.
 fn keep_both<T: Copy, K>(
-    all_lits: &mut Pool<Lit, Literals>,
+    all_lits: &mut Pool<Packed, Literals>,
     all_items: &mut Pool<T, K>,
-    lits: &[Lit],
+    lits: &[Packed],
     items: &[T],
 ) -> Result<(Id<Literals>, Id<K>), AllocError>
     ensures lits_grow { Grows all_lits.old all_lits.new }
@@ -134,4 +138,25 @@ fn keep_both<T: Copy, K>(
     let lits = all_lits.add_slice(lits)?;
     let items = all_items.add_slice(items)?;
     Ok((lits, items))
+}
+
+/// The same numbers in four bytes each. One that doesn't fit is want of memory.
+fn narrow_all(alloc: Global, numbers: &[usize]) -> Result<Vec<u32>, AllocError>
+    ensures { IfOk result (λ narrow. narrow.items ≡ numbers.now) }
+{
+    let mut narrow = Vec::with_capacity(alloc, numbers.len())?;
+    for number in numbers {
+        narrow.push(narrowed(*number)?)?;
+    }
+    Ok(narrow)
+}
+
+/// The same number in four bytes. One that doesn't fit is want of memory.
+fn narrowed(number: usize) -> Result<u32, AllocError>
+    ensures { IfOk result (λ narrow. narrow ≡ number) }
+{
+    match u32::try_from(number) {
+        Ok(narrow) => Ok(narrow),
+        Err(_) => Err(AllocError),
+    }
 }

@@ -7,7 +7,7 @@ ghost use Rattle.bt_log.specs.Views.{step_of};
 
 use crate::step::StepView;
 use crate::word::Spelled;
-use bt_cnf::Lit;
+use bt_cnf::Packed;
 use bt_io::{Sink, WriteFault, write_all_of};
 
 /// Writes a step's line.
@@ -23,7 +23,7 @@ pub fn print_step<K: Sink>(step: StepView<'_>, sink: &mut K) -> Result<(), Write
 /// Writes a head, literals, a 0, words, and an end.
 fn print_parts<T: Spelled, K: Sink>(
     head: &[u8],
-    lits: &[Lit],
+    lits: &[Packed],
     items: &[T],
     end: &[u8],
     sink: &mut K,

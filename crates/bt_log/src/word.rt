@@ -3,7 +3,7 @@ ghost use Rattle.std.specs.Prelude.{◌≡◌, ◌+◌, ◌≤◌, ◌∷◌, �
 ghost use Rattle.bt_frac.specs.Texts.{frac_text};
 ghost use Rattle.bt_log.specs.LogText.{lit_text, hint_text};
 
-use bt_cnf::Lit;
+use bt_cnf::Packed;
 use bt_frac::{Frac, TEXT_MAX};
 use itoa::Buffer;
 use std::marker::Model;
@@ -90,11 +90,11 @@ pub trait Spelled {
         ensures { result ≡ 32 ∷ text self.now };
 }
 
-impl Spelled for Lit {
+impl Spelled for Packed {
     ghost text = { lit_text };
 
     fn word(&self) -> Word {
-        Word::signed(self.positive, self.var.place())
+        Word::signed(self.is_positive(), self.place())
     }
 }
 
@@ -111,13 +111,13 @@ impl Spelled for Frac {
     }
 }
 
-impl Spelled for usize {
+impl Spelled for u32 {
     ghost text = { hint_text };
 
     fn word(&self) -> Word {
         let mut word = Word::new();
         word.push(b" ");
-        word.push_after(*self);
+        word.push_after(*self as usize);
         word
     }
 }

@@ -204,14 +204,6 @@ none_more parts from toward n none here d i some lt there =
 pub within_first : (parts : List Part) (from : Part) (toward : Dir) (i : ℕ) → IsFirstPiece parts from toward i → i < length parts
 within_first parts from toward i f = slice_get_within parts i f.piece.part f.piece.is_i
 
--- only an underground piece is in a pair
-pub none_if_no_piece : (parts : List Part) (i : ℕ) (part : Part) → HasPart parts i part → (IsUnderground part → ⊥)
-    → (j : ℕ) → (None ≡ Some j) ↔ ArePaired parts i j
-none_if_no_piece parts i part here other j = (
-  λ e. absurd (none-some j e),
-  λ p. let piece = piece_if_paired parts i j p in absurd (other (subst IsUnderground (same_part parts i piece.0 part piece.1 here) piece.2)),
-)
-
 -- where no piece is within reach there is no pair
 pub none_if_alone : (parts : List Part) (i : ℕ) (part : Part) (toward : Dir) (kind : Kind) → HasPart parts i part → IsFarEnd part toward kind
     → NoneNearer parts part toward (reach_of part.tier + 2) → (j : ℕ) → (None ≡ Some j) ↔ ArePaired parts i j

@@ -85,9 +85,6 @@ output_tells parts i part there (Some j) false is_i kind e found none = (
 )
 
 -- one more part with its cell
-pub keyed_none : (parts : List Part) → AreKeyed parts [] []
-keyed_none parts = record { indices_are = refl; keys = λ k d lt. absurd (omega arith) }
-
 pub keyed_more : (parts : List Part) (indices : List ℕ) (list : List (Cell × ℕ)) (i : ℕ) (part : Part) → AreKeyed parts indices list → HasPart parts i part
     → AreKeyed parts (indices ++ i ∷ []) (list ++ (part.cell, i) ∷ [])
 keyed_more parts indices list i part are is_i = record {

@@ -106,29 +106,6 @@ leaves_same s t a b e = (cc, cc)
 enters_same : (s t : ℕ) → enters s ≡ enters t → s ≡ t
 enters_same s t e = cc
 
-pub given_none : (parts : List Part) (priorities : List Priority) (splitters : List ℕ) (joint : Joint) (k : ℕ) (half : Cell) → joint.edge.start ≡ from.Split k → joint.source_half ≡ Some half → slice_get splitters k ≡ None
-    → (naming : Naming) (chain : Chain) → naming.splitters ≡ splitters → IsJoint parts naming chain joint → TellsPreferred (IsGivenFirst parts priorities) splitters chain None
-given_none parts priorities splitters joint k half e f none naming chain same is s given =
-    let here = starts_here parts naming chain joint k half is e f in
-    number_missed naming splitters k here.s same here.at none
-
-pub given_here : (parts : List Part) (priorities : List Priority) (splitters : List ℕ) (joint : Joint) (k s : ℕ) (half : Cell) → joint.edge.start ≡ from.Split k → joint.source_half ≡ Some half → slice_get splitters k ≡ Some s
-    → IsHalfOn parts s (priority_of priorities s).give half
-    → (naming : Naming) (chain : Chain) → naming.splitters ≡ splitters → IsJoint parts naming chain joint → TellsPreferred (IsGivenFirst parts priorities) splitters chain (Some k)
-given_here parts priorities splitters joint k s half e f at on naming chain same is =
-    let here = starts_here parts naming chain joint k half is e f in
-    (s, at, (half, here.source ∙ ap (λ x. leaves x half) (splitter_same naming splitters k here.s s same here.at at), on))
-
-pub given_other : (parts : List Part) (priorities : List Priority) (splitters : List ℕ) (joint : Joint) (k s : ℕ) (half : Cell) → joint.edge.start ≡ from.Split k → joint.source_half ≡ Some half → slice_get splitters k ≡ Some s
-    → (IsHalfOn parts s (priority_of priorities s).give half → ⊥)
-    → (naming : Naming) (chain : Chain) → naming.splitters ≡ splitters → IsJoint parts naming chain joint → TellsPreferred (IsGivenFirst parts priorities) splitters chain None
-given_other parts priorities splitters joint k s half e f at off naming chain same is t given =
-    let here = starts_here parts naming chain joint k half is e f in
-    let halves = leaves_same here.s t half given.0 (sym here.source ∙ given.1) in
-    let splitter : t ≡ s = sym halves.0 ∙ splitter_same naming splitters k here.s s same here.at at in
-    off (subst (λ x. IsHalfOn parts x (priority_of priorities x).give half) splitter
-    (subst (λ h. IsHalfOn parts t (priority_of priorities t).give h) (sym halves.1) given.2))
-
 -- ---- where a chain ends
 
 path_end : (parts : List Part) (i last : ℕ) (links : List ℕ) → Path parts i last links → (k : ℕ) → suc k ≡ length links → get_or links k 0 ≡ last
@@ -225,10 +202,6 @@ ends_output : (naming : Naming) (sink : Sink) (target : Target) (k s : ℕ) → 
 ends_output naming (ends i) target k s is e f = absurd (cc)
 ends_output naming (enters t) (into.Output j) k s is e f = is
 ends_output naming (enters t) (into.Split j) k s is e f = absurd (cc)
-
-pub taken_output : (parts : List Part) (priorities : List Priority) (splitters : List ℕ) (joint : Joint) (k : ℕ) → joint.edge.target ≡ into.Output k
-    → (naming : Naming) (chain : Chain) → naming.splitters ≡ splitters → IsJoint parts naming chain joint → TellsPreferred (IsTakenFirst parts priorities) splitters chain None
-taken_output parts priorities splitters joint k e naming chain same is s taken = ends_output naming chain.sink joint.edge.target k s is.edge.target e taken.1.sink
 
 -- ---- one edge after another
 

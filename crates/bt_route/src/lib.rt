@@ -24,6 +24,7 @@ mod stand;
 mod wanted;
 
 pub use naming::{Named, name_by_structure};
+pub use numbering::are_in_pairs;
 pub use sketching::{Sketch, find_sketch};
 pub use std::alloc::AllocError as Memory;
 pub use wanted::goes_north;

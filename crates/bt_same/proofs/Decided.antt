@@ -1,6 +1,6 @@
 -- Two networks behave the same exactly where no pair shows a difference, since whether two flows are equal is decided, and any
 -- two states can be put over one denominator.
-use Rattle.std.proofs.Common.{◌≡◌, ℕ, ◌<◌, ℤ, pos, ◌*ℤ◌, List, [], ◌∷◌, map, inl, inr, ap, sym, ◌∙◌, refl, subst, arith}
+use Rattle.std.proofs.Common.{◌≡◌, ℕ, ◌<◌, ℤ, pos, ◌*ℤ◌, List, [], ◌∷◌, map, inl, inr, ap, sym, ◌∙◌, refl, subst}
 use Rattle.std.specs.List.{AllZip}
 use Rattle.std.proofs.Math.Nat.{mul_comm}
 use Rattle.bt_frac.proofs.Order.{mul_cancel}
@@ -9,7 +9,7 @@ use Rattle.bt_flow.specs.States.{Flows, flow_at}
 use Rattle.bt_flow.specs.Scaling.{scaled}
 use Rattle.bt_flow.proofs.Decided.{same_or}
 use Rattle.bt_flow.proofs.Scaled.{flow_times, scaled_is_steady}
-use Rattle.bt_same.specs.Sameness.{IsSteadyState, AreEqual, AreFedEqually, AreFedAlike, GiveAlike, GiveEqually, ShowsDifference}
+use Rattle.bt_same.specs.Sameness.{AreEqual, AreFedEqually, AreFedAlike, GiveAlike, GiveEqually}
 use Rattle.bt_same.specs.Laws.{SameExactly}
 
 -- equal numbers over two denominators are, put over one, the same whole numbers

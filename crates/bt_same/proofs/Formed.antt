@@ -2,7 +2,6 @@
 use Rattle.std.proofs.Common.{◌≡◌, ℕ, ◌<◌, ◌≤◌, ◌+◌, ◌*◌, ◌-◌, ◌^◌, Bool, true, false, List, [], ◌∷◌, ◌++◌, length, map, cond, ltb, ap, sym, ◌∙◌, refl, subst, arith, zero, suc, length-append}
 use Rattle.std.specs.List.{All, AllByRecursion, flat_map, range_with_len}
 use Rattle.std.proofs.lemmas.Bool.{lt-ltb, ltb-true}
-use Rattle.std.proofs.lemmas.Grind.{flat_map-append}
 use Rattle.std.proofs.lemmas.List.{length-map}
 use Rattle.bt_frac.specs.Ratio.{Ratio, IsLowest}
 use Rattle.bt_frac.specs.Columns.{AreColumnsFrom}
@@ -11,20 +10,18 @@ use Rattle.bt_cnf.specs.declared.literal.Lit.{Lit}
 use Rattle.bt_cnf.specs.Formulas.{LitsBelow, AscendBelow, IsFormula}
 use Rattle.bt_net.specs.Network.{Network, IsNetwork}
 use Rattle.bt_fenc.specs.Columns.{output_edge}
-use Rattle.bt_fenc.specs.Numbering.{mentioned, rows_in, clauses_from, atoms_from}
+use Rattle.bt_fenc.specs.Numbering.{mentioned, rows_in, atoms_from}
 use Rattle.bt_fenc.specs.Properties.{differ}
 use Rattle.bt_fenc.specs.FlowFormula.{steady_clauses, steady_formula}
 use Rattle.bt_fenc.proofs.FlowRows.{MentionsRow, above_row, steady_rows}
 use Rattle.bt_fenc.proofs.Formulas.{numbered_is_formula, ascend, are_rows, steady_is_formula}
 use Rattle.bt_fenc.proofs.Narrow.{IsNarrow, IsNarrowRow, output_narrow, steady_narrow}
-use Rattle.bt_fenc.proofs.Numbers.{all_from, all_to, atoms-append, clauses-append}
+use Rattle.bt_fenc.proofs.Numbers.{all_from, all_to, atoms-append}
 use Rattle.bt_fenc.proofs.Sizes.{steady_formulas_small}
-use Rattle.bt_fenc.proofs.Withins.{each-append, each-three, each-flat_map, each-map, each_any}
+use Rattle.bt_fenc.proofs.Withins.{each-three, each-flat_map, each-map, each_any}
 use Rattle.bt_same.specs.declared.shift.Shift.{Shift}
-use Rattle.bt_same.specs.SameFormula.{shifted, first_shift, second_columns, second_vars, moved_lits, moved_row, moved_atoms, difference, telling, telling_formula, same_formula}
+use Rattle.bt_same.specs.SameFormula.{shifted, first_shift, second_columns, second_vars, moved_lits, moved_row, moved_atoms, difference, difference_formula, same_formula}
 use Rattle.bt_same.specs.Sizes.{SameFormulasAreFormulas, SameFormulasAreSmall}
-use Rattle.bt_same.specs.Abreast.{compared, either, comparing}
-use Rattle.bt_same.proofs.Besides.{AreBelow, compared_below, compared_few, either_rows, either_clauses}
 use Rattle.bt_same.proofs.Moved.{moved_from}
 use Rattle.bt_same.proofs.Sides.{named}
 
@@ -92,7 +89,7 @@ module _ (a b : Network) (first : IsNetwork a) (second : IsNetwork b) where
   twos = map (moved_row (second_columns a b)) (rows_in (steady_clauses b))
 
   abbrev others : List RowParts
-  others = rows_in (telling a b)
+  others = rows_in (difference a b ∷ [])
 
   abbrev base : ℕ
   base = (steady_formula a).vars + (steady_formula b).vars
@@ -131,23 +128,10 @@ module _ (a b : Network) (first : IsNetwork a) (second : IsNetwork b) where
 
   others_are : AllByRecursion IsRow others
   others_are =
-      each-flat_map IsRow (AllByRecursion MentionsRow) (flat_map mentioned) (telling a b)
-      (each-append (AllByRecursion MentionsRow) (comparing a b) (difference a b ∷ [])
-      (each-map (AllByRecursion MentionsRow) (AreBelow marks) either (compared a b) (compared_below a b) both_rows)
-      (each-flat_map MentionsRow (λ o. Unit {0}) (λ o. differ (output_edge a o) (output_edge b o + length a.edges)) (range_with_len 0 a.outputs) (each_any (range_with_len 0 a.outputs)) differ_rows, tt))
+      each-flat_map IsRow (AllByRecursion MentionsRow) (flat_map mentioned) (difference a b ∷ [])
+      (each-flat_map MentionsRow (λ o. Unit {0}) (λ o. differ (output_edge a o) (output_edge b o + length a.edges)) (range_with_len 0 a.outputs) (each_any (range_with_len 0 a.outputs)) differ_rows, tt)
       (λ claims h. each-flat_map IsRow MentionsRow mentioned claims h (λ claim r. r))
     where
-      both_rows : (p : ℕ × ℕ) → AreBelow marks p → AllByRecursion MentionsRow (either p)
-      both_rows p h =
-          let x = h.0 in
-          let y = h.1 in
-          let e = first.few_edges in
-          let f = second.few_edges in
-          let one : p.0 < 2 ^ 64 - 1 = omega (arith, x, e, f) in
-          let two : p.1 < 2 ^ 64 - 1 = omega (arith, y, e, f) in
-          let r = above_row p.0 p.1 one two in
-          ((record { columns = r.columns; coefficients = r.coefficients; bound = r.bound }, tt), ((above_row p.1 p.0 two one, tt), tt))
-
       differ_rows : (o : ℕ) → Unit {0} → AllByRecursion MentionsRow (differ (output_edge a o) (output_edge b o + length a.edges))
       differ_rows o t =
           let x = output_narrow a first o in
@@ -171,11 +155,11 @@ module _ (a b : Network) (first : IsNetwork a) (second : IsNetwork b) where
 
   clauses_below : AllByRecursion (LitsBelow end) (same_formula a b).clauses
   clauses_below =
-      each-three (LitsBelow end) (map (moved_lits (first_shift a b)) (steady_formula a).clauses) (map (moved_lits (second_vars a b)) (steady_formula b).clauses) (telling_formula a b base).clauses
+      each-three (LitsBelow end) (map (moved_lits (first_shift a b)) (steady_formula a).clauses) (map (moved_lits (second_vars a b)) (steady_formula b).clauses) (difference_formula a b base).clauses
       (moved_below (first_shift a b) (steady_formula a).vars end first_below (steady_formula a).clauses (steady_is_formula a first).clauses)
       (moved_below (second_vars a b) (steady_formula b).vars end second_below (steady_formula b).clauses (steady_is_formula b second).clauses)
-      (all_to (LitsBelow end) (telling_formula a b base).clauses
-      (numbered_is_formula (λ pair. 0) base (telling a b) (named a b (λ pair. 0) base) others_are).clauses)
+      (all_to (LitsBelow end) (difference_formula a b base).clauses
+      (numbered_is_formula (λ pair. 0) base (difference a b ∷ []) (named a b (λ pair. 0) base) others_are).clauses)
 
   pub formed : IsFormula (same_formula a b)
   formed =
@@ -203,18 +187,10 @@ same_formulas_small a b first second =
     let outputs = first.few_outputs in
     let rows = difference_few (output_edge a) (λ o. output_edge b o + length a.edges) 0 a.outputs in
     let last = length-append (flat_map mentioned (difference a b)) [] in
-    let pairs = compared_few a b in
-    let compared_rows = either_rows (compared a b) in
-    let base : ℕ = (steady_formula a).vars + (steady_formula b).vars in
-    let compared_clauses = either_clauses base (compared a b) in
-    let all_rows = ap length (flat_map-append (flat_map mentioned) (comparing a b) (difference a b ∷ [])) in
-    let two_rows = length-append (rows_in (comparing a b)) (rows_in (difference a b ∷ [])) in
-    let all_clauses = ap length (clauses-append (λ pair. 0) base (comparing a b) (difference a b ∷ [])) in
-    let both_clauses = length-append (clauses_from (λ pair. 0) base (comparing a b)) (clauses_from (λ pair. 0) (base + length (rows_in (comparing a b))) (difference a b ∷ [])) in
     let cs : List (List Lit) = map (moved_lits (first_shift a b)) (steady_formula a).clauses in
     let ds : List (List Lit) = map (moved_lits (second_vars a b)) (steady_formula b).clauses in
-    let long = length-append (cs ++ ds) (telling_formula a b ((steady_formula a).vars + (steady_formula b).vars)).clauses in
+    let long = length-append (cs ++ ds) (difference_formula a b ((steady_formula a).vars + (steady_formula b).vars)).clauses in
     let more = length-append cs ds in
     let first_long = length-map (steady_formula a).clauses (moved_lits (first_shift a b)) in
     let second_long = length-map (steady_formula b).clauses (moved_lits (second_vars a b)) in
-    record { vars = omega (arith, vars, more_vars, outputs, rows, last, pairs, compared_rows, all_rows, two_rows); clauses = omega (arith, clauses, more_clauses, long, more, first_long, second_long, pairs, compared_clauses, all_clauses, both_clauses) }
+    record { vars = omega (arith, vars, more_vars, outputs, rows, last); clauses = omega (arith, clauses, more_clauses, long, more, first_long, second_long) }

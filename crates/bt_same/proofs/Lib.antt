@@ -1,6 +1,4 @@
 pub mod Lists
-pub mod Besides
-pub mod Tellings
 pub mod Moved
 pub mod Joined
 pub mod Sides

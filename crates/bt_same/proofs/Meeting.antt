@@ -23,8 +23,7 @@ use Rattle.bt_fenc.proofs.Claimed.{met_claims}
 use Rattle.bt_fenc.proofs.Solved.{meeting_is_steady}
 use Rattle.std.proofs.lemmas.Option.{slice_get_within}
 use Rattle.bt_same.specs.Sameness.{HaveEqualEnds, AreFedAlike, GiveAlike, ShowsDifference}
-use Rattle.bt_same.specs.SameFormula.{shifted, first_shift, second_columns, second_vars, moved_lits, moved_atoms, difference, telling, telling_formula, same_formula}
-use Rattle.bt_same.specs.Abreast.{comparing}
+use Rattle.bt_same.specs.SameFormula.{shifted, first_shift, second_columns, second_vars, moved_lits, moved_atoms, difference, difference_formula, same_formula}
 use Rattle.bt_same.specs.Laws.{MeetingShows}
 use Rattle.bt_same.proofs.Lists.{same_items}
 use Rattle.bt_same.proofs.Moved.{near_is, far_is, meets_back}
@@ -53,33 +52,33 @@ module _ (a b : Network) (f : ℕ → Bool) (v : ℕ → Ratio) (met : Meets (sa
   abbrev ys : List (ℕ × RowParts)
   ys = moved_atoms (second_vars a b) (second_columns a b) (steady_formula b).atoms
 
-  clauses : AllByRecursion (MeetsClause f) (cs ++ ds ++ (telling_formula a b base).clauses)
+  clauses : AllByRecursion (MeetsClause f) (cs ++ ds ++ (difference_formula a b base).clauses)
   clauses = all_to (MeetsClause f) (same_formula a b).clauses met.clauses
 
-  atoms : AllByRecursion Hold (xs ++ ys ++ (telling_formula a b base).atoms)
+  atoms : AllByRecursion Hold (xs ++ ys ++ (difference_formula a b base).atoms)
   atoms = all_to Hold (same_formula a b).atoms met.atoms
 
   pub first_meets : Meets (steady_formula a) (λ x. f (shifted (first_shift a b) x)) (λ c. v (shifted (first_shift a b) c))
   first_meets =
       meets_back (first_shift a b) f (λ x. f (shifted (first_shift a b) x)) (λ x. refl) (first_shift a b) v (λ c. v (shifted (first_shift a b) c)) (λ c. refl) (steady_formula a)
-      (each-left (MeetsClause f) cs ds (each-left (MeetsClause f) (cs ++ ds) (telling_formula a b base).clauses clauses)) (each-left Hold xs ys (each-left Hold (xs ++ ys) (telling_formula a b base).atoms atoms))
+      (each-left (MeetsClause f) cs ds (each-left (MeetsClause f) (cs ++ ds) (difference_formula a b base).clauses clauses)) (each-left Hold xs ys (each-left Hold (xs ++ ys) (difference_formula a b base).atoms atoms))
 
   pub second_meets : Meets (steady_formula b) (λ x. f (shifted (second_vars a b) x)) (λ c. v (shifted (second_columns a b) c))
   second_meets =
       meets_back (second_vars a b) f (λ x. f (shifted (second_vars a b) x)) (λ x. refl) (second_columns a b) v (λ c. v (shifted (second_columns a b) c)) (λ c. refl) (steady_formula b)
-      (each-right (MeetsClause f) cs ds (each-left (MeetsClause f) (cs ++ ds) (telling_formula a b base).clauses clauses))
-      (each-right Hold xs ys (each-left Hold (xs ++ ys) (telling_formula a b base).atoms atoms))
+      (each-right (MeetsClause f) cs ds (each-left (MeetsClause f) (cs ++ ds) (difference_formula a b base).clauses clauses))
+      (each-right Hold xs ys (each-left Hold (xs ++ ys) (difference_formula a b base).atoms atoms))
 
-  telling_meets : Meets (telling_formula a b base) f v
-  telling_meets = record {
-    clauses = all_from (MeetsClause f) (telling_formula a b base).clauses
-        (each-right (MeetsClause f) (cs ++ ds) (telling_formula a b base).clauses clauses);
-    atoms = all_from Hold (telling_formula a b base).atoms
-        (each-right Hold (xs ++ ys) (telling_formula a b base).atoms atoms);
+  difference_meets : Meets (difference_formula a b base) f v
+  difference_meets = record {
+    clauses = all_from (MeetsClause f) (difference_formula a b base).clauses
+        (each-right (MeetsClause f) (cs ++ ds) (difference_formula a b base).clauses clauses);
+    atoms = all_from Hold (difference_formula a b base).atoms
+        (each-right Hold (xs ++ ys) (difference_formula a b base).atoms atoms);
   }
 
   pub some_differ : HasTrue f v (difference a b)
-  some_differ = (each-right (HasTrue f v) (comparing a b) (difference a b ∷ []) (met_claims (λ pair. 0) base (telling a b) f v (named a b (λ pair. 0) base) telling_meets)).0
+  some_differ = (met_claims (λ pair. 0) base (difference a b ∷ []) f v (named a b (λ pair. 0) base) difference_meets).0
 
 module _ (a b : Network) (f : ℕ → Bool) (v : ℕ → Ratio) (s t : Flows) (first : IsNetwork a) (second : IsNetwork b) (ends : HaveEqualEnds a b) (some : AreValues v) (same : s.denominator ≡ t.denominator)
     (of_first : HasValues a s (λ x. f (shifted (first_shift a b) x)) (λ c. v (shifted (first_shift a b) c)))

@@ -16,20 +16,18 @@ use Rattle.bt_fenc.specs.Properties.{differ}
 use Rattle.bt_fenc.specs.Laws.{IsMetWith, HasTrue, values_of}
 use Rattle.bt_fenc.specs.FlowFormula.{steady_clauses, steady_formula, variable_of}
 use Rattle.bt_fenc.proofs.Numbers.{all_from, all_to}
-use Rattle.bt_fenc.proofs.Withins.{each-append, each-map, at_range}
-use Rattle.bt_fenc.proofs.Orders.{order, at_most_or}
+use Rattle.bt_fenc.proofs.Withins.{each-append, at_range}
+use Rattle.bt_fenc.proofs.Orders.{order}
 use Rattle.bt_fenc.proofs.NetEdges.{output_is, edge_of_output}
-use Rattle.bt_fenc.proofs.RowValues.{above_says, not_below_says}
+use Rattle.bt_fenc.proofs.RowValues.{above_says}
 use Rattle.bt_fenc.proofs.Formulas.{steady_is_formula}
 use Rattle.bt_fenc.proofs.TrueClaims.{true_claims_meet}
 use Rattle.bt_fenc.proofs.Named.{families_named}
 use Rattle.bt_fenc.proofs.Admitted.{families_true}
 use Rattle.std.proofs.lemmas.Option.{slice_get_within}
 use Rattle.bt_same.specs.Sameness.{HaveEqualEnds, IsSteadyState, ShowsDifference}
-use Rattle.bt_same.specs.SameFormula.{shifted, first_shift, second_columns, second_vars, moved_lits, moved_atoms, difference, telling, telling_formula, same_formula}
-use Rattle.bt_same.specs.Abreast.{compared, either, comparing}
+use Rattle.bt_same.specs.SameFormula.{shifted, first_shift, second_columns, second_vars, moved_lits, moved_atoms, difference, difference_formula, same_formula}
 use Rattle.bt_same.specs.Laws.{IsMetByBoth, ShowingMeets}
-use Rattle.bt_same.proofs.Besides.{AreBelow, compared_below}
 use Rattle.bt_same.proofs.Lists.{each_weaker}
 use Rattle.bt_same.proofs.Moved.{near_is, far_is, clauses_forth, atoms_forth, ascending_below}
 use Rattle.bt_same.proofs.Sides.{named}
@@ -209,35 +207,8 @@ module _ (a b : Network) (s t : Flows) (first : IsNetwork a) (second : IsNetwork
             ap (flow_at s) here.1 ∙ at_range Alike 0 a.outputs o all (omega arith) (let l = here.0 in omega (arith, l)) here.0 ∙ sym (ap (flow_at t) there.1)))
       ]
 
-  -- ---- of each two columns of flows one carries at least as much as the other, or less
-
-  flow_known : (c : ℕ) → c < m + n → (z : ℤ) × ((0 < (v c).under) × IsOver (v c) z s.denominator)
-  flow_known c l =
-      elim (cases_lt c m) [
-        | inl k ↦ (flow_at s c, (are_values c, first_at c k))
-        | inr k ↦ (
-          flow_at t (c - m),
-          (are_values c, subst (λ x. IsOver (v x) (flow_at t (c - m)) s.denominator) (let z : c - m + m ≡ c = omega (arith, k) in z) (second_at (c - m) (omega (arith, k, l)))),
-        )
-      ]
-
-  either_true : (p : ℕ × ℕ) → AreBelow (m + n) p → HasTrue g v (either p)
-  either_true p h =
-      let one = flow_known p.0 h.0 in
-      let two = flow_known p.1 h.1 in
-      let d = shows.first.state.positive in
-      elim (at_most_or two.0 one.0) [
-        | inl l ↦ inl ((not_below_says v s.denominator d p.0 p.1 one.0 two.0 one.1 two.1).1 l)
-        | inr l ↦ inr (inl ((above_says v s.denominator d p.1 p.0 two.0 one.0 two.1 one.1).1 l))
-      ]
-
-  comparisons : AllByRecursion (HasTrue g v) (comparing a b)
-  comparisons = each-map (HasTrue g v) (AreBelow (m + n)) either (compared a b) (compared_below a b) either_true
-
-  last : IsMetWith (λ pair. 0) base (telling a b) g v
-  last =
-      true_claims_meet (λ pair. 0) base (telling a b) g v (named a b (λ pair. 0) base)
-      (each-append (HasTrue g v) (comparing a b) (difference a b ∷ []) comparisons (differs, tt))
+  last : IsMetWith (λ pair. 0) base (difference a b ∷ []) g v
+  last = true_claims_meet (λ pair. 0) base (difference a b ∷ []) g v (named a b (λ pair. 0) base) (differs, tt)
 
   -- ---- the assignment of both, with the atoms of the difference
 
@@ -289,17 +260,17 @@ module _ (a b : Network) (s t : Flows) (first : IsNetwork a) (second : IsNetwork
   meets : Meets (same_formula a b) f v
   meets = record {
     clauses = all_from (MeetsClause f) (same_formula a b).clauses
-        (each-append (MeetsClause f) (cs ++ ds) (telling_formula a b base).clauses (each-append (MeetsClause f) cs ds
+        (each-append (MeetsClause f) (cs ++ ds) (difference_formula a b base).clauses (each-append (MeetsClause f) cs ds
         (clauses_forth (first_shift a b) vars_first f one.assignment first_is (steady_formula a).clauses (lits_of a first) (all_to (MeetsClause one.assignment) (steady_formula a).clauses one.meets.clauses))
         (clauses_forth (second_vars a b) vars_second f other.assignment second_is (steady_formula b).clauses (lits_of b second) (all_to (MeetsClause other.assignment) (steady_formula b).clauses other.meets.clauses)))
-        (all_to (MeetsClause f) (telling_formula a b base).clauses last.meets.clauses));
+        (all_to (MeetsClause f) (difference_formula a b base).clauses last.meets.clauses));
     atoms = all_from Hold (same_formula a b).atoms
-        (each-append Hold (xs ++ ys) (telling_formula a b base).atoms (each-append Hold xs ys
+        (each-append Hold (xs ++ ys) (difference_formula a b base).atoms (each-append Hold xs ys
         (atoms_forth (first_shift a b) vars_first f one.assignment first_is (first_shift a b) v (values_of s) first_value (steady_formula a).atoms (atoms_of a first)
         (all_to (λ atom. one.assignment atom.0 ≡ true → RowHolds atom.1 (values_of s)) (steady_formula a).atoms one.meets.atoms))
         (atoms_forth (second_vars a b) vars_second f other.assignment second_is (second_columns a b) v (values_of t) second_value (steady_formula b).atoms (atoms_of b second)
         (all_to (λ atom. other.assignment atom.0 ≡ true → RowHolds atom.1 (values_of t)) (steady_formula b).atoms other.meets.atoms)))
-        (all_to Hold (telling_formula a b base).atoms last.meets.atoms));
+        (all_to Hold (difference_formula a b base).atoms last.meets.atoms));
   }
 
   pub met : IsMetByBoth a b s t

@@ -1,4 +1,4 @@
--- The clauses that tell of both networks: those that compare edges, and that the flows of some output differ.
+-- The clause that the flows of some output differ.
 use Rattle.std.proofs.Common.{◌≡◌, ℕ, ◌+◌, true, List, [], ◌∷◌, ◌++◌, length, map, ap, sym, ◌∙◌, refl, append-nil}
 use Rattle.std.specs.List.{AllByRecursion, flat_map, range_with_len}
 use Rattle.bt_frac.specs.Rows.{RowParts}
@@ -10,11 +10,9 @@ use Rattle.bt_fenc.specs.declared.state_literal.StateLiteral.{StateLiteral}
 use Rattle.bt_fenc.specs.Columns.{output_edge}
 use Rattle.bt_fenc.specs.Properties.{differ}
 use Rattle.bt_fenc.specs.Numbering.{mentioned, rows_in, literals_from, atoms_from, IsNamed, AreNamed}
-use Rattle.bt_fenc.proofs.Numbers.{added_more}
-use Rattle.bt_fenc.proofs.Withins.{each-append}
-use Rattle.bt_same.specs.SameFormula.{difference, telling, same_formula}
-use Rattle.bt_same.specs.Abreast.{compared, either, comparing}
-use Rattle.bt_same.specs.inner.Joining.{with_rows, with_lits, with_telling, hold_from, differing_rows, difference_rows, networks_formula}
+use Rattle.bt_fenc.specs.FlowFormula.{steady_formula}
+use Rattle.bt_same.specs.SameFormula.{first_shift, second_columns, second_vars, moved_lits, moved_atoms, difference, same_formula}
+use Rattle.bt_same.specs.inner.Joining.{with_rows, with_lits, hold_from, differing_rows, difference_rows, networks_formula}
 use Rattle.bt_same.proofs.Joined.{same_parts}
 
 module _ (x y : ℕ → ℕ) where
@@ -40,17 +38,11 @@ module _ (x y : ℕ → ℕ) where
   named_are at marks all [] = tt
   named_are at marks all (o ∷ os) = (tt, (tt, named_are at marks all os))
 
-eithers_named : (at : Pair → ℕ) (marks : ℕ) (all : List RowParts) (ps : List (ℕ × ℕ)) → AllByRecursion (AllByRecursion (IsNamed at marks all)) (map either ps)
-eithers_named at marks all [] = tt
-eithers_named at marks all (p ∷ ps) = ((tt, (tt, tt)), eithers_named at marks all ps)
-
 module _ (a b : Network) where
-  -- their claims name no pairs
-  pub named : (at : Pair → ℕ) (marks : ℕ) → AreNamed at marks (telling a b)
+  -- its claims name no pairs
+  pub named : (at : Pair → ℕ) (marks : ℕ) → AreNamed at marks (difference a b ∷ [])
   unfolding claims
-  named at marks =
-      each-append (AllByRecursion (IsNamed at marks (rows_in (telling a b)))) (comparing a b) (difference a b ∷ []) (eithers_named at marks (rows_in (telling a b)) (compared a b))
-      (named_are (output_edge a) (λ o. output_edge b o + length a.edges) at marks (rows_in (telling a b)) (range_with_len 0 a.outputs), tt)
+  named at marks = (named_are (output_edge a) (λ o. output_edge b o + length a.edges) at marks (rows_in (difference a b ∷ [])) (range_with_len 0 a.outputs), tt)
 
   mentions : rows_in (difference a b ∷ []) ≡ difference_rows a b
   unfolding claims rows
@@ -60,14 +52,19 @@ module _ (a b : Network) where
   unfolding claims rows
   says next = literals_are (output_edge a) (λ o. output_edge b o + length a.edges) (λ pair. 0) next (range_with_len 0 a.outputs)
 
-  -- with these clauses the formulas of both are that of two networks
-  pub joined : (f mid new : FormulaParts) → f ≡ networks_formula a b → mid ≡ with_telling f (comparing a b)
-      → new ≡ with_lits (with_rows mid (difference_rows a b)) (hold_from mid.vars (difference_rows a b) ∷ []) → new ≡ same_formula a b
-  joined f mid new e p h =
-      let one : new ≡ with_telling mid (difference a b ∷ []) =
-      h
-      ∙ same_parts (mid.vars + length (difference_rows a b)) (mid.vars + length (rows_in (difference a b ∷ [])))
-      (mid.clauses ++ hold_from mid.vars (difference_rows a b) ∷ []) (mid.clauses ++ literals_from (λ pair. 0) mid.vars (difference a b) ∷ [])
-      (mid.atoms ++ atoms_from mid.vars (difference_rows a b)) (mid.atoms ++ atoms_from mid.vars (rows_in (difference a b ∷ [])))
-      (ap (λ l. mid.vars + length l) (sym mentions)) (ap (λ l. mid.clauses ++ l ∷ []) (sym (says mid.vars))) (ap (λ l. mid.atoms ++ atoms_from mid.vars l) (sym mentions)) in
-      added_more (λ pair. 0) f mid new (comparing a b) (difference a b ∷ []) (telling a b) p one refl ∙ ap (λ g. with_telling g (telling a b)) e
+  -- with that clause the formulas of both are that of two networks
+  pub joined : (f new : FormulaParts) → f ≡ networks_formula a b
+      → new ≡ with_lits (with_rows f (difference_rows a b)) (hold_from f.vars (difference_rows a b) ∷ []) → new ≡ same_formula a b
+  joined f new e h =
+      let base : ℕ = (steady_formula a).vars + (steady_formula b).vars in
+      let cs : List (List Lit) = map (moved_lits (first_shift a b)) (steady_formula a).clauses in
+      let ds : List (List Lit) = map (moved_lits (second_vars a b)) (steady_formula b).clauses in
+      let xs : List (ℕ × RowParts) = moved_atoms (first_shift a b) (first_shift a b) (steady_formula a).atoms in
+      let ys : List (ℕ × RowParts) = moved_atoms (second_vars a b) (second_columns a b) (steady_formula b).atoms in
+      h ∙ ap (λ g. with_lits (with_rows g (difference_rows a b)) (hold_from g.vars (difference_rows a b) ∷ [])) e
+      ∙ same_parts (base + length (difference_rows a b)) (base + length (rows_in (difference a b ∷ [])))
+      ((cs ++ ds) ++ hold_from base (difference_rows a b) ∷ []) (cs ++ ds ++ literals_from (λ pair. 0) base (difference a b) ∷ [])
+      ((xs ++ ys) ++ atoms_from base (difference_rows a b)) (xs ++ ys ++ atoms_from base (rows_in (difference a b ∷ [])))
+      (ap (λ l. base + length l) (sym mentions))
+      (ap (λ l. cs ++ ds ++ l ∷ []) (sym (says base)))
+      (ap (λ l. xs ++ ys ++ atoms_from base l) (sym mentions))

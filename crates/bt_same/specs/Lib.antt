@@ -3,7 +3,6 @@ pub mod Pairs
 pub mod PairText
 pub mod PairReading
 pub mod Judging
-pub mod Abreast
 pub mod SameFormula
 pub mod Sizes
 pub mod Laws

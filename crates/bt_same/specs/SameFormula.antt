@@ -11,7 +11,6 @@ use Rattle.bt_fenc.specs.Properties.{differ}
 use Rattle.bt_fenc.specs.Numbering.{formula_of}
 use Rattle.bt_fenc.specs.FlowFormula.{steady_formula}
 use Rattle.bt_same.specs.declared.shift.Shift.{Shift}
-use Rattle.bt_same.specs.Abreast.{comparing}
 
 -- a number of one network's formula, in that of two: those of its edges go so far, and those behind them so far
 abbrev pub shifted : Shift → ℕ → ℕ
@@ -43,22 +42,18 @@ moved_atoms vars columns atoms = map (λ a. (shifted vars a.0, moved_row columns
 abbrev pub difference : Network → Network → List StateLiteral
 difference a b = flat_map (λ o. differ (output_edge a o) (output_edge b o + length a.edges)) (range_with_len 0 a.outputs)
 
--- what is said of both networks: of edges that are compared which carries more, and that the flows differ
-abbrev pub telling : Network → Network → List (List StateLiteral)
-telling a b = comparing a b ++ difference a b ∷ []
-
--- the formula of these clauses, behind so many variables
-abbrev pub telling_formula : Network → Network → ℕ → FormulaParts
-telling_formula a b vars = formula_of (λ pair. 0) vars (telling a b)
+-- the formula of the one clause that the flows differ, behind so many variables
+abbrev pub difference_formula : Network → Network → ℕ → FormulaParts
+difference_formula a b vars = formula_of (λ pair. 0) vars (difference a b ∷ [])
 
 -- the formula of two networks. Its columns are the flows of the first, those of the second, the loads and the rooms; its
 -- variables the marks of the first, those of the second, and the atoms in the order of mention. Its clauses are those of
--- the steady states of the first, those of the second, and those that tell of both.
+-- the steady states of the first, those of the second, and that they differ.
 abbrev pub same_formula : Network → Network → FormulaParts
 same_formula a b =
     let first = steady_formula a in
     let second = steady_formula b in
-    let last = telling_formula a b (first.vars + second.vars) in
+    let last = difference_formula a b (first.vars + second.vars) in
     record {
       vars = last.vars;
       clauses = map (moved_lits (first_shift a b)) first.clauses ++ map (moved_lits (second_vars a b)) second.clauses ++ last.clauses;

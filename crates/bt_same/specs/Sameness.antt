@@ -1,5 +1,5 @@
 -- Networks that behave the same, and pairs of states that show a difference.
-use Rattle.std.specs.Prelude.{◌≡◌, ℕ, ℤ, pos, ◌*ℤ◌, IsTrue, List}
+use Rattle.std.specs.Prelude.{◌≡◌, ℕ, ℤ, pos, ◌*ℤ◌, IsTrue}
 use Rattle.std.specs.List.{AllZip}
 use Rattle.bt_net.specs.declared.network.Edge.{Edge}
 use Rattle.bt_net.specs.Network.{Network, is_output}

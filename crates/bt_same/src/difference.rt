@@ -1,27 +1,13 @@
-//! What the formula of two networks says of both: which of two edges carries more, and that the flows of some output differ.
-ghost use Rattle.std.specs.Prelude.{◌≡◌, ◌<◌, ◌-◌, ◌^◌, ◌∷◌, [], All, OnOk, IfOk, map, true};
+//! The clause that the flows of some output differ.
+ghost use Rattle.std.specs.Prelude.{◌≡◌, ◌<◌, ◌-◌, ◌^◌, ◌∷◌, [], OnOk, IfOk, true};
 ghost use Rattle.bt_fenc.specs.Columns as columns;
-ghost use Rattle.bt_same.specs.Abreast.{either};
-ghost use Rattle.bt_same.specs.inner.Joining.{with_rows, with_lits, with_telling, hold_from, difference_rows};
+ghost use Rattle.bt_same.specs.inner.Joining.{with_rows, with_lits, hold_from, difference_rows};
 
 use bt_cnf::{Formula, Lit};
 use bt_fenc::{above, output_edge};
 use bt_flow::Ports;
-use bt_frac::{Relation, Row};
 use bt_net::Net;
 use std::alloc::{AllocError, Global};
-
-/// Adds the row, and gives the literal that says that it holds.
-fn add_holding(formula: &mut Formula, row: Row) -> Result<Lit, AllocError>
-    ensures row { OnOk result (formula.new ≡ with_rows formula.old (row ∷ [])) }
-    ensures literal { IfOk result (λ lit. lit ≡ record { var = formula.old.vars; positive = true }) }
-{
-    let var = formula.add_atom(row)?;
-    Ok(Lit {
-        var,
-        positive: true,
-    })
-}
 
 /// Adds the row that a column is above another, and gives the literal that says so.
 fn add_above(alloc: Global, formula: &mut Formula, a: usize, b: usize) -> Result<Lit, AllocError>
@@ -31,60 +17,11 @@ fn add_above(alloc: Global, formula: &mut Formula, a: usize, b: usize) -> Result
     ensures literal { IfOk result (λ lit. lit ≡ record { var = formula.old.vars; positive = true }) }
 {
     let row = above(alloc, a, b)?;
-    add_holding(formula, row)
-}
-
-/// The row that a column is at least another.
-fn not_below(alloc: Global, a: usize, b: usize) -> Result<Row, AllocError>
-    requires a { a < 2 ^ 64 - 1 }
-    requires b { b < 2 ^ 64 - 1 }
-    ensures { IfOk result (λ row. row ≡ columns.not_below a b) }
-{
-    let strict = above(alloc, a, b)?;
-    Row::new(alloc, strict.terms(), Relation::AtLeast, strict.bound())?.ok_or(AllocError)
-}
-
-/// Adds the row that a column is at least another, and gives the literal that says so.
-fn add_not_below(
-    alloc: Global,
-    formula: &mut Formula,
-    a: usize,
-    b: usize,
-) -> Result<Lit, AllocError>
-    requires a { a < 2 ^ 64 - 1 }
-    requires b { b < 2 ^ 64 - 1 }
-    ensures row { OnOk result (formula.new ≡ with_rows formula.old (columns.not_below a b ∷ [])) }
-    ensures literal { IfOk result (λ lit. lit ≡ record { var = formula.old.vars; positive = true }) }
-{
-    let row = not_below(alloc, a, b)?;
-    add_holding(formula, row)
-}
-
-/// Adds the clause that a column is at least another, or below it.
-fn add_either(alloc: Global, formula: &mut Formula, a: usize, b: usize) -> Result<(), AllocError>
-    requires a { a < 2 ^ 64 - 1 }
-    requires b { b < 2 ^ 64 - 1 }
-    ensures { OnOk result (formula.new ≡ with_telling formula.old (either (a, b) ∷ [])) }
-{
-    let more = add_not_below(alloc, formula, a, b)?;
-    let less = add_above(alloc, formula, b, a)?;
-    formula.add_clause(&[more, less])?;
-    Ok(())
-}
-
-/// Adds the clauses that compare columns.
-pub fn add_comparisons(
-    alloc: Global,
-    formula: &mut Formula,
-    compared: &[(usize, usize)],
-) -> Result<(), AllocError>
-    requires { All (λ p. (p.0 < 2 ^ 64 - 1) × (p.1 < 2 ^ 64 - 1)) compared.now }
-    ensures { OnOk result (formula.new ≡ with_telling formula.old (map either compared.now)) }
-{
-    for pair in compared {
-        add_either(alloc, formula, pair.0, pair.1)?;
-    }
-    Ok(())
+    let var = formula.add_atom(row)?;
+    Ok(Lit {
+        var,
+        positive: true,
+    })
 }
 
 /// Adds the rows that the flows of an output differ, and gives the literals that say so.

@@ -7,8 +7,7 @@ ghost use Rattle.bt_same.specs.Sameness.{HaveEqualEnds};
 ghost use Rattle.bt_same.specs.SameFormula.{same_formula};
 ghost use Rattle.bt_same.specs.inner.Joining.{networks_formula};
 
-use crate::abreast::compared;
-use crate::difference::{add_comparisons, add_difference};
+use crate::difference::add_difference;
 use crate::joining::{add_clauses, add_rows};
 use crate::shift::Shift;
 use bt_cnf::Formula;
@@ -53,28 +52,9 @@ fn networks(alloc: Global, first: &Net, second: &Net) -> Result<Formula, AllocEr
     side_by_side(alloc, first, second, &of_first, &of_second)
 }
 
-/// Adds the comparisons of edges, and that the flow of some output differs.
-fn add_claims(
-    alloc: Global,
-    first: &Net,
-    second: &Net,
-    formula: &mut Formula,
-) -> Result<(), AllocError>
-    requires ends { HaveEqualEnds first.now second.now }
-    requires networks { IsNetwork first.now × IsNetwork second.now }
-    requires formula { formula.old ≡ networks_formula first.now second.now }
-    ensures { OnOk result (formula.new ≡ same_formula first.now second.now) }
-{
-    let compared = compared(alloc, first, second)?;
-    add_comparisons(alloc, formula, &compared)?;
-    add_difference(alloc, first, second, formula)
-}
-
 /// The formula of two networks, which is met by just the pairs of steady states with equal loads and rooms in which
-/// the flow of some output differs. Where neither network has many edges, edges that may carry the same are compared:
-/// one carries at least as much as the other, or less. That is true of all states, and makes proofs short. Its columns are
-/// the flows of the first network, those of the second, the loads and the rooms. Its variables are the marks of the first,
-/// those of the second, and the atoms in the order of mention.
+/// the flow of some output differs. Its columns are the flows of the first network, those of the second, the loads and
+/// the rooms. Its variables are the marks of the first, those of the second, and the atoms in the order of mention.
 pub fn encode_same(alloc: Global, first: &Net, second: &Net) -> Result<Formula, AllocError>
     requires { HaveEqualEnds first.now second.now }
     ensures formula { IfOk result (λ formula. formula ≡ same_formula first.now second.now) }
@@ -82,7 +62,7 @@ pub fn encode_same(alloc: Global, first: &Net, second: &Net) -> Result<Formula, 
     ensures networks { OnOk result (IsNetwork first.now × IsNetwork second.now) }
 {
     let mut formula = networks(alloc, first, second)?;
-    add_claims(alloc, first, second, &mut formula)?;
+    add_difference(alloc, first, second, &mut formula)?;
     // It is known as a formula by this call.
     let _vars = formula.vars();
     Ok(formula)

@@ -1,16 +1,8 @@
 //! Laws of the formula of two networks, as contracts of functions that do nothing.
-ghost use Rattle.std.specs.Prelude.{◌≡◌};
 ghost use Rattle.bt_same.specs.Laws.{ShowingMeets, MeetingShows, SameExactly, UnmetAreSame, RefutedAreSame};
 ghost use Rattle.bt_same.specs.Judging.{ShownPairHolds};
 ghost use Rattle.bt_same.specs.PairReading.{PrintedPairIsRead, ShownPairIsRead};
 ghost use Rattle.bt_same.specs.Sizes.{SameFormulasAreFormulas, SameFormulasAreSmall};
-
-use crate::abreast::MOST_COMPARED;
-
-/// How many edges two networks have at most where their edges are compared, as a number.
-pub fn limits_are()
-    ensures { MOST_COMPARED ≡ 64 }
-{}
 
 /// Each pair of states that shows a difference meets the formula of the two networks. So nothing is lost by it.
 pub fn showing_meets()

@@ -1,7 +1,6 @@
 //! Whether two networks behave the same: the formula of the pairs of steady states that show a difference.
 #![tactic(auto)]
 
-mod abreast;
 mod comparing;
 mod difference;
 mod encoding;
@@ -14,11 +13,10 @@ mod reading;
 mod shift;
 mod solution;
 
-pub use abreast::MOST_COMPARED;
 pub use encoding::encode_same;
 pub use judge::differs;
 pub use law::{
-    limits_are, meeting_shows, printed_pair_is_read, refuted_are_same, same_exactly,
+    meeting_shows, printed_pair_is_read, refuted_are_same, same_exactly,
     same_formulas_are_formulas, same_formulas_are_small, showing_meets, shown_pair_holds,
     shown_pair_is_read, unmet_are_same,
 };

@@ -4,6 +4,7 @@ pub mod Analysing
 pub mod Asserting
 pub mod Choices
 pub mod Kernels
+pub mod KnownLits
 pub mod Lemmas
 pub mod Loading
 pub mod LoggedFormula

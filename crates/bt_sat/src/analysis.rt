@@ -2,12 +2,12 @@
 ghost use Rattle.std.specs.Prelude.{◌≡◌, ◌<◌, ◌↔◌, ℕ, length, Contains, IfOk, OnOk, IsTrue};
 ghost use Rattle.std.specs.List.{All};
 ghost use Rattle.bt_sat.specs.inner.Analysing.{IsConflictLevel, IsLearnable, IsReasonFor, IsTaken, IsTopLevel, IsTraced, IsTracing, MarksSeen};
+ghost use Rattle.bt_sat.specs.inner.KnownLits.{lits_in};
 ghost use Rattle.bt_sat.specs.inner.LoggedFormula.{clauses_in};
 ghost use Rattle.bt_watch.specs.Levels.{AreLevels, IsInConflict, IsOrdered};
 
 use crate::agenda::Agenda;
-use crate::logged_formula::LoggedFormula;
-use bt_cnf::Lit;
+use crate::logged_formula::{KnownLits, LoggedFormula};
 use bt_watch::{Search, level_of, start};
 use std::alloc::AllocError;
 
@@ -33,14 +33,14 @@ pub struct ConflictLevel {
 pub fn mark_seen(
     agenda: &mut Agenda,
     places: &[usize],
-    clause: &[Lit],
+    clause: KnownLits<'_>,
     but: usize,
 ) -> Result<(), AllocError>
-    requires { All (λ l. l.var < length places.now) clause.now }
-    ensures { OnOk result (MarksSeen places.now clause.now but agenda.old agenda.new) }
+    requires { All (λ l. l.var < length places.now) (lits_in clause) }
+    ensures { OnOk result (MarksSeen places.now (lits_in clause.entry) but agenda.old agenda.new) }
 {
-    for lit in clause {
-        let place = places[lit.var.place()];
+    for n in 0..clause.len() {
+        let place = places[clause.variable(n)];
         if place != but {
             agenda.add(place)?;
         }
@@ -62,14 +62,14 @@ fn is_traced(agenda: &Agenda, conflict_level: ConflictLevel, place: usize) -> bo
 fn adds_none(
     agenda: &Agenda,
     places: &[usize],
-    clause: &[Lit],
+    clause: KnownLits<'_>,
     conflict_level: ConflictLevel,
     place: usize,
 ) -> bool
-    requires { All (λ l. l.var < length places.now) clause.now }
+    requires { All (λ l. l.var < length places.now) (lits_in clause) }
 {
-    for lit in clause {
-        let other = places[lit.var.place()];
+    for n in 0..clause.len() {
+        let other = places[clause.variable(n)];
         if other != place && conflict_level.root <= other && !agenda.has(other) {
             return false;
         }

@@ -10,7 +10,7 @@ ghost use Rattle.bt_cnf.specs.Truths.{IsFalseIn};
 
 use crate::analysis::{Analysis, mark_seen};
 use crate::learning::{LearntClause, adopt, assertion_level, name_lits};
-use crate::logged_formula::LoggedFormula;
+use crate::logged_formula::{KnownLits, LoggedFormula};
 use crate::progress::Progress;
 use bt_cnf::{Lit, is_lit_false};
 use bt_frac::Frac;
@@ -26,7 +26,13 @@ fn pick(analysis: &mut Analysis, search: &Search, lits: &[Lit]) -> Result<(), Al
     analysis.agenda.clear();
     analysis.picked.clear();
     let mut bound = search.assignment.trail.len();
-    mark_seen(&mut analysis.agenda, &search.assignment.places, lits, bound)?;
+    let known = KnownLits::Given(lits);
+    mark_seen(
+        &mut analysis.agenda,
+        &search.assignment.places,
+        known,
+        bound,
+    )?;
     while let Some(place) = analysis.agenda.take_greatest() {
         analysis.picked.push(place)?;
         bound = place;

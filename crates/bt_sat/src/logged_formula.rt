@@ -3,9 +3,11 @@ ghost use Rattle.std.specs.Prelude.{◌≡◌, ◌<◌, length, IfOk};
 ghost use Rattle.bt_log.specs.Logs.{clause_of};
 ghost use Rattle.bt_log.specs.Views.{step_of};
 ghost use Rattle.bt_cnf.specs.Units.{clause_at};
+ghost use Rattle.bt_sat.specs.inner.KnownLits.{lits_in};
 ghost use Rattle.bt_sat.specs.inner.LoggedFormula.{clauses_in};
+ghost use Rattle.bt_watch.specs.Reasons.{lit_at};
 
-use bt_cnf::{Formula, Lit};
+use bt_cnf::{Formula, Lit, Packed};
 use bt_log::{Log, StepView};
 use std::alloc::AllocError;
 
@@ -14,6 +16,42 @@ use std::alloc::AllocError;
 pub struct LoggedFormula {
     pub formula: Formula,
     pub log: Log,
+}
+
+/// The literals of a clause that is known, as the formula has them, or as the log keeps those of a step.
+#[derive(Clone, Copy)]
+pub enum KnownLits<'a> {
+    Given(&'a [Lit]),
+    Logged(&'a [Packed]),
+}
+
+impl KnownLits<'_> {
+    /// How many they are.
+    pub fn len(&self) -> usize
+        ensures { result ≡ length (lits_in self.now) }
+    {
+        match self {
+            KnownLits::Given(lits) => lits.len(),
+            KnownLits::Logged(lits) => lits.len(),
+        }
+    }
+
+    /// The number of the variable of one of them.
+    pub fn variable(&self, place: usize) -> usize
+        requires { place < length (lits_in self.now) }
+        ensures { result ≡ (lit_at (lits_in self.now) place).var }
+    {
+        match self {
+            KnownLits::Given(lits) => {
+                let lits: &[Lit] = lits;
+                lits[place].var.place()
+            }
+            KnownLits::Logged(lits) => {
+                let lits: &[Packed] = lits;
+                lits[place].place()
+            }
+        }
+    }
 }
 
 impl LoggedFormula {
@@ -28,19 +66,19 @@ impl LoggedFormula {
     }
 
     /// The clause with a number.
-    pub fn clause(&self, number: usize) -> &[Lit]
+    pub fn clause(&self, number: usize) -> KnownLits<'_>
         requires { number < length (clauses_in self.now) }
-        ensures { result.now ≡ clause_at (clauses_in self.now) number }
+        ensures { lits_in result ≡ clause_at (clauses_in self.now) number }
     {
         match self.formula.clause_at(number) {
-            Some(id) => self.formula.clause(id),
-            None => step_lits(self.log.step(number - self.formula.clauses())),
+            Some(id) => KnownLits::Given(self.formula.clause(id)),
+            None => KnownLits::Logged(step_lits(self.log.step(number - self.formula.clauses()))),
         }
     }
 }
 
 /// The clause that a step adds.
-fn step_lits<'a>(step: StepView<'a>) -> &'a [Lit]
+fn step_lits<'a>(step: StepView<'a>) -> &'a [Packed]
     ensures { result.now ≡ clause_of (step_of step.entry) }
 {
     match step {

@@ -3,6 +3,7 @@ use crate::around::{cell_of, count};
 use crate::board::Board;
 use crate::contents::contents;
 use crate::pairing::add_pairs;
+use crate::turned::add_turned;
 use bt_facts::{Content, Fact};
 use bt_model::Request;
 use bt_parts::{Cell, DIRS, Dir, Rect};
@@ -19,6 +20,15 @@ const GRANTING: u64 = 20;
 
 /// As many conflicts take as long as a trial that has none.
 const TRYING: u64 = 5;
+
+/// Which layouts are looked for.
+#[derive(Clone, Copy, PartialEq, Eq)]
+pub enum Likeness {
+    /// Any.
+    Any,
+    /// Those that half a turn of the rectangle maps onto themselves.
+    Turned,
+}
 
 /// The placement formula of a request, and a search of it.
 #[derive(Drop)]
@@ -42,19 +52,27 @@ fn wish_empty(solver: &mut Solver, numbers: &Numbers, rect: Rect) {
 }
 
 /// The search of a request's placement formula, with more clauses.
-fn solver_of(alloc: Global, request: &Request, numbers: &Numbers) -> Result<Solver, AllocError> {
+fn solver_of(
+    alloc: Global,
+    request: &Request,
+    numbers: &Numbers,
+    likeness: Likeness,
+) -> Result<Solver, AllocError> {
     let formula = encode_place(alloc, request)?;
     let mut solver = load(alloc, &formula)?;
     let mut clause = Vec::new(alloc);
     add_pairs(&mut clause, &mut solver, numbers, request)?;
+    if likeness == Likeness::Turned {
+        add_turned(alloc, &mut solver, numbers, request)?;
+    }
     wish_empty(&mut solver, numbers, request.rect());
     Ok(solver)
 }
 
 /// The field of a request with numbers by the structure.
-fn field_of(alloc: Global, named: Named) -> Result<Field, AllocError> {
+fn field_of(alloc: Global, named: Named, likeness: Likeness) -> Result<Field, AllocError> {
     let numbers = Numbers::new(alloc, &named.request)?;
-    let solver = solver_of(alloc, &named.request, &numbers)?;
+    let solver = solver_of(alloc, &named.request, &numbers, likeness)?;
     let contents = contents(alloc)?;
     Ok(Field {
         named,
@@ -67,9 +85,14 @@ fn field_of(alloc: Global, named: Named) -> Result<Field, AllocError> {
 
 impl Field {
     /// The field of a request in a rectangle, where it has one there.
-    pub fn new(alloc: Global, request: &Request, rect: Rect) -> Result<Option<Field>, AllocError> {
+    pub fn new(
+        alloc: Global,
+        request: &Request,
+        rect: Rect,
+        likeness: Likeness,
+    ) -> Result<Option<Field>, AllocError> {
         match name_by_structure(alloc, request, rect)? {
-            Some(named) => Ok(Some(field_of(alloc, named)?)),
+            Some(named) => Ok(Some(field_of(alloc, named, likeness)?)),
             None => Ok(None),
         }
     }

@@ -1,5 +1,5 @@
 //! The fields of the rectangle at hand and of those that are a line less, which are kept with what they learnt.
-use crate::field::Field;
+use crate::field::{Field, Likeness};
 use bt_model::Request;
 use bt_parts::Rect;
 use std::alloc::{AllocError, Global};
@@ -41,7 +41,7 @@ impl Fields {
         if self.find(rect).is_some() {
             return Ok(());
         }
-        if let Some(field) = Field::new(alloc, request, rect)? {
+        if let Some(field) = Field::new(alloc, request, rect, Likeness::Any)? {
             self.fields.push(field)?;
         }
         Ok(())

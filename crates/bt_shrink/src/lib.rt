@@ -16,8 +16,11 @@ mod moving;
 mod pairing;
 mod plan;
 mod shrinking;
+mod turned;
+mod turning;
 mod window;
 
 pub use goal::Goal;
 pub use shrinking::{Shrunk, shrink};
 pub use std::alloc::AllocError as Memory;
+pub use turning::find_turned;

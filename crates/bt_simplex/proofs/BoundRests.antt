@@ -21,11 +21,6 @@ pub bound_by : (o : Option RowParts) (rest : Rest) (relation : Relation) → IsR
 bound_by (Some row) rest relation is there = (row, refl, same_relation row relation (sym is.1 ∙ there), is.0)
 bound_by None rest relation is there = let both : None ≡ Some relation = sym is.1 ∙ there in cc
 
--- no row, where the rest has none
-pub unbound_by : (o : Option RowParts) (rest : Rest) → IsRestOf o rest → rest.relation ≡ None → o ≡ None
-unbound_by (Some row) rest is none = let both : Some row.relation ≡ None = sym is.1 ∙ none in cc
-unbound_by None rest is none = refl
-
 row_of : (o : Option RowParts) (relation : Relation) → relation_of o ≡ Some relation → (row : RowParts) × (o ≡ Some row) × (row.relation ≡ relation)
 row_of (Some row) relation is = (row, refl, same_relation row relation is)
 row_of None relation is = cc

@@ -10,15 +10,14 @@ use Rattle.bt_simplex.specs.Points.{resting, standing}
 use Rattle.bt_simplex.specs.Tableaus.{TableauParts, IsTableau}
 use Rattle.bt_simplex.specs.declared.short_points.Sums.{Sums}
 use Rattle.bt_simplex.specs.inner.Bases.{IsSamePoint}
-use Rattle.bt_line.specs.Shorts.{Numbers, reduced, terms_over, whole_at, AreScales}
+use Rattle.bt_line.specs.Shorts.{reduced, AreScales}
 use Rattle.bt_simplex.specs.inner.ShortPoints.{delta_of}
 use Rattle.bt_simplex.specs.inner.Carrying.{AreCarried}
 use Rattle.bt_line.specs.Changes.{IsScaled}
 use Rattle.bt_line.specs.declared.short.merging.Scales.{Scales}
-use Rattle.bt_line.specs.Substituting.{IsSubstituted}
 use Rattle.bt_line.proofs.Numbers.{Alike, alike, back, next, both_plus, both_times, plus_positive, times_positive}
 use Rattle.bt_simplex.proofs.Resting.{rest_value, rest_tiny}
-use Rattle.bt_line.proofs.ShortWalks.{whole_over, reduced_alike, factor_lowest, added_parts, sum_told}
+use Rattle.bt_line.proofs.ShortWalks.{whole_over, reduced_alike, factor_lowest, added_parts}
 use Rattle.bt_line.proofs.Zeros.{combined_alike}
 
 module _ (lu : ℕ) (k : ℤ) (ru : ℕ) (m r : ℤ) (u : ℕ) (s : AreScales lu k ru m r u) where

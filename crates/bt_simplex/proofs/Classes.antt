@@ -438,18 +438,6 @@ module _ (members : List Member) (firsts : List ℕ) (lines : Slots) (outside : 
       here : position_at (set outside (class_of leaves) leaves) (class_of leaves) ≡ leaves
       here = get_or-set_same outside (class_of leaves) leaves 0 (subst (λ n. class_of leaves < n) (sym are.outside_many) (are.within leaves leaves_in))
 
-  -- other lines of the same number
-  pub classes_with : (lines' : Slots) → length lines' ≡ length firsts → AreClasses members firsts lines' outside
-  classes_with lines' count = record {
-    lines_many = count;
-    outside_many = are.outside_many;
-    within = are.within;
-    first_within = are.first_within;
-    first_is = are.first_is;
-    outside_within = are.outside_within;
-    outside_is = are.outside_is;
-  }
-
   -- an operation that doesn't fit in a class's line
   pub classes_unfit : (leaves enters : ℕ) (nil : Terms) (lines' : Slots) (cause : Cause) → leaves < length members → leaves ≢ enters
       → IsSlotZero (slot_at (slots_of members lines outside) leaves) leaves enters nil → IsUnfitLine (member_at members leaves).class enters nil lines lines' cause

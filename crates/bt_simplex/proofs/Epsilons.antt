@@ -1,5 +1,5 @@
 -- The number that takes the place of the infinitesimal.
-use Rattle.std.proofs.Common.{◌≡◌, ◌≢◌, ◌⊎◌, ℕ, ◌+◌, ◌<◌, ◌≤◌, arith, lit<, pos, neg_ℤ, ◌<ℤ◌, ℤ, length, Some, None, below_more, sym, ◌∙◌, refl, subst, inl, inr}
+use Rattle.std.proofs.Common.{◌≡◌, ◌≢◌, ◌⊎◌, ℕ, ◌+◌, ◌<◌, ◌≤◌, arith, lit<, pos, neg_ℤ, ◌<ℤ◌, ℤ, length, Some, below_more, sym, refl, subst, inl, inr}
 use Rattle.std.proofs.Math.Nat.{one-dvd}
 use Rattle.std.proofs.lemmas.Int.{ints}
 use Rattle.bt_frac.specs.Ratio.{Ratio, SameRatio, IsLowest, IsLess, IsAtMost, IsSum, negated}
@@ -181,10 +181,6 @@ module _ (t : TableauParts) (position : ℕ) (row : RowParts) (point : Delta) (i
             (next (back fall) (next (alike (times left (negated point.tiny)) (gap_of row point) fall.left there.left numbers.1) there)).same,
             numbers.2,
           )
-
--- no row, no fall
-pub no_fall : (t : TableauParts) (position : ℕ) → bound_row t position ≡ None → IsFalling t position → ⊥
-no_fall t position none falls = let both : None ≡ Some falls.row = sym none ∙ falls.is_bound in cc
 
 -- what falls is below 0
 pub fall_above : (t : TableauParts) (position : ℕ) → IsFalling t position → IsAbove (negated (point_at t position).tiny)

@@ -1,20 +1,13 @@
 -- Where a number of a sign moves a row.
-use Rattle.std.proofs.Common.{◌≡◌, ℕ, zero, suc, true, [], ◌∷◌, ◌<◌, ◌^◌, arith, ℤ, pos, neg_ℤ, ◌*ℤ◌, ◌<ℤ◌, ◌↔◌, Ordering, Less, Equal, Greater, length, get_or, ap, sym, ◌∙◌, refl, subst, inl, inr}
+use Rattle.std.proofs.Common.{◌≡◌, arith, ℤ, pos, ◌<ℤ◌, ◌↔◌, Ordering, Less, Equal, Greater, sym, refl, subst, inl, inr}
 use Rattle.std.proofs.lemmas.Int.{ints}
-use Rattle.std.proofs.Math.IntN.{zero-*ℤ}
-use Rattle.std.specs.Ordering.{ordering_reverse}
-use Rattle.bt_frac.specs.Ratio.{Ratio, negated}
+use Rattle.bt_frac.specs.Ratio.{Ratio}
 use Rattle.bt_frac.specs.Rows.{RowParts}
 use Rattle.bt_frac.specs.Deltas.{IsLessDelta, SameDelta}
 use Rattle.bt_frac.specs.declared.delta.Delta.{Delta}
-use Rattle.bt_frac.proofs.Order.{mul_cancel}
-use Rattle.bt_lin.proofs.SameNumbers.{above_same}
-use Rattle.bt_line.specs.Lines.{signed_terms, Terms}
 use Rattle.bt_simplex.specs.Points.{bound_value}
 use Rattle.bt_simplex.specs.Turns.{MovesTowards}
-use Rattle.bt_line.specs.Shorts.{Numbers, reduced, terms_over, IsSmall, IsShort}
-use Rattle.bt_line.specs.TermSigns.{IsSign, IsSignedTerm}
-use Rattle.bt_line.proofs.Shorts.{over_of, length_over, item_over, reduced_lowest, reduced_over, reduced_negated}
+use Rattle.bt_line.specs.TermSigns.{IsSign}
 
 both_ways : {x y : ℤ} → x <ℤ y → y <ℤ x → ⊥
 both_ways {x} {y} p q = omega (arith, ints)
@@ -53,16 +46,3 @@ moves_up row point number o below sign = (λ e. inl (below, subst (λ s. IsSign 
     told : MovesTowards row point number → o ≡ Greater
     told (inl (less, up)) = up_is o number.over sign up
     told (inr (more, down)) = absurd (opposed point (bound_value row) below more)
-
--- above it by a number below 0
-pub moves_down : (row : RowParts) (point : Delta) (number : Ratio) (o : Ordering) → IsLessDelta (bound_value row) point → IsSign o number.over → (o ≡ Less) ↔ MovesTowards row point number
-moves_down row point number o above sign = (λ e. inr (above, subst (λ s. IsSign s number.over) e sign), λ moves. told moves)
-  where
-    told : MovesTowards row point number → o ≡ Less
-    told (inl (less, up)) = absurd (opposed point (bound_value row) less above)
-    told (inr (more, down)) = down_is o number.over sign down
-
--- at it by none
-pub moves_none : (row : RowParts) (point : Delta) (number : Ratio) → SameDelta (bound_value row) point → MovesTowards row point number → ⊥
-moves_none row point number same (inl (less, up)) = even_back (bound_value row) point same less
-moves_none row point number same (inr (more, down)) = even (bound_value row) point same more

@@ -1,11 +1,9 @@
 -- Terms that name a position, and what a turn makes of them.
-use Rattle.std.proofs.Common.{◌≡◌, ℕ, Option, Some, None, Result, Ok, Err, IfOk, IfErr, IfSome, ◌∙◌, refl, inr, sym, subst}
+use Rattle.std.proofs.Common.{◌≡◌, ℕ, Option, Some, None, IfSome, ◌∙◌, sym, subst}
 use Rattle.bt_frac.specs.Ratio.{Ratio}
 use Rattle.bt_lin.specs.WeightedRows.{coefficient_at}
-use Rattle.bt_line.specs.Lines.{Terms, IsLine, IsCombination}
-use Rattle.bt_line.specs.declared.unfit.Unfit.{Unfit}
-use Rattle.bt_line.specs.Substituting.{IsZeroLine, IsSubstituted, IsUnfitChange}
-use Rattle.bt_line.specs.Unfits.{IsUnfit}
+use Rattle.bt_line.specs.Lines.{Terms, IsLine}
+use Rattle.bt_line.specs.Substituting.{IsZeroLine}
 use Rattle.bt_simplex.specs.inner.UnfitTurns.{CanPart, IsSlotZero}
 
 -- the zero line of a slot

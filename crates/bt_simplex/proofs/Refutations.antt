@@ -473,10 +473,6 @@ module _ (t : TableauParts) (p : ℕ) (terms line : Terms) (above : Bool) (table
       not_up (pos (suc n)) h = absurd (h (omega (arith, ints)))
       not_up (negsuc n) h = omega (arith, ints)
 
-  -- a sign, and the sum of a line with it
-  sum_at : (ℕ → Ratio) → Ratio
-  sum_at at = times (sign_of above) (total at line)
-
   -- the columns cancel
   cancels : (c : ℕ) → Cancels (weighted_rows t.rows (map (weight_of t.columns above) line)) c
   cancels c =

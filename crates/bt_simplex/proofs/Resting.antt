@@ -1,5 +1,5 @@
 -- What lines add up to where their positions rest.
-use Rattle.std.proofs.Common.{◌≡◌, ℕ, ◌+◌, ◌-◌, ◌<◌, arith, Bool, true, false, if◌then◌else◌, nat_lt, zero, suc, get_or, take, drop, take-append-drop, List, [], ◌∷◌, ◌++◌, length, Option, Some, None, Result, Ok, Err, IfOk, IfErr, inl, inr, ap, sym, ◌∙◌, refl, subst}
+use Rattle.std.proofs.Common.{◌≡◌, ℕ, ◌+◌, ◌-◌, ◌<◌, arith, Bool, true, false, if◌then◌else◌, nat_lt, zero, suc, get_or, take, drop, take-append-drop, List, [], ◌∷◌, ◌++◌, length, Option, Some, None, inl, inr, ap, sym, ◌∙◌, refl, subst}
 use Rattle.std.specs.List.{All}
 use Rattle.std.proofs.lemmas.List.{take_more, get_or_past}
 use Rattle.std.proofs.lemmas.List.Elements.{All-head, All-tail, All-take}
@@ -148,17 +148,6 @@ point_cause t position terms cause line unfit = (
   unfit.none,
   subst (λ place. IsStepAt t place cause.row cause.column cause.operation cause.left cause.right) (sym unfit.place) (terms, ap (λ p. slot_at t.slots p) unfit.row ∙ line, unfit.step),
 )
-
--- a position of the basis stands where its line says
-pub line_stands : (t : TableauParts) (position : ℕ) (terms : Terms) (o : Result Delta Cause) → slot_at t.slots position ≡ Some terms
-    → IfOk o (λ d. IsSamePoint d (standing (resting t) 0 (Some terms))) → IfOk o (λ d. IsSamePoint d (point_at t position))
-line_stands t position terms (Err e) line same = tt
-line_stands t position terms (Ok d) line same = subst (λ slot. IsSamePoint d (standing (resting t) position slot)) (sym line) same
-
-pub line_unfit : (t : TableauParts) (position : ℕ) (terms : Terms) (o : Result Delta Cause) → slot_at t.slots position ≡ Some terms
-    → IfErr o (IsUnfitPoint (resting t) position terms) → IfErr o (IsCause t)
-line_unfit t position terms (Ok d) line unfit = tt
-line_unfit t position terms (Err cause) line unfit = point_cause t position terms cause line unfit
 
 -- and every other position where it rests
 pub rest_stands : (t : TableauParts) (position : ℕ) (d : Delta) → All IsRow t.rows → slot_at t.slots position ≡ None → d ≡ resting t position → IsSamePoint d (point_at t position)

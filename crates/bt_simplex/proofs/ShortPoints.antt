@@ -1,5 +1,5 @@
 -- What short lines add up to where their positions rest.
-use Rattle.std.proofs.Common.{Ordering, Less, Equal, Greater, Bool, IsTrue, ◌↔◌, ◌<ℤ◌, inl, inr, ◌≡◌, ℕ, ◌+◌, ◌-◌, ◌<◌, ◌≤◌, ◌^◌, zero, suc, arith, ℤ, pos, ◌+ℤ◌, ◌*ℤ◌, [], ◌∷◌, length, take, get_or, Some, ap, sym, ◌∙◌, refl, subst}
+use Rattle.std.proofs.Common.{Ordering, Less, Equal, Greater, Bool, IsTrue, ◌↔◌, ◌<ℤ◌, inl, inr, ◌≡◌, ℕ, ◌+◌, ◌-◌, ◌<◌, ◌≤◌, ◌^◌, arith, ℤ, pos, ◌+ℤ◌, ◌*ℤ◌, [], ◌∷◌, length, take, get_or, Some, ap, sym, ◌∙◌, subst}
 use Rattle.std.specs.List.{All}
 use Rattle.std.proofs.lemmas.Int.{ints}
 use Rattle.std.proofs.lemmas.List.{take_all}

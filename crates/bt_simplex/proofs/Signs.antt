@@ -138,12 +138,6 @@ less_at_most a b h = order (a.over *ℤ pos b.under) (b.over *ℤ pos a.under) h
     order : (x y : ℤ) → x <ℤ y → x ≤ℤ y
     order x y h = omega (arith, ints)
 
-pub at_most_itself : (a : Ratio) → IsAtMost a a
-at_most_itself a = order (a.over *ℤ pos a.under)
-  where
-    order : (x : ℤ) → x ≤ℤ x
-    order x = omega (arith, ints)
-
 -- two numbers are less, the same or greater
 pub compared : (a b : Ratio) → IsLess a b ⊎ (SameRatio a b ⊎ IsLess b a)
 compared a b = order (a.over *ℤ pos b.under) (b.over *ℤ pos a.under)

@@ -1,35 +1,29 @@
 -- Where the lines after a turn don't fit, and where they do.
-use Rattle.std.proofs.Common.{◌≡◌, ◌≢◌, ℕ, ◌+◌, ◌*◌, ◌/◌, ◌<◌, ◌^◌, arith, lit<, suc, pos, neg_ℤ, ◌+ℤ◌, ◌*ℤ◌, ℤ, Bool, true, false, if◌then◌else◌, ◌==◌, ◌&&◌, [], ◌∷◌, length, set, length-set, Result, Ok, Err, IfOk, IfErr, Option, Some, None, ap, sym, ◌∙◌, refl, subst, inl, inr}
-use Rattle.std.specs.List.{All}
+use Rattle.std.proofs.Common.{◌≡◌, ◌≢◌, ℕ, ◌+◌, ◌*◌, ◌<◌, arith, suc, pos, neg_ℤ, ◌*ℤ◌, ℤ, true, false, if◌then◌else◌, ◌==◌, ◌&&◌, [], ◌∷◌, length, set, length-set, Option, Some, None, ap, sym, ◌∙◌, refl, subst, inl, inr}
 use Rattle.std.proofs.lemmas.Int.{ints}
 use Rattle.std.proofs.lemmas.Bool.Decides.{nat_tests}
-use Rattle.std.proofs.lemmas.Bool.{cases_lt}
 use Rattle.std.proofs.lemmas.List.{get_or-set_same, get_or-set_other}
-use Rattle.std.proofs.Math.Nat.{eq-one_of_dvd-one}
 use Rattle.std.proofs.Math.IntN.{*ℤ_comm}
-use Rattle.bt_frac.specs.Ratio.{Ratio, IsLowest, FitsPart, IsWide, negated}
+use Rattle.bt_frac.specs.Ratio.{Ratio, IsLowest, negated}
 use Rattle.bt_frac.specs.Products.{IsProduct, IsDivision}
 use Rattle.bt_frac.specs.Values.{nothing, times}
 use Rattle.bt_frac.proofs.Euclid.{lowest_same}
 use Rattle.bt_frac.proofs.Ring.{neg_mul}
 use Rattle.bt_lin.specs.WeightedRows.{coefficient_at}
-use Rattle.bt_line.specs.Lines.{one, Terms, HasNumber, IsLine, IsCombination, total}
+use Rattle.bt_line.specs.Lines.{one, Terms, HasNumber, IsLine, total}
 use Rattle.bt_simplex.specs.SolvedForms.{Slots, slot_at, basis_from}
-use Rattle.bt_line.specs.Unfits.{IsNone, IsUnfitStep, IsUnfit, IsUnfitShare, IsUnfitTerm, IsUnfitZero}
+use Rattle.bt_line.specs.Unfits.{IsNone, IsUnfitStep, IsUnfit, IsUnfitShare, IsUnfitZero}
 use Rattle.bt_simplex.specs.Causes.{number_or_zero, number_in, entry_at, turn_entry, IsShare, IsEntryStep}
 use Rattle.bt_simplex.specs.declared.tableau.Turn.{Turn}
 use Rattle.bt_line.specs.declared.unfit.Operation.{Operation}
 use Rattle.bt_line.specs.declared.unfit.Operation.TheVariants.{Add, Mul, Div}
 use Rattle.bt_line.specs.declared.unfit.Unfit.{Unfit}
 use Rattle.bt_simplex.specs.declared.causes.Cause.{Cause}
-use Rattle.std.specs.declared.alloc.AllocError.{AllocError}
 use Rattle.bt_simplex.specs.inner.UnfitTurns.{AreAlike, HaveSameBasis, IsUnfitSlot, IsUnfitLine, IsUnfitPart, IsUnfitTurn, seen_right, entry_cause}
 use Rattle.bt_line.specs.Substituting.{IsZeroLine, IsSubstituted}
 use Rattle.bt_line.proofs.Indicators.{decide, indicator, indicator_some, here_is, other_is, lacking_total, total_at, none_lacks, number_has, times_one}
-use Rattle.bt_line.proofs.Numbers.{Positive, nothing_some, Alike, alike, itself, back, next, both_plus, both_times, swap_plus, swap_times, group_times, drop_zero, times_positive, times_zero, negated_times, zero_alike}
-use Rattle.bt_line.proofs.Shares.{negated_twice, negated_low, shares_lack, shares_zero}
-use Rattle.bt_simplex.proofs.Substitutions.{ArePartlySubstituted}
-use Rattle.bt_line.proofs.UnfitLines.{entering_fits}
+use Rattle.bt_line.proofs.Numbers.{Positive, nothing_some, Alike, itself, back, next, both_plus, both_times, swap_plus, swap_times, group_times, drop_zero, times_positive, times_zero, negated_times, zero_alike}
+use Rattle.bt_line.proofs.Shares.{negated_twice, negated_low}
 use Rattle.bt_line.proofs.Zeros.{one_some, one_times, one_lowest, negated_alike, share_is}
 use Rattle.bt_line.proofs.Zeros as zeros
 
@@ -252,28 +246,6 @@ substituted_alike : (enters : ℕ) (zero : Terms) (old new : Option Terms) → I
 substituted_alike enters zero None new is = subst (λ n. AreAlike n None) (sym is) tt
 substituted_alike enters zero (Some terms) new (inl h) = subst (λ n. AreAlike n (Some terms)) (sym h.1) tt
 substituted_alike enters zero (Some terms) new (inr h) = subst (λ n. AreAlike n (Some terms)) (sym h.2.1) tt
-
--- a slot whose new line doesn't fit, after the slots before it
-pub partly_unfit : (enters : ℕ) (zero : Terms) (slots slots' : Slots) (i : ℕ) (terms : Terms) (number : Ratio) (unfit : Unfit) (cause : Cause) → ArePartlySubstituted enters zero slots slots' i
-    → slot_at slots' i ≡ Some terms → coefficient_at enters terms ≡ Some number → IsUnfit terms number zero unfit → cause ≡ entry_cause i unfit → IsUnfitSlot enters zero slots slots' cause
-partly_unfit enters zero slots slots' i terms number unfit cause partly line named is_unfit is =
-    subst (λ c. IsUnfitSlot enters zero slots slots' c) (sym is)
-    (record {
-      same_basis = record { same_length = partly.same_length; alike = λ p. alike_at p };
-      terms = terms;
-      line = sym (partly.after i (omega arith)) ∙ line;
-      number = number;
-      named = named;
-      unfit = unfit;
-      is_unfit = is_unfit;
-      cause_is = refl;
-    })
-  where
-    alike_at : (p : ℕ) → AreAlike (slot_at slots' p) (slot_at slots p)
-    alike_at p = elim (cases_lt p i) [
-      | inl before ↦ substituted_alike enters zero (slot_at slots p) (slot_at slots' p) (partly.before p before)
-      | inr past ↦ subst (λ o. AreAlike o (slot_at slots p)) (sym (partly.after p (omega arith))) (alike_itself (slot_at slots p))
-    ]
 
 -- put back in place, the line of the class makes the lines whole
 pub put_back : (enters : ℕ) (zero : Terms) (lines : Slots) (left : ℕ) (old : Option Terms) (lines' : Slots) (cause : Cause) → left < length lines → old ≡ slot_at lines left

@@ -1,6 +1,6 @@
 -- Why a number that a check asks for leaves 128 bits: an operation, its two numbers, and what they are of the solved form.
-use Rattle.std.specs.Prelude.{◌≡◌, ◌≢◌, ◌⊎◌, ℕ, ◌<◌, ◌==◌, ◌&&◌, pos, ◌<ℤ◌, List, ◌∷◌, ◌++◌, length, Option, Some, None, if◌then◌else◌}
-use Rattle.bt_frac.specs.Ratio.{Ratio, SameRatio, IsLowest, IsWide, IsLess, IsAtMost, negated}
+use Rattle.std.specs.Prelude.{◌≡◌, ◌⊎◌, ℕ, ◌<◌, ◌==◌, ◌&&◌, pos, ◌<ℤ◌, List, ◌∷◌, ◌++◌, length, Option, Some, None, if◌then◌else◌}
+use Rattle.bt_frac.specs.Ratio.{Ratio, SameRatio, IsLowest, IsLess, IsAtMost, negated}
 use Rattle.bt_frac.specs.Products.{IsProduct, IsDivision}
 use Rattle.bt_frac.specs.Rows.{RowParts}
 use Rattle.bt_frac.specs.Values.{nothing, plus, times, sum_of_products}

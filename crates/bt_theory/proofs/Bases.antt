@@ -62,6 +62,10 @@ module _ (f : FormulaParts) (b : Base) (ds : List Definition) (whole : IsWhole f
         rows = (let c = count in omega (arith, atoms, c));
       }
 
+-- before no definition stands all of a formula
+pub base_whole : (f : FormulaParts) (b : Base) → IsWhole f b → base_in b f ≡ f
+base_whole f b whole = base_extended f b [] whole
+
 -- what holds of all of a list holds of its front
 pub all_take : {X : Type 0} (P : X → Type 0) (n : ℕ) (xs : List X) → n ≤ length xs → All P xs → All P (take n xs)
 all_take P n xs l h = λ k d inside.

@@ -23,6 +23,7 @@ use Rattle.bt_simplex.specs.declared.answers.Wide as wide
 use Rattle.bt_cnf.specs.declared.limits.Limits.{Limits}
 use Rattle.bt_theory.specs.declared.outcome.Outcome.{Outcome}
 use Rattle.bt_theory.specs.declared.outcome.Outcome.TheVariants as outcome
+use Rattle.bt_theory.specs.declared.outcome.Solution.{Solution}
 use Rattle.bt_theory.specs.declared.outcome.GaveUp.{GaveUp}
 use Rattle.bt_theory.specs.declared.outcome.GaveUp.TheVariants.{Spent, Pivots, Wide}
 use Rattle.bt_theory.specs.Reaching.{columns_of, IsReached}
@@ -32,6 +33,10 @@ pub record IsSolution (f : FormulaParts) (values : List Ratio) (assignment : Lis
   pub columns : length values ≡ columns_of f
   pub variables : length assignment ≡ f.vars
   pub meets : Meets f (truth_in assignment) (value_in values)
+
+-- the solution is one of the formula
+abbrev pub Solves : FormulaParts → Solution → Type 0
+Solves f solution = IsSolution f solution.values.items solution.assignment.items
 
 -- the rows of a lemma's atoms with its weights add up to a row that no values meet, and each product and sum fits
 pub record FitsLemma (f : FormulaParts) (lits : List Lit) (weights : List Ratio) : Type 0 where

@@ -1,14 +1,13 @@
-//! Guesses: assignments that are tried before a search.
+//! Guesses: assignments that are tried before a search, which hears nothing of them.
 ghost use Rattle.std.specs.Prelude.{◌≡◌, length, IfOk, IfSome};
 ghost use Rattle.std.specs.List.{All};
 ghost use Rattle.bt_cnf.specs.Assignments.{truth_in};
 ghost use Rattle.bt_cnf.specs.Meeting.{MeetsClause};
 ghost use Rattle.bt_simplex.specs.Checks.{MeetsBoundRows};
-ghost use Rattle.bt_theory.specs.Outcomes.{IsSolution};
+ghost use Rattle.bt_theory.specs.Outcomes.{IsSolution, Solves};
 ghost use Rattle.bt_theory.specs.inner.Bases.{IsBase, base_in};
-ghost use Rattle.bt_theory.specs.inner.Rounds.{Solves};
 
-use crate::base::Base;
+use crate::base::{Base, base_of};
 use crate::binding::{bind, tableau_of};
 use crate::choosing::{choose, meets_clauses};
 use crate::outcome::Solution;
@@ -17,8 +16,25 @@ use bt_frac::Frac;
 use bt_simplex::{Check, Tableau};
 use std::alloc::{AllocError, Global};
 
-/// The first solution that a guess gives. None where no guess gives one within so many turns.
+/// The first solution that a guess gives.
+///
+/// Each guess is an assignment of the formula: a truth value for each variable, and false past its end. It gives a
+/// solution where it gives every clause a true literal, and values are found within so many turns for the rows that this
+/// needs. None of the others decides anything: neither turns that don't suffice for one nor a number that is too wide.
 pub fn first_solution(
+    alloc: Global,
+    formula: &Formula,
+    guesses: &[Vec<bool>],
+    pivots: u64,
+) -> Result<Option<Solution>, AllocError>
+    ensures { IfOk result (λ found. IfSome found (Solves formula.now)) }
+{
+    let base = base_of(alloc, formula)?;
+    first_of(alloc, formula, &base, guesses, pivots)
+}
+
+/// The same of what stands before the definitions.
+fn first_of(
     alloc: Global,
     formula: &Formula,
     base: &Base,

@@ -16,6 +16,7 @@ mod solving;
 
 pub use bt_cnf::Limits;
 pub use goal::Goal;
-pub use outcome::{GaveUp, Outcome};
+pub use guessing::first_solution;
+pub use outcome::{GaveUp, Outcome, Solution};
 pub use solving::solve;
 pub use std::alloc::AllocError as Memory;

@@ -10,7 +10,6 @@ ghost use Rattle.bt_theory.specs.inner.Rounds.{AreTablesOf, IsReady, IsRound, Te
 use crate::base::{Base, base_of};
 use crate::binding::{atoms_of, tableau_of};
 use crate::goal::{Goal, try_goals};
-use crate::guessing::first_solution;
 use crate::outcome::{GaveUp, Outcome, Solution};
 use crate::round::{End, round};
 use crate::scope::{Scope, scopes_of};
@@ -28,10 +27,6 @@ use std::alloc::{AllocError, Global};
 /// without them. So `Refuted` and `Spent` tell of a log over the extended formula, and `Sat`, `Pivots` and `Wide` of the
 /// formula itself: its rows and columns alone are checked together.
 ///
-/// Each guess is an assignment of the formula: a truth value for each variable, and false past its end. Where one gives
-/// every clause a true literal, and within the turns values are found for the rows that this needs, the
-/// outcome is `Sat`. Nothing else comes of a guess.
-///
 /// Each goal is a clause that is likely to follow. It is tried before the search: its literals are made false, and where its
 /// scopes refute that, a lemma is added, until the clause follows. What this leads to are steps of the search, so nothing
 /// rests on a goal.
@@ -46,7 +41,6 @@ pub fn solve<C: Chooser>(
     mut formula: Formula,
     definitions: &mut Vec<Definition>,
     scopes: &[Vec<usize>],
-    guesses: &[Vec<bool>],
     goals: &[Goal],
     choosers: Vec<C>,
     limits: Limits,
@@ -56,29 +50,7 @@ pub fn solve<C: Chooser>(
 {
     let base = base_of(alloc, &formula)?;
     extend_all(alloc, &mut formula, definitions)?;
-    decide(
-        alloc, formula, &base, scopes, guesses, goals, choosers, limits,
-    )
-}
-
-/// Decides what stands before the definitions, by guesses and by a search.
-fn decide<C: Chooser>(
-    alloc: Global,
-    formula: Formula,
-    base: &Base,
-    scopes: &[Vec<usize>],
-    guesses: &[Vec<bool>],
-    goals: &[Goal],
-    choosers: Vec<C>,
-    limits: Limits,
-) -> Result<Outcome, AllocError>
-    requires { IsBase base.now formula }
-    ensures { IfOk result (IsOutcomeOver (base_in base.now formula) formula limits) }
-{
-    match first_solution(alloc, &formula, base, guesses, limits.pivots)? {
-        Some(solution) => Ok(sat(solution)),
-        None => search(alloc, formula, base, scopes, goals, choosers, limits),
-    }
+    search(alloc, formula, &base, scopes, goals, choosers, limits)
 }
 
 /// What the rows are checked by. One tableau of all rows before the definitions is carried from model to model, so that the

@@ -9,12 +9,14 @@ use Rattle.bt_parts.specs.declared.part.Tier.{Tier}
 use Rattle.bt_net.specs.Network.{Network}
 use Rattle.bt_flow.specs.declared.property.Property.{Property}
 use Rattle.bt_flow.specs.declared.property.Property.TheVariants.{Balanced}
+use Rattle.bt_extend.specs.Extending.{extended}
+use Rattle.bt_extend.specs.declared.definition.Definition.{Definition}
 use Rattle.bt_fenc.specs.FlowFormula.{flow_formula}
 use Rattle.bt_same.specs.SameFormula.{same_formula}
 use Rattle.bt_simplex.specs.Counting.{most_bases}
 use Rattle.bt_simplex.specs.declared.answers.Trail.{Trail}
 use Rattle.bt_theory.specs.Reaching.{atom_rows, columns_of}
-use Rattle.bt_theory.specs.Outcomes.{IsUsedUp, IsGivenUp, TurnsOn}
+use Rattle.bt_theory.specs.Outcomes.{IsUsedUp, TurnsOn}
 use Rattle.bt_theory.specs.declared.outcome.GaveUp.{GaveUp}
 use Rattle.bt_theory.specs.declared.outcome.GaveUp.TheVariants as gave
 use Rattle.bt_cnf.specs.declared.limits.Limits.{Limits}
@@ -25,7 +27,7 @@ use Rattle.bt_decide.specs.declared.verdict.Verdict.{Verdict}
 use Rattle.bt_decide.specs.declared.verdict.Verdict.TheVariants as verdict
 use Rattle.bt_decide.specs.declared.verdict.SameVerdict.{SameVerdict}
 use Rattle.bt_decide.specs.declared.verdict.SameVerdict.TheVariants as of_same
-use Rattle.bt_decide.specs.Verdicts.{IsVerdict, IsSameVerdict}
+use Rattle.bt_decide.specs.Verdicts.{IsGivenUpBy, IsVerdict, IsSameVerdict, splitters_of_both}
 use Rattle.bt_layout.specs.declared.outcome.Layout.{Layout as ALayout}
 use Rattle.bt_layout.specs.declared.outcome.Layout.TheVariants as layout
 use Rattle.bt_layout.specs.Layouts.{IsLayout}
@@ -43,13 +45,14 @@ use Rattle.bt_words.specs.declared.command.NetworkFamily.{NetworkFamily}
 use Rattle.bt_words.specs.declared.command.NetworkFamily.TheVariants.{Butterfly, Chain}
 use Rattle.bt_top.specs.declared.answer.Answer.{Answer}
 use Rattle.bt_top.specs.declared.answer.Answer.TheVariants as answer
+use Rattle.bt_top.specs.declared.answer.Brief.TheVariants as brief
 use Rattle.bt_designs.specs.declared.fault.DesignFault.{DesignFault}
 use Rattle.bt_designs.specs.declared.fault.DesignFault.TheVariants as design
 use Rattle.bt_designs.specs.declared.refusal.Refusal.TheVariants as refusal
 use Rattle.bt_top.specs.declared.program.TheConstants.{READ_FAULT, NO_MEMORY}
 use Rattle.bt_top.specs.Answering.{IsRightTo}
 use Rattle.bt_top.specs.Answers.{status_of, gave_up_status}
-use Rattle.bt_top.specs.Budgets.{IsAmple, HasAmple, AmpleIsNeverSpent, AmpleNeverEndsSpent, IsAmpleOfTurns, AmpleTurnsAreNeverMade, AmpleTurnsNeverEndMade}
+use Rattle.bt_top.specs.Budgets.{IsAmple, IsAmpleFor, HasAmple, AmpleIsNeverSpent, AmpleNeverEndsSpent, IsAmpleOfTurns, AmpleTurnsAreNeverMade, AmpleTurnsNeverEndMade}
 use Rattle.bt_top.specs.Comparing.{same_told}
 use Rattle.bt_top.specs.Deciding.{verdict_told}
 use Rattle.bt_designs.specs.Alone.{IsLoneNet}
@@ -87,61 +90,61 @@ module _ (due : ℕ) (high : 4 ≤ due) where
   other_status : (b : Answer) → status_of b ≢ due → IsOther (Ok b)
   other_status b other a e is = other (ap status_of (same_value b a e) ∙ is)
 
-  -- no search over the formula within the limits is given up with that status
-  abbrev NeverGivesUp : FormulaParts → Limits → Type 0
-  NeverGivesUp f limits = (cause : GaveUp) → IsGivenUp f limits cause → gave_up_status cause ≢ due
+  -- no search over the formula of so many splitters within the limits is given up with that status, whatever is defined
+  abbrev NeverGivesUp : ℕ → FormulaParts → Limits → Type 0
+  NeverGivesUp splitters f limits = (definitions : List Definition) (cause : GaveUp) → IsGivenUpBy splitters f limits definitions cause → gave_up_status cause ≢ due
 
   design_other : (fault : DesignFault) → IsOther (design_told fault)
-  design_other (design.Refused r) = other_status (answer.Refused r) (λ e. omega (arith, e, high))
+  design_other (design.Refused r) = other_status (answer.Brief (brief.Refused r)) (λ e. omega (arith, e, high))
   design_other design.Memory = λ a e. absurd (not_both a _ (sym e))
 
-  verdict_other : (n : Network) (p : Property) (limits : Limits) (v : Verdict) → NeverGivesUp (flow_formula n p) limits → IsVerdict n p limits v → IsOther (Ok (verdict_told p v))
-  verdict_other n p limits (verdict.Yes log) never is = other_status (answer.Proved p log) (λ e. omega (arith, e, high))
+  verdict_other : (n : Network) (p : Property) (limits : Limits) (v : Verdict) → NeverGivesUp n.splitters (flow_formula n p) limits → IsVerdict n p limits v → IsOther (Ok (verdict_told p v))
+  verdict_other n p limits (verdict.Yes definitions log) never is = other_status (answer.Proved p definitions log) (λ e. omega (arith, e, high))
   verdict_other n p limits (verdict.No state) never is = other_status (answer.Broken p state) (λ e. omega (arith, e, high))
-  verdict_other n p limits (verdict.GaveUp cause) never is = other_status (answer.GaveUp cause) (never cause is)
+  verdict_other n p limits (verdict.GaveUp definitions cause) never is = other_status (answer.Undecided definitions cause) (never definitions.items cause is)
 
-  pub decide_other : (p : Property) (limits : Limits) (bytes : List ℕ) (n : Network) (a : Answer) → IsLoneNet bytes (Ok n) → NeverGivesUp (flow_formula n p) limits
+  pub decide_other : (p : Property) (limits : Limits) (bytes : List ℕ) (n : Network) (a : Answer) → IsLoneNet bytes (Ok n) → NeverGivesUp n.splitters (flow_formula n p) limits
       → IsRightTo (Decide p limits) bytes (Ok a) → status_of a ≢ due
   decide_other p limits bytes n a alone never (stopped fault h e) = design_other fault a (sym e)
   decide_other p limits bytes n a alone never (went_on m h (v, is, e)) =
       let same = same_value m n (one_lone_net bytes (Ok m) (Ok n) h alone) in
-      verdict_other m p limits v (subst (λ x. NeverGivesUp (flow_formula x p) limits) (sym same) never) is a (sym e)
+      verdict_other m p limits v (subst (λ x. NeverGivesUp x.splitters (flow_formula x p) limits) (sym same) never) is a (sym e)
 
-  same_other : (n m : Network) (limits : Limits) (v : SameVerdict) → NeverGivesUp (same_formula n m) limits → IsSameVerdict n m limits v → IsOther (Ok (same_told v))
-  same_other n m limits (of_same.Yes log) never is = other_status (answer.Same log) (λ e. omega (arith, e, high))
+  same_other : (n m : Network) (limits : Limits) (v : SameVerdict) → NeverGivesUp (splitters_of_both n m) (same_formula n m) limits → IsSameVerdict n m limits v → IsOther (Ok (same_told v))
+  same_other n m limits (of_same.Yes definitions log) never is = other_status (answer.Same definitions log) (λ e. omega (arith, e, high))
   same_other n m limits (of_same.No pair) never is = other_status (answer.Differ pair) (λ e. omega (arith, e, high))
-  same_other n m limits (of_same.GaveUp cause) never is = other_status (answer.GaveUp cause) (never cause is)
+  same_other n m limits (of_same.GaveUp definitions cause) never is = other_status (answer.Undecided definitions cause) (never definitions.items cause is)
 
-  pub compare_other : (limits : Limits) (bytes : List ℕ) (nets : Network × Network) (a : Answer) → IsTwoNets bytes (Ok nets) → NeverGivesUp (same_formula nets.0 nets.1) limits
+  pub compare_other : (limits : Limits) (bytes : List ℕ) (nets : Network × Network) (a : Answer) → IsTwoNets bytes (Ok nets) → NeverGivesUp (splitters_of_both nets.0 nets.1) (same_formula nets.0 nets.1) limits
       → IsRightTo (Same limits) bytes (Ok a) → status_of a ≢ due
   compare_other limits bytes nets a alone never (stopped fault h e) = design_other fault a (sym e)
   compare_other limits bytes nets a alone never (went_on found h (v, is, e)) =
       let same = same_value found nets (one_two_nets bytes (Ok found) (Ok nets) h alone) in
-      same_other found.0 found.1 limits v (subst (λ (x : Network × Network). NeverGivesUp (same_formula x.0 x.1) limits) (sym same) never) is a (sym e)
+      same_other found.0 found.1 limits v (subst (λ (x : Network × Network). NeverGivesUp (splitters_of_both x.0 x.1) (same_formula x.0 x.1) limits) (sym same) never) is a (sym e)
 
   made_other : (family : NetworkFamily) (order : ℕ) (n : Network) (balanced : Bool) → IsOther (Ok (made_of family order n balanced))
   made_other family order n true = other_status (made_of family order n true) (λ e. omega (arith, e, high))
   made_other family order n false = other_status (made_of family order n false) (λ e. omega (arith, e, high))
 
-  balance_other : (order : ℕ) (n : Network) (limits : Limits) (v : Verdict) → NeverGivesUp (flow_formula n Balanced) limits → IsVerdict n Balanced limits v
+  balance_other : (order : ℕ) (n : Network) (limits : Limits) (v : Verdict) → NeverGivesUp n.splitters (flow_formula n Balanced) limits → IsVerdict n Balanced limits v
       → IsOther (Ok (balance_told order n v))
-  balance_other order n limits (verdict.Yes log) never is = made_other Chain order n true
+  balance_other order n limits (verdict.Yes definitions log) never is = made_other Chain order n true
   balance_other order n limits (verdict.No state) never is = made_other Chain order n false
-  balance_other order n limits (verdict.GaveUp cause) never is = other_status (answer.GaveUp cause) (never cause is)
+  balance_other order n limits (verdict.GaveUp definitions cause) never is = other_status (answer.Undecided definitions cause) (never definitions.items cause is)
 
   gen_other : (fault : GenFault) → IsOther (gen_told fault)
-  gen_other (gen.Order order) = other_status (answer.Refused (refusal.Order order)) (λ e. omega (arith, e, high))
+  gen_other (gen.Order order) = other_status (answer.Brief (brief.Refused (refusal.Order order))) (λ e. omega (arith, e, high))
   gen_other gen.Memory = λ a e. absurd (not_both a _ (sym e))
 
   pub butterfly_other : (order : ℕ) (limits : Limits) (bytes : List ℕ) (a : Answer) → IsRightTo (Make Butterfly order limits) bytes (Ok a) → status_of a ≢ due
   butterfly_other order limits bytes a (stopped fault h e) = gen_other fault a (sym e)
   butterfly_other order limits bytes a (went_on n h (holds, e)) = made_other Butterfly order n true a (sym e)
 
-  pub chain_other : (order : ℕ) (limits : Limits) (bytes : List ℕ) (a : Answer) → NeverGivesUp (flow_formula (chain_net order) Balanced) limits
+  pub chain_other : (order : ℕ) (limits : Limits) (bytes : List ℕ) (a : Answer) → NeverGivesUp (chain_net order).splitters (flow_formula (chain_net order) Balanced) limits
       → IsRightTo (Make Chain order limits) bytes (Ok a) → status_of a ≢ due
   chain_other order limits bytes a never (stopped fault h e) = gen_other fault a (sym e)
   chain_other order limits bytes a never (went_on n h (v, is, e)) =
-      balance_other order n limits v (subst (λ x. NeverGivesUp (flow_formula x Balanced) limits) (sym h.1) never) is a (sym e)
+      balance_other order n limits v (subst (λ x. NeverGivesUp x.splitters (flow_formula x Balanced) limits) (sym h.1) never) is a (sym e)
 
 -- ---- steps
 
@@ -149,10 +152,11 @@ high_four : 4 ≤ 4
 high_four = omega arith
 
 -- a search with ample steps is given up for another cause
-steps_never : (f : FormulaParts) (limits : Limits) → IsAmple f limits.learnt → (cause : GaveUp) → IsGivenUp f limits cause → gave_up_status cause ≢ 4
-steps_never f limits ample (gave.Spent log) is = absurd (never_used_up f limits.learnt log.steps ample is)
-steps_never f limits ample (gave.Pivots trail) is = λ e. omega (arith, e)
-steps_never f limits ample (gave.Wide wide) is = λ e. omega (arith, e)
+steps_never : (splitters : ℕ) (f : FormulaParts) (limits : Limits) → IsAmpleFor splitters f limits.learnt → (definitions : List Definition) (cause : GaveUp)
+    → IsGivenUpBy splitters f limits definitions cause → gave_up_status cause ≢ 4
+steps_never splitters f limits ample definitions (gave.Spent log) is = absurd (never_used_up (extended f definitions) limits.learnt log.steps (ample definitions is.0) is.1)
+steps_never splitters f limits ample definitions (gave.Pivots trail) is = λ e. omega (arith, e)
+steps_never splitters f limits ample definitions (gave.Wide wide) is = λ e. omega (arith, e)
 
 layout_never : (r : LayoutRequest) (learnt : ℕ) (found : ALayout) → IsAmple (place_formula r) learnt → IsLayout r learnt found → IsOther 4 high_four (Ok (layout_told found))
 layout_never r learnt (layout.Found parts) ample is = other_status 4 high_four (answer.LaidOut parts) (λ e. omega (arith, e))
@@ -191,9 +195,9 @@ pub ample_is_never_spent : AmpleIsNeverSpent
 ample_is_never_spent (FlowCheck p) bytes a ample h = absurd ample
 ample_is_never_spent Recover bytes a ample h = absurd ample
 ample_is_never_spent (Check p) bytes a ample h = absurd ample
-ample_is_never_spent (Decide p limits) bytes a (n, alone, ample) h = decide_other 4 high_four p limits bytes n a alone (steps_never (flow_formula n p) limits ample) h
+ample_is_never_spent (Decide p limits) bytes a (n, alone, ample) h = decide_other 4 high_four p limits bytes n a alone (steps_never n.splitters (flow_formula n p) limits ample) h
 ample_is_never_spent (Make Butterfly order limits) bytes a ample h = butterfly_other 4 high_four order limits bytes a h
-ample_is_never_spent (Make Chain order limits) bytes a ample h = chain_other 4 high_four order limits bytes a (steps_never (flow_formula (chain_net order) Balanced) limits ample) h
+ample_is_never_spent (Make Chain order limits) bytes a ample h = chain_other 4 high_four order limits bytes a (steps_never (chain_net order).splitters (flow_formula (chain_net order) Balanced) limits ample) h
 ample_is_never_spent (Layout rect tier learnt) bytes a ample h = lay_never rect tier learnt bytes a ample h
 ample_is_never_spent (CheckLayout rect tier) bytes a ample h = absurd ample
 ample_is_never_spent (Smallest first most tier learnt) bytes a ample h = search_never first most tier learnt bytes a ample h
@@ -201,7 +205,7 @@ ample_is_never_spent (FindSmall most tier sides learnt) bytes a ample h = absurd
 ample_is_never_spent (FlowFormula p) bytes a ample h = absurd ample
 ample_is_never_spent (PlaceFormula rect tier) bytes a ample h = absurd ample
 ample_is_never_spent (Same limits) bytes a (nets, alone, ample) h =
-    compare_other 4 high_four limits bytes nets a alone (steps_never (same_formula nets.0 nets.1) limits ample) h
+    compare_other 4 high_four limits bytes nets a alone (steps_never (splitters_of_both nets.0 nets.1) (same_formula nets.0 nets.1) limits ample) h
 ample_is_never_spent CheckSame bytes a ample h = absurd ample
 
 -- ---- turns
@@ -210,18 +214,19 @@ high_ten : 4 ≤ 10
 high_ten = omega arith
 
 -- a search with ample turns is given up for another cause
-turns_never : (f : FormulaParts) (limits : Limits) → IsAmpleOfTurns f limits.pivots → (cause : GaveUp) → IsGivenUp f limits cause → gave_up_status cause ≢ 10
-turns_never f limits ample (gave.Spent log) is = λ e. omega (arith, e)
-turns_never f limits ample (gave.Pivots trail) is = absurd (never_all_made f limits.pivots trail ample is)
-turns_never f limits ample (gave.Wide wide) is = λ e. omega (arith, e)
+turns_never : (splitters : ℕ) (f : FormulaParts) (limits : Limits) → IsAmpleOfTurns f limits.pivots → (definitions : List Definition) (cause : GaveUp)
+    → IsGivenUpBy splitters f limits definitions cause → gave_up_status cause ≢ 10
+turns_never splitters f limits ample definitions (gave.Spent log) is = λ e. omega (arith, e)
+turns_never splitters f limits ample definitions (gave.Pivots trail) is = absurd (never_all_made f limits.pivots trail ample is.1)
+turns_never splitters f limits ample definitions (gave.Wide wide) is = λ e. omega (arith, e)
 
 pub ample_turns_are_never_made : AmpleTurnsAreNeverMade
 ample_turns_are_never_made (FlowCheck p) bytes a ample h = absurd ample
 ample_turns_are_never_made Recover bytes a ample h = absurd ample
 ample_turns_are_never_made (Check p) bytes a ample h = absurd ample
-ample_turns_are_never_made (Decide p limits) bytes a (n, alone, ample) h = decide_other 10 high_ten p limits bytes n a alone (turns_never (flow_formula n p) limits ample) h
+ample_turns_are_never_made (Decide p limits) bytes a (n, alone, ample) h = decide_other 10 high_ten p limits bytes n a alone (turns_never n.splitters (flow_formula n p) limits ample) h
 ample_turns_are_never_made (Make Butterfly order limits) bytes a ample h = butterfly_other 10 high_ten order limits bytes a h
-ample_turns_are_never_made (Make Chain order limits) bytes a ample h = chain_other 10 high_ten order limits bytes a (turns_never (flow_formula (chain_net order) Balanced) limits ample) h
+ample_turns_are_never_made (Make Chain order limits) bytes a ample h = chain_other 10 high_ten order limits bytes a (turns_never (chain_net order).splitters (flow_formula (chain_net order) Balanced) limits ample) h
 ample_turns_are_never_made (Layout rect tier learnt) bytes a ample h = absurd ample
 ample_turns_are_never_made (CheckLayout rect tier) bytes a ample h = absurd ample
 ample_turns_are_never_made (Smallest first most tier learnt) bytes a ample h = absurd ample
@@ -229,7 +234,7 @@ ample_turns_are_never_made (FindSmall most tier sides learnt) bytes a ample h = 
 ample_turns_are_never_made (FlowFormula p) bytes a ample h = absurd ample
 ample_turns_are_never_made (PlaceFormula rect tier) bytes a ample h = absurd ample
 ample_turns_are_never_made (Same limits) bytes a (nets, alone, ample) h =
-    compare_other 10 high_ten limits bytes nets a alone (turns_never (same_formula nets.0 nets.1) limits ample) h
+    compare_other 10 high_ten limits bytes nets a alone (turns_never (splitters_of_both nets.0 nets.1) (same_formula nets.0 nets.1) limits ample) h
 ample_turns_are_never_made CheckSame bytes a ample h = absurd ample
 
 -- ---- how the program ends

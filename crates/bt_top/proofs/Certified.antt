@@ -16,6 +16,7 @@ use Rattle.bt_cert.specs.Certificates.{IsCertRead}
 use Rattle.bt_cert.specs.Readings.{AnswersWhole, IsLogChecked}
 use Rattle.bt_cert.proofs.OneAnswer.{certificate_shows_unmet}
 use Rattle.bt_top.specs.declared.answer.Answer.TheVariants as answer
+use Rattle.bt_top.specs.declared.answer.Brief.TheVariants as brief
 use Rattle.bt_top.specs.Replies.{Reply}
 use Rattle.bt_top.specs.Certificates.{cert_told, IsYesChecked}
 use Rattle.bt_designs.specs.Steps.{went_on}
@@ -47,11 +48,11 @@ log_told f lines source (Err Memory) is before after h = inr refl
 
 -- a certificate that is one shows that the network has the property
 pub yes_told : (n : Network) (p : Property) (lines : List ℕ) → IsNetwork n → IsCertRead (flow_formula n p) lines (Ok tt)
-    → IsYesChecked n p lines (Ok (answer.Yes p))
+    → IsYesChecked n p lines (Ok (answer.Brief (brief.Yes p)))
 yes_told n p lines net h = went_on tt h (unmet_holds n p net (certificate_shows_unmet (flow_formula n p) lines (is_formula n p net) h), refl)
 
 -- and else the first line for which it is none is told
 pub fault_told : (n : Network) (p : Property) (lines : List ℕ) (fault : CertFault) (reply : Reply)
     → UnlessMemory Memory (IsCertRead (flow_formula n p) lines) (Err fault) → reply ≡ cert_told fault → UnlessMemory alloc_error (IsYesChecked n p lines) reply
 fault_told n p lines fault reply h e =
-    stops Memory alloc_error (IsCertRead (flow_formula n p) lines) cert_told (λ done reply. Holds n p × (reply ≡ Ok (answer.Yes p))) fault reply refl h e
+    stops Memory alloc_error (IsCertRead (flow_formula n p) lines) cert_told (λ done reply. Holds n p × (reply ≡ Ok (answer.Brief (brief.Yes p)))) fault reply refl h e

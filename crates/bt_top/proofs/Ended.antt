@@ -1,7 +1,6 @@
 -- How the program ends, from what it answered and what it told the sink.
 use Rattle.std.proofs.Common.{◌≡◌, ◌≢◌, ℕ, List, Result, Ok, Err, ◌⊎◌, inl, inr, refl, subst}
-use Rattle.std.specs.declared.option.Option.{Option}
-use Rattle.bt_io.specs.Passages.{Passage, passage}
+use Rattle.bt_io.specs.Passages.{Passage}
 use Rattle.bt_io.specs.declared.fault.ReadAll.{ReadAll}
 use Rattle.bt_io.specs.declared.fault.ReadAll.TheVariants.{ReadFault, TooLong, Memory}
 use Rattle.bt_words.specs.declared.command.Command.{Command}
@@ -13,8 +12,8 @@ use Rattle.bt_top.specs.declared.program.TheConstants.{READ_FAULT, NO_MEMORY}
 use Rattle.bt_top.specs.Answering.{IsRightTo, IsOnly}
 use Rattle.bt_top.specs.Inputs.{IsUntouched, IsInput, ReadsInput}
 use Rattle.bt_top.specs.Endings.{IsRight, no_command, too_long, to_bytes, IsTold, IsEnding, told, read_fault, no_memory, Ends}
-use Rattle.bt_top.specs.inner.Telling.{IsAnswered, IsAnsweredTo, IsToldUnlessMemory, IsLineTold}
-use Rattle.bt_designs.proofs.InTurns.{same_value}
+use Rattle.bt_top.specs.inner.Lines.{NeedsMemory}
+use Rattle.bt_top.specs.inner.Telling.{IsAnswered, IsAnsweredTo, IsToldUnlessMemory}
 use Rattle.bt_top.proofs.InputsTold.{read_before, input_told, not_too_long}
 use Rattle.bt_top.proofs.OneAnswer.{only_right}
 
@@ -24,15 +23,9 @@ pub to_words : (words : List (List ℕ)) (command : Command) (source : Passage) 
 to_words words command source (Ok a) w h = to_bytes command h.0 w h.1 h.2
 to_words words command source (Err fault) w h = (command, w, h)
 
--- a line that is told is told unless memory ran out
-pub line_is_told : (a : Answer) (sink : Passage) (status : ℕ) → a ≢ answer.Usage → a ≢ answer.TooLong → IsLineTold a sink status → IsToldUnlessMemory a sink status
-line_is_told a sink status u v (inl h) = inl h
-line_is_told a sink status u v (inr h) = inr (h.0, h.1, u, v)
-
--- what comes of a sink that was left as it was comes of it from the start
-pub after_untouched : {K : Type 0} (held : K → Option (List ℕ)) (faults : K → ℕ) (old mid now : K) → IsUntouched (passage held faults old mid)
-    → passage held faults mid now ≡ passage held faults old now
-after_untouched held faults old mid now (h, f) = λ i. record { before = h i; after = held now; faults = f i; faults_after = faults now }
+-- what has to be formed is not of the two texts that need no memory
+pub needs_other : (a : Answer) → NeedsMemory a → (a ≢ answer.Usage) × (a ≢ answer.TooLong)
+needs_other a needs = (λ e. subst NeedsMemory e needs, λ e. subst NeedsMemory e needs)
 
 -- the right answer is told, unless memory ran out
 pub ends_told : (words : List (List ℕ)) (source sink : Passage) (status : ℕ) (a : Answer) → IsRight words source a

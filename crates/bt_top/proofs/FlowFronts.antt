@@ -1,7 +1,6 @@
 -- What the front of an input tells of the answer of `check`.
-use Rattle.std.proofs.Common.{◌≡◌, ℕ, Bool, List, ◌∷◌, ◌++◌, Result, Ok, Err, inl, inr, refl, sym, subst, codes}
+use Rattle.std.proofs.Common.{◌≡◌, ℕ, Bool, List, ◌++◌, Result, Ok, Err, inl, inr, refl, sym, subst, codes}
 use Rattle.bt_text.specs.Lines.{IsFirstLine}
-use Rattle.bt_text.specs.Pieces.{CutsAt}
 use Rattle.bt_text.proofs.FirstLines.{IsFirstLine-unique}
 use Rattle.bt_net.specs.Network.{Network, IsNetwork}
 use Rattle.bt_flow.specs.declared.property.Property.{Property}
@@ -11,7 +10,7 @@ use Rattle.bt_flow.proofs.WrongLines.{stop_first}
 use Rattle.bt_fenc.specs.FlowFormula.{flow_formula}
 use Rattle.bt_cert.specs.Certificates.{IsCertRead}
 use Rattle.bt_cert.specs.declared.fault.CertFault.{CertFault}
-use Rattle.bt_top.specs.declared.answer.Answer.TheVariants as answer
+use Rattle.bt_top.specs.declared.answer.Brief.TheVariants as brief
 use Rattle.bt_flow.specs.declared.fault.StateFault.TheVariants as state
 use Rattle.bt_top.specs.declared.front.Front.TheVariants as front
 use Rattle.bt_top.specs.declared.front.Steps.{Steps}
@@ -30,18 +29,18 @@ module _ (n : Network) (p : Property) (ended : Bool) (text title lines : List �
   first more may = line_goes ended text title lines more told may
 
   -- a first line that says yes
-  steps_reply : IsNetwork n → (all : List ℕ) (judged : Result (Unit {0}) CertFault) → IsCertRead (flow_formula n p) all judged → IsYesChecked n p all (steps_answer (answer.Yes p) judged)
+  steps_reply : IsNetwork n → (all : List ℕ) (judged : Result (Unit {0}) CertFault) → IsCertRead (flow_formula n p) all judged → IsYesChecked n p all (steps_answer (brief.Yes p) judged)
   steps_reply net all (Ok done) h = yes_told n p all net h
   steps_reply net all (Err fault) h = stopped fault h refl
 
-  pub yes_is_front : IsNetwork n → title ≡ codes "yes " ++ property_name p → (steps : Steps) → steps.formula ≡ flow_formula n p → steps.lines.now ≡ lines → steps.accepted ≡ answer.Yes p
+  pub yes_is_front : IsNetwork n → title ≡ codes "yes " ++ property_name p → (steps : Steps) → steps.formula ≡ flow_formula n p → steps.lines.now ≡ lines → steps.accepted ≡ brief.Yes p
       → IsFrontOf (IsTextChecked n p) ended text (front.Steps steps)
   yes_is_front net says_so steps formula same accepted = (tt, λ more reply may h. by more reply may h.0 h.1 h.2)
     where
       by : (more : List ℕ) (reply : Reply) → MayFollow ended more → (judged : Result (Unit {0}) CertFault) → IsCertRead steps.formula (steps.lines.now ++ more) judged → reply ≡ steps_answer steps.accepted judged → IsTextChecked n p (text ++ more) reply
       by more reply may judged h e =
           let read : IsCertRead (flow_formula n p) (lines ++ more) judged = subst (λ f. IsCertRead f (lines ++ more) judged) formula (subst (λ l. IsCertRead steps.formula (l ++ more) judged) same h) in
-          let right : IsYesChecked n p (lines ++ more) (steps_answer (answer.Yes p) judged) = steps_reply net (lines ++ more) judged read in
+          let right : IsYesChecked n p (lines ++ more) (steps_answer (brief.Yes p) judged) = steps_reply net (lines ++ more) judged read in
           let says : SaysYes p (text ++ more) (lines ++ more) = subst (λ t. IsFirstLine (text ++ more) t (lines ++ more)) says_so (first more may) in
           inl (lines ++ more, says, subst (IsYesChecked n p (lines ++ more)) (sym (subst (λ a. reply ≡ steps_answer a judged) accepted e)) right)
 
@@ -56,14 +55,14 @@ module _ (n : Network) (p : Property) (ended : Bool) (text title lines : List �
     λ more reply may h.
         inr (
           λ after says. says_other not_yes more after may says,
-          subst (λ t. IsStateJudged n p (answer.No p) (t ++ more) reply) same
-              (subst (λ q. IsStateJudged n q (answer.No q) (w.text.now ++ more) reply) property (subst (λ m. IsStateJudged m w.property (answer.No w.property) (w.text.now ++ more) reply) net h)),
+          subst (λ t. IsStateJudged n p (brief.No p) (t ++ more) reply) same
+              (subst (λ q. IsStateJudged n q (brief.No q) (w.text.now ++ more) reply) property (subst (λ m. IsStateJudged m w.property (brief.No w.property) (w.text.now ++ more) reply) net h)),
         ),
   )
 
   -- another one than that and that of a written state
-  pub other_is_front : (title ≡ codes "yes " ++ property_name p → ⊥) → (title ≡ codes "no " ++ property_name p → ⊥) → IsFrontOf (IsTextChecked n p) ended text (front.Known (answer.CertLine 1))
-  other_is_front not_yes not_no = known_front ended (IsTextChecked n p) text (answer.CertLine 1)
+  pub other_is_front : (title ≡ codes "yes " ++ property_name p → ⊥) → (title ≡ codes "no " ++ property_name p → ⊥) → IsFrontOf (IsTextChecked n p) ended text (front.Known (brief.CertLine 1))
+  other_is_front not_yes not_no = known_front ended (IsTextChecked n p) text (brief.CertLine 1)
       (λ more may.
       let cut = line_cuts (text ++ more) title (lines ++ more) (first more may) in
       inr (

@@ -1,16 +1,17 @@
 -- Fronts of an input from which the rest is answered as it is read.
-use Rattle.std.proofs.Common.{◌≡◌, ◌⊎◌, ℕ, ◌+◌, ◌-◌, ◌<◌, ◌≤◌, Bool, true, false, List, [], ◌∷◌, ◌++◌, drop, length, slice_index, length-append, append-nil, Result, Ok, Err, IfOk, IfErr, Some, None, inl, inr, refl, ap, sym, subst, ◌∙◌, append_assoc, arith, alloc_error}
-use Rattle.std.specs.Prelude.{All, MatchOption}
+use Rattle.std.proofs.Common.{◌≡◌, ℕ, ◌+◌, ◌<◌, ◌≤◌, Bool, true, false, List, [], ◌∷◌, ◌++◌, drop, length, slice_index, length-append, append-nil, Result, Ok, Err, IfOk, IfErr, Some, None, inl, inr, refl, ap, sym, subst, ◌∙◌, append_assoc, arith, alloc_error}
+use Rattle.std.specs.Prelude.{MatchOption}
+use Rattle.std.specs.Result.{result_and}
 use Rattle.std.proofs.lemmas.List.{drop-append-le}
 use Rattle.std.proofs.lemmas.List.Elements.{All-nil}
 use Rattle.std.proofs.Math.Seq.{drop-append-add}
 use Rattle.std.specs.declared.option.Option.{Option}
 use Rattle.std.specs.declared.alloc.AllocError.{AllocError}
 use Rattle.std.specs.Io.KnownBytes.{Consumes, IsAtEnd}
-use Rattle.std.proofs.KnownBytes.{Consumes-nil, Consumes-trans}
+use Rattle.std.proofs.KnownBytes.{Consumes-nil}
 use Rattle.bt_answers.specs.Answers.{UnlessMemory}
 use Rattle.bt_text.specs.Blanks.{IsBlank, SkipsBlanks}
-use Rattle.bt_text.specs.Lines.{Lacks, SplitsAt, IsFirstLine}
+use Rattle.bt_text.specs.Lines.{Lacks, IsFirstLine}
 use Rattle.bt_text.specs.Pieces.{CutsAt}
 use Rattle.bt_text.proofs.Longer.{split-longer}
 use Rattle.bt_io.specs.Blocks.{Drains}
@@ -30,6 +31,8 @@ use Rattle.bt_parts.specs.declared.part.Tier.{Tier}
 use Rattle.bt_flow.specs.declared.property.Property.{Property}
 use Rattle.bt_top.specs.declared.answer.Answer.{Answer}
 use Rattle.bt_top.specs.declared.answer.Answer.TheVariants as answer
+use Rattle.bt_top.specs.declared.answer.Brief.{Brief}
+use Rattle.bt_top.specs.declared.answer.Brief.TheVariants as brief
 use Rattle.bt_top.specs.declared.claim.CertificateClaim.TheVariants as claim
 use Rattle.bt_designs.specs.declared.fault.DesignFault.{DesignFault}
 use Rattle.bt_designs.specs.declared.fault.DesignFault.TheVariants as design
@@ -43,7 +46,7 @@ use Rattle.bt_top.specs.Certificates.{cert_told}
 use Rattle.bt_top.specs.Replies.{Reply}
 use Rattle.bt_top.specs.inner.Claims.{IsClaimed}
 use Rattle.bt_designs.specs.Told.{MayFollow, LastsBehind, IsAtHand, TellsFront, TellsLine}
-use Rattle.bt_top.specs.inner.Fronts.{TellsRefusal, IsFrontOf, GivesFront, GivesHeldFront, IsStepsReply, AnswersLeft, AnswersRest, ReadsRest, DrainsRest, steps_told, judged_answer}
+use Rattle.bt_top.specs.inner.Fronts.{TellsRefusal, IsFrontOf, GivesFront, GivesHeldFront, IsStepsReply, AnswersLeft, AnswersRest, ReadsRest, DrainsRest, judged_answer}
 use Rattle.bt_top.specs.inner.Telling.{IsAnswered}
 
 -- ---- texts that may go on
@@ -103,15 +106,15 @@ module _ (ended : Bool) where
   gives_weaker P Q bytes more (Err e) gives = gives
 
   -- an answer that is known whatever may follow
-  pub known_front : (Right : List ℕ → Reply → Type 0) (bytes : List ℕ) (a : Answer) → ((more : List ℕ) → MayFollow ended more → Right (bytes ++ more) (Ok a)) → IsFrontOf Right ended bytes (front.Known a)
+  pub known_front : (Right : List ℕ → Reply → Type 0) (bytes : List ℕ) (a : Brief) → ((more : List ℕ) → MayFollow ended more → Right (bytes ++ more) (Ok (answer.Brief a))) → IsFrontOf Right ended bytes (front.Known a)
   known_front Right bytes a right = (tt, λ more reply may e. subst (Right (bytes ++ more)) (sym e) (right more may))
 
   -- a refusal that is
   pub tells_refusal : (Right : List ℕ → Reply → Type 0) (bytes : List ℕ) (why : DesignFault) (result : Result (Option Front) AllocError) → IfOk result (λ o. MatchOption o ⊥ (λ f. TellsRefusal why f))
-      → ((r : Refusal) → why ≡ design.Refused r → (more : List ℕ) → MayFollow ended more → Right (bytes ++ more) (Ok (answer.Refused r))) → GivesFront Right ended bytes result
+      → ((r : Refusal) → why ≡ design.Refused r → (more : List ℕ) → MayFollow ended more → Right (bytes ++ more) (Ok (answer.Brief (brief.Refused r)))) → GivesFront Right ended bytes result
   tells_refusal Right bytes why (Ok None) tells known = absurd tells
   tells_refusal Right bytes (design.Refused r) (Ok (Some f)) tells known =
-      subst (λ x. IsFrontOf Right ended bytes x) (sym tells) (known_front Right bytes (answer.Refused r) (known r refl))
+      subst (λ x. IsFrontOf Right ended bytes x) (sym tells) (known_front Right bytes (brief.Refused r) (known r refl))
   tells_refusal Right bytes design.Memory (Ok (Some f)) tells known = absurd tells
   tells_refusal Right bytes why (Err e) tells known = tells
 
@@ -120,7 +123,7 @@ module _ (ended : Bool) where
 module _ {X D : Type 0} (IsFront : List ℕ → Result (X × ℕ) DesignFault → Type 0) (of : D → X × ℕ) (Whole : List ℕ → Reply → Type 0) (held : Held) where
   -- the refusal of what is to stand at the front
   pub refused_front : (why : DesignFault) (result : Result (Option Front) AllocError) → TellsFront IsFront of held (Err why) → IfOk result (λ o. MatchOption o ⊥ (λ f. TellsRefusal why f))
-      → ((all : List ℕ) (r : Refusal) → IsFront all (Err (design.Refused r)) → Whole all (Ok (answer.Refused r))) → GivesHeldFront Whole held result
+      → ((all : List ℕ) (r : Refusal) → IsFront all (Err (design.Refused r)) → Whole all (Ok (answer.Brief (brief.Refused r)))) → GivesHeldFront Whole held result
   refused_front why result tells known stops = λ blanks are counted.
       tells_refusal held.ended Whole (blanks ++ held.bytes.now) why result known
       (λ r is more may. stops ((blanks ++ held.bytes.now) ++ more) r (of_refused r (subst (λ w. TellsFront IsFront of held (Err w)) is tells) blanks are counted more may))
@@ -152,7 +155,7 @@ none_dropped Right held result none gives = gives [] (All-nil IsBlank) (sym none
 
 -- the refusal of what is to stand behind blanks
 pub refused_behind : {X D : Type 0} (IsFront : List ℕ → Result (X × ℕ) DesignFault → Type 0) (of : D → X × ℕ) (Whole : List ℕ → Reply → Type 0) (held : Held) → held.skipped ≡ 0 → (rest : List ℕ) → SkipsBlanks rest held.bytes.now
-    → ((all : List ℕ) (r : Refusal) → IsFront all (Err (design.Refused r)) → Whole all (Ok (answer.Refused r)))
+    → ((all : List ℕ) (r : Refusal) → IsFront all (Err (design.Refused r)) → Whole all (Ok (answer.Brief (brief.Refused r))))
     → (why : DesignFault) (result : Result (Option Front) AllocError) → TellsFront IsFront of held (Err why) → IfOk result (λ o. MatchOption o ⊥ (λ f. TellsRefusal why f))
     → GivesFront (λ all reply. (behind : List ℕ) × SkipsBlanks all behind × Whole behind reply) held.ended rest result
 refused_behind IsFront of Whole held none rest skips stops (design.Refused r) result tells known =
@@ -234,10 +237,10 @@ module _ (steps : Steps) where
     -- the answer to steps that are read to the end of the source
     pub steps_left : (judged : Result (Unit {0}) CertFault) → ChecksLog steps.formula steps.lines.now limit source judged → AnswersLeft (IsStepsReply steps) limit source (judged_answer steps.accepted judged)
     steps_left (Ok done) h = (h.checked.0, record { read = (h.checked.1, h.checked.2); count = h.count }, (Ok done, h.checked.3.right, refl))
-    steps_left (Err (cert.CertLine k)) h = fault_in (cert.CertLine k) (answer.CertLine k) (λ e. cc) refl h.count h.checked
-    steps_left (Err (cert.BadStep k cause)) h = fault_in (cert.BadStep k cause) (answer.BadStep k cause) (λ e. cc) refl h.count h.checked
-    steps_left (Err cert.NoVerdict) h = fault_in cert.NoVerdict answer.NoVerdict (λ e. cc) refl h.count h.checked
-    steps_left (Err (cert.CertWide k row column)) h = fault_in (cert.CertWide k row column) (answer.CertWide k row column) (λ e. cc) refl h.count h.checked
+    steps_left (Err (cert.CertLine k)) h = fault_in (cert.CertLine k) (answer.Brief (brief.CertLine k)) (λ e. cc) refl h.count h.checked
+    steps_left (Err (cert.BadStep k cause)) h = fault_in (cert.BadStep k cause) (answer.Brief (brief.BadStep k cause)) (λ e. cc) refl h.count h.checked
+    steps_left (Err cert.NoVerdict) h = fault_in cert.NoVerdict (answer.Brief brief.NoVerdict) (λ e. cc) refl h.count h.checked
+    steps_left (Err (cert.CertWide k row column)) h = fault_in (cert.CertWide k row column) (answer.Brief (brief.CertWide k row column)) (λ e. cc) refl h.count h.checked
     steps_left (Err cert.ReadFault) h = record { read = h.checked; count = h.count }
     steps_left (Err cert.TooLong) h = record { read = h.checked; count = h.count }
     steps_left (Err cert.Memory) h = record { read = h.checked; count = h.count }
@@ -262,9 +265,11 @@ module _ (Right : List ℕ → Reply → Type 0) (source : Passage) (none : sour
 
 -- ---- what is known
 
--- an answer that is known is that to whatever may follow
-pub known_right : (ended : Bool) (a : Answer) (limit : ℕ) (source : Passage) → DrainsRest ended limit source (Ok tt) → AnswersRest ended (λ more reply. reply ≡ Ok a) limit source (Ok a)
-known_right ended a limit source (more, h) = (more, h.1, (h.0, refl))
+-- an answer that is known is that to whatever may follow, which is read
+pub known_left : (ended : Bool) (a : Answer) (limit : ℕ) (source : Passage) (drained : Result (Unit {0}) ReadAll) → DrainsRest ended limit source drained
+    → AnswersRest ended (λ more reply. reply ≡ Ok a) limit source (result_and drained (Ok a))
+known_left ended a limit source (Ok done) (more, h) = (more, h.1, (h.0, refl))
+known_left ended a limit source (Err fault) (more, h) = h
 
 pub known_unread : (ended : Bool) (a : Answer) (limit : ℕ) (source : Passage) (fault : ReadAll) → DrainsRest ended limit source (Err fault) → AnswersRest ended (λ more reply. reply ≡ Ok a) limit source (Err fault)
 known_unread ended a limit source fault (more, h) = h

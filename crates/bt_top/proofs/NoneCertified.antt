@@ -18,6 +18,7 @@ use Rattle.bt_layout.proofs.Certified.{nowhere_is_certificate}
 use Rattle.bt_layout.proofs.Formulas.{place_is_formula}
 use Rattle.bt_layout.proofs.Refuted.{unmet_has_no_layout}
 use Rattle.bt_top.specs.declared.answer.Answer.TheVariants as answer
+use Rattle.bt_top.specs.declared.answer.Brief.TheVariants as brief
 use Rattle.bt_top.specs.Replies.{Reply}
 use Rattle.bt_top.specs.Certificates.{cert_told}
 use Rattle.bt_top.specs.NoneCertificates.{IsNoneChecked, SaysNone, NoneIsAccepted}
@@ -26,14 +27,14 @@ use Rattle.bt_designs.specs.Steps.{went_on}
 use Rattle.bt_designs.proofs.InTurns.{stops}
 
 -- a certificate that is one shows that no parts lay the request
-pub none_told : (r : LayoutRequest) (lines : List ℕ) → IsRequest r → IsCertRead (place_formula r) lines (Ok tt) → IsNoneChecked r lines (Ok answer.NoLayout)
+pub none_told : (r : LayoutRequest) (lines : List ℕ) → IsRequest r → IsCertRead (place_formula r) lines (Ok tt) → IsNoneChecked r lines (Ok (answer.Brief brief.NoLayout))
 none_told r lines is h = went_on tt h (unmet_has_no_layout r is (certificate_shows_unmet (place_formula r) lines (place_is_formula r is) h), refl)
 
 -- and else the first line for which it is none is told
 pub none_fault_told : (r : LayoutRequest) (lines : List ℕ) (fault : CertFault) (reply : Reply)
     → UnlessMemory Memory (IsCertRead (place_formula r) lines) (Err fault) → reply ≡ cert_told fault → UnlessMemory alloc_error (IsNoneChecked r lines) reply
 none_fault_told r lines fault reply h e =
-    stops Memory alloc_error (IsCertRead (place_formula r) lines) cert_told (λ done reply. HasNoLayout r × (reply ≡ Ok answer.NoLayout)) fault reply refl h e
+    stops Memory alloc_error (IsCertRead (place_formula r) lines) cert_told (λ done reply. HasNoLayout r × (reply ≡ Ok (answer.Brief brief.NoLayout))) fault reply refl h e
 
 -- ---- what `layout` writes
 

@@ -19,6 +19,8 @@ use Rattle.bt_flow.proofs.OneAnswer.{one_breaking_answer}
 use Rattle.bt_flow.proofs.StateTexts.{one_state_read}
 use Rattle.bt_top.specs.declared.answer.Answer.{Answer}
 use Rattle.bt_top.specs.declared.answer.Answer.TheVariants as answer
+use Rattle.bt_top.specs.declared.answer.Brief.{Brief}
+use Rattle.bt_top.specs.declared.answer.Brief.TheVariants as brief
 use Rattle.bt_words.specs.declared.command.Command.TheVariants.{FlowCheck, Recover, Check, Decide, Make, Layout, CheckLayout, Smallest, FindSmall, FlowFormula, PlaceFormula, Same, CheckSame}
 use Rattle.bt_words.specs.declared.command.NetworkFamily.TheVariants.{Butterfly, Chain}
 use Rattle.bt_theory.specs.declared.outcome.GaveUp.{GaveUp}
@@ -40,7 +42,7 @@ use Rattle.bt_gen.specs.Chain.{chain_net}
 use Rattle.bt_gen.specs.Orders.{IsGenerated}
 use Rattle.bt_gen.proofs.Made.{one_made}
 use Rattle.bt_designs.specs.Designs.{IsDesign}
-use Rattle.bt_top.specs.Certificates.{cert_told, IsYesChecked, IsTextChecked, IsCertificateChecked, IsCertified}
+use Rattle.bt_top.specs.Certificates.{cert_told, IsYesChecked, IsTextChecked, IsCertificateChecked, IsChecked}
 use Rattle.bt_designs.specs.Alone.{IsLoneNet}
 use Rattle.bt_top.specs.Answering.{OneRightAnswer}
 use Rattle.bt_top.specs.Answers.{status_of}
@@ -56,7 +58,7 @@ use Rattle.bt_designs.specs.Requested.{IsSidedRequest}
 use Rattle.bt_top.specs.Searching.{IsSearched}
 use Rattle.bt_designs.specs.Requested.{IsFrontRequest, IsLoneRequest}
 use Rattle.bt_top.specs.Replies.{Reply, design_told}
-use Rattle.bt_top.specs.States.{verdict, state_told, IsJudged, IsStateJudged, IsStateChecked, IsChecked}
+use Rattle.bt_top.specs.States.{verdict, state_told, IsJudged, IsStateJudged, IsStateChecked, IsFlowChecked}
 use Rattle.bt_designs.specs.Steps.{InTurn, stopped, went_on}
 use Rattle.bt_designs.specs.TwoDesigns.{IsTwoNets}
 use Rattle.bt_designs.proofs.Blanks.{one_rest}
@@ -70,20 +72,20 @@ use Rattle.bt_designs.proofs.StandingAlone.{one_alone}
 
 -- ---- flow-check
 
-one_judged : (n : Network) (p : Property) (broken : Answer) (t : Fractions) → HasOneAnswer (IsJudged n p broken t)
-one_judged n p broken t a b h k = h.2 ∙ ap (λ told. Ok (verdict broken told)) (one_breaking_answer n p t h.0 k.0 h.1 k.1) ∙ sym k.2
+one_judged : (n : Network) (p : Property) (broken : Brief) (t : Fractions) → HasOneAnswer (IsJudged n p broken t)
+one_judged n p broken t a b h k = h.2 ∙ ap (λ told. Ok (answer.Brief (verdict broken told))) (one_breaking_answer n p t h.0 k.0 h.1 k.1) ∙ sym k.2
 
-one_state_judged : (n : Network) (p : Property) (broken : Answer) (text : List ℕ) → HasOneAnswer (IsStateJudged n p broken text)
+one_state_judged : (n : Network) (p : Property) (broken : Brief) (text : List ℕ) → HasOneAnswer (IsStateJudged n p broken text)
 one_state_judged n p broken text =
     one_in_turn (IsStateRead n p text) state_told (IsJudged n p broken) (one_state_read n p text) (one_judged n p broken)
 
 one_state_checked : (n : Network) (p : Property) (rest : List ℕ) → HasOneAnswer (IsStateChecked n p rest)
 one_state_checked n p rest a b h k =
-    one_state_judged n p (answer.Breaks p) k.0 a b
-    (subst (λ text. IsStateJudged n p (answer.Breaks p) text a) (one_rest rest h.0 k.0 h.1 k.1) h.2) k.2
+    one_state_judged n p (brief.Breaks p) k.0 a b
+    (subst (λ text. IsStateJudged n p (brief.Breaks p) text a) (one_rest rest h.0 k.0 h.1 k.1) h.2) k.2
 
-one_checked : (p : Property) (bytes : List ℕ) → HasOneAnswer (IsChecked p bytes)
-one_checked p bytes =
+one_flow_checked : (p : Property) (bytes : List ℕ) → HasOneAnswer (IsFlowChecked p bytes)
+one_flow_checked p bytes =
     one_in_turn (IsDesign bytes) design_told _ (one_design bytes) (λ found. one_state_checked found.0 p (drop found.1 bytes))
 
 -- ---- recover
@@ -106,14 +108,14 @@ one_text_checked n p net text a b (inl h) (inl k) =
     one_yes n p net k.0 a b (subst (λ lines. IsYesChecked n p lines a) (IsFirstLine-unique text _ _ h.0 k.0 h.1 k.1).1 h.2) k.2
 one_text_checked n p net text a b (inl h) (inr k) = absurd (k.0 h.0 h.1)
 one_text_checked n p net text a b (inr h) (inl k) = absurd (h.0 k.0 k.1)
-one_text_checked n p net text a b (inr h) (inr k) = one_state_judged n p (answer.No p) text a b h.1 k.1
+one_text_checked n p net text a b (inr h) (inr k) = one_state_judged n p (brief.No p) text a b h.1 k.1
 
 one_certificate : (n : Network) (p : Property) → IsNetwork n → (rest : List ℕ) → HasOneAnswer (IsCertificateChecked n p rest)
 one_certificate n p net rest a b h k =
     one_text_checked n p net k.0 a b (subst (λ text. IsTextChecked n p text a) (one_rest rest h.0 k.0 h.1 k.1) h.2) k.2
 
-one_certified : (p : Property) (bytes : List ℕ) → HasOneAnswer (IsCertified p bytes)
-one_certified p bytes =
+one_checked : (p : Property) (bytes : List ℕ) → HasOneAnswer (IsChecked p bytes)
+one_checked p bytes =
     one_in_turn_of (IsDesign bytes) design_told _ (one_design bytes)
     (λ found is. one_certificate found.0 p (design_network bytes found is) (drop found.1 bytes))
 
@@ -167,19 +169,19 @@ gave_up_apart (gave.Pivots trail) is = omega (arith, is)
 gave_up_apart (gave.Wide wide) is = omega (arith, is)
 
 verdict_apart : (p : Property) (v : Verdict) → status_of (verdict_told p v) ≢ 3
-verdict_apart p (verdict.Yes log) is = omega (arith, is)
+verdict_apart p (verdict.Yes definitions log) is = omega (arith, is)
 verdict_apart p (verdict.No state) is = omega (arith, is)
-verdict_apart p (verdict.GaveUp cause) is = gave_up_apart cause is
+verdict_apart p (verdict.GaveUp definitions cause) is = gave_up_apart cause is
 
 same_apart : (v : SameVerdict) → status_of (same_told v) ≢ 3
-same_apart (of_same.Yes log) is = omega (arith, is)
+same_apart (of_same.Yes definitions log) is = omega (arith, is)
 same_apart (of_same.No pair) is = omega (arith, is)
-same_apart (of_same.GaveUp cause) is = gave_up_apart cause is
+same_apart (of_same.GaveUp definitions cause) is = gave_up_apart cause is
 
 balance_apart : (order : ℕ) (n : Network) (v : Verdict) → status_of (balance_told order n v) ≢ 3
-balance_apart order n (verdict.Yes log) is = omega (arith, is)
+balance_apart order n (verdict.Yes definitions log) is = omega (arith, is)
 balance_apart order n (verdict.No state) is = omega (arith, is)
-balance_apart order n (verdict.GaveUp cause) is = gave_up_apart cause is
+balance_apart order n (verdict.GaveUp definitions cause) is = gave_up_apart cause is
 
 layout_apart : (found : ALayout) → status_of (layout_told found) ≢ 3
 layout_apart (layout.Found parts) is = omega (arith, is)
@@ -204,9 +206,9 @@ one_butterfly order = one_in_turn (IsGenerated MOST_STAGES butterfly_net order) 
 
 -- the one right answer is equal to each right answer
 pub only_right : OneRightAnswer
-only_right (FlowCheck p) bytes a b only h k = same_value a b (one_checked p bytes (Ok a) (Ok b) h k)
+only_right (FlowCheck p) bytes a b only h k = same_value a b (one_flow_checked p bytes (Ok a) (Ok b) h k)
 only_right Recover bytes a b only h k = same_value a b (one_recovered bytes (Ok a) (Ok b) h k)
-only_right (Check p) bytes a b only h k = same_value a b (one_certified p bytes (Ok a) (Ok b) h k)
+only_right (Check p) bytes a b only h k = same_value a b (one_checked p bytes (Ok a) (Ok b) h k)
 only_right (Decide p limits) bytes a b only h k =
     refused_only (IsLoneNet bytes) design_told (λ n. IsDecided n p limits) (one_lone_net bytes) (λ n c d. apart c (verdict_told p d.0) d.2 (verdict_apart p d.0)) a b only h k
 only_right (Make Butterfly order limits) bytes a b only h k = same_value a b (one_butterfly order (Ok a) (Ok b) h k)

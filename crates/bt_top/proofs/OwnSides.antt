@@ -1,5 +1,5 @@
 -- The sides at which the ends of a blueprint stand name no cells.
-use Rattle.std.proofs.Common.{◌≡◌, ℕ, ◌+◌, List, [], ◌∷◌, ◌++◌, inl, inr, sym, subst}
+use Rattle.std.proofs.Common.{ℕ, ◌+◌, List, [], ◌∷◌, inl, inr, sym, subst}
 use Rattle.std.specs.List.{All as Each}
 use Rattle.std.proofs.lemmas.List.Elements.{All-nil, All-cons, All-append}
 use Rattle.bt_parts.specs.declared.part.Part.{Part}

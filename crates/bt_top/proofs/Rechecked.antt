@@ -1,7 +1,8 @@
 -- What `check` answers to what `decide` wrote.
-use Rattle.std.proofs.Common.{◌≡◌, ◌⊎◌, ℕ, ◌^◌, ◌<◌, ◌≤◌, List, [], ◌∷◌, ◌++◌, length, drop, get_or, Result, Ok, Err, refl, ap, subst, inl, inr, arith}
-use Rattle.std.specs.Prelude.{codes, slice_index}
+use Rattle.std.proofs.Common.{◌≡◌, ◌⊎◌, ℕ, ◌<◌, List, [], ◌∷◌, ◌++◌, length, drop, get_or, Result, Ok, Err, refl, ap, subst, inl, inr, arith}
+use Rattle.std.specs.Prelude.{Vec, codes, slice_index}
 use Rattle.std.proofs.lemmas.List.{append_assoc}
+use Rattle.std.specs.declared.alloc.Global.{Global}
 use Rattle.bt_text.specs.Blanks.{IsBlank, SkipsBlanks}
 use Rattle.bt_text.specs.Lines.{Lacks}
 use Rattle.bt_net.specs.Network.{Network}
@@ -24,19 +25,20 @@ use Rattle.bt_flow.proofs.Printed.{printed_is_read}
 use Rattle.bt_flow.proofs.StateTexts.{one_state_read}
 use Rattle.bt_log.specs.declared.log.Log.{Log}
 use Rattle.bt_log.specs.Logs.{Step}
-use Rattle.bt_log.specs.LogText.{log_text}
+use Rattle.bt_extend.specs.Texts.{definitions_text}
+use Rattle.bt_extend.specs.declared.definition.Definition.{Definition}
 use Rattle.bt_decide.specs.declared.verdict.Verdict.{Verdict}
 use Rattle.bt_decide.specs.declared.verdict.Verdict.TheVariants as verdict
 use Rattle.bt_decide.specs.Verdicts.{IsVerdict}
 use Rattle.bt_decide.proofs.Certified.{yes_is_certificate}
 use Rattle.bt_top.specs.declared.answer.Answer.TheVariants as answer
+use Rattle.bt_top.specs.declared.answer.Brief.TheVariants as brief
 use Rattle.bt_designs.specs.Alone.{IsLoneNet}
-use Rattle.bt_top.specs.Answers.{proved_text}
-use Rattle.bt_top.specs.Certificates.{SaysYes, IsTextChecked, IsCertificateChecked, IsCertified}
+use Rattle.bt_top.specs.Answers.{proved_text, steps_text}
+use Rattle.bt_top.specs.Certificates.{SaysYes, IsTextChecked, IsCertificateChecked, IsChecked}
 use Rattle.bt_top.specs.Deciding.{verdict_told}
-use Rattle.bt_designs.specs.declared.held.TheConstants.{MOST_CHECKED}
 use Rattle.bt_designs.specs.Designs.{IsDesign}
-use Rattle.bt_top.specs.Rechecking.{followed_by, ProofIsChecked, StateIsChecked}
+use Rattle.bt_top.specs.Rechecking.{ProofIsChecked, StateIsChecked}
 use Rattle.bt_top.specs.Replies.{Reply}
 use Rattle.bt_top.specs.States.{verdict as state_verdict, IsStateJudged}
 use Rattle.bt_designs.specs.Steps.{stopped, went_on}
@@ -57,15 +59,15 @@ followed bytes text n starts lone =
 
 -- ---- a proof
 
-told_yes : (p : Property) (v : Verdict) (log : Log) → answer.Proved p log ≡ verdict_told p v → v ≡ verdict.Yes log
-told_yes p (verdict.Yes found) log e = cc
-told_yes p (verdict.No state) log e = cc
-told_yes p (verdict.GaveUp cause) log e = cc
+told_yes : (p : Property) (v : Verdict) (definitions : Vec Definition Global) (log : Log) → answer.Proved p definitions log ≡ verdict_told p v → v ≡ verdict.Yes definitions log
+told_yes p (verdict.Yes made found) definitions log e = cc
+told_yes p (verdict.No state) definitions log e = cc
+told_yes p (verdict.GaveUp made cause) definitions log e = cc
 
 told_no : (p : Property) (v : Verdict) (state : Fractions) → answer.Broken p state ≡ verdict_told p v → v ≡ verdict.No state
-told_no p (verdict.Yes found) state e = cc
+told_no p (verdict.Yes made found) state e = cc
 told_no p (verdict.No found) state e = cc
-told_no p (verdict.GaveUp cause) state e = cc
+told_no p (verdict.GaveUp made cause) state e = cc
 
 yes_lacks : (p : Property) → Lacks 10 (codes "yes " ++ property_name p)
 yes_lacks Balanced = lacks 10 (codes "yes balanced") refl
@@ -73,30 +75,31 @@ yes_lacks DrawnEvenly = lacks 10 (codes "yes drawn-evenly") refl
 yes_lacks Unlimited = lacks 10 (codes "yes unlimited") refl
 yes_lacks Full = lacks 10 (codes "yes full") refl
 
-says_yes : (p : Property) (steps : List Step) → SaysYes p (proved_text p steps) (log_text steps)
-says_yes p steps = inl (record { first = yes_lacks p; text_is = append_assoc (codes "yes " ++ property_name p) (10 ∷ []) (log_text steps) })
-
-few_steps : (bytes : List ℕ) (p : Property) (log : Log) → length (followed_by bytes (answer.Proved p log)) ≤ MOST_CHECKED → length log.steps < 10 ^ 17
-few_steps bytes p log short = few_printed bytes (codes "yes " ++ property_name p) log.steps short
+says_yes : (p : Property) (definitions : List Definition) (steps : List Step) → SaysYes p (proved_text p definitions steps) (steps_text definitions steps)
+says_yes p definitions steps =
+    inl (record { first = yes_lacks p; text_is = append_assoc (codes "yes " ++ property_name p) (10 ∷ []) (steps_text definitions steps) })
 
 -- a design and the proof that is written of it
 pub proof_is_checked : ProofIsChecked
-proof_is_checked p limits bytes log (stopped fault h e) short = absurd (no_refusal (answer.Proved p log) fault (λ r same. cc) e)
-proof_is_checked p limits bytes log (went_on n lone (v, is, e)) short =
-    let same = told_yes p v log (same_value (answer.Proved p log) (verdict_told p v) e) in
-    let right : IsVerdict n p limits (verdict.Yes log) = subst (IsVerdict n p limits) same is in
-    let on = followed bytes (proved_text p log.steps) n (λ some. other_than 121 (λ x. omega (arith, x)) (λ x. omega (arith, x)) (λ x. omega (arith, x)) (λ x. omega (arith, x))) lone in
-    let net = design_network (bytes ++ 10 ∷ proved_text p log.steps) (n, on.used) on.front in
-    let certificate = yes_is_certificate n p log.steps net right.1 (few_steps bytes p log short) in
-    went_on (n, on.used) on.front (proved_text p log.steps, on.rest, inl (log_text log.steps, says_yes p log.steps, yes_told n p (log_text log.steps) net certificate))
+proof_is_checked p limits bytes definitions log (stopped fault h e) short = absurd (no_refusal (answer.Proved p definitions log) fault (λ r same. cc) e)
+proof_is_checked p limits bytes definitions log (went_on n lone (v, is, e)) short =
+    let ds = definitions.items in
+    let text = proved_text p ds log.steps in
+    let same = told_yes p v definitions log (same_value (answer.Proved p definitions log) (verdict_told p v) e) in
+    let right : IsVerdict n p limits (verdict.Yes definitions log) = subst (IsVerdict n p limits) same is in
+    let on = followed bytes text n (λ some. other_than 121 (λ x. omega (arith, x)) (λ x. omega (arith, x)) (λ x. omega (arith, x)) (λ x. omega (arith, x))) lone in
+    let net = design_network (bytes ++ 10 ∷ text) (n, on.used) on.front in
+    let few = few_printed bytes (codes "yes " ++ property_name p) (definitions_text ds) log.steps short in
+    let certificate = yes_is_certificate n p ds log.steps net right.1.0 right.1.1 few in
+    went_on (n, on.used) on.front (text, on.rest, inl (steps_text ds log.steps, says_yes p ds log.steps, yes_told n p (steps_text ds log.steps) net certificate))
 
 -- ---- a state
 
 module _ (n : Network) (p : Property) (state : Fractions) (reply : Reply) (breaks : IsTrueOf n state (Breaks n p)) (lowest : AreLowest state) where
   abbrev Says : Type 0
-  Says = (reply ≡ Ok (answer.No p)) ⊎ ((test : Test) × (place : ℕ) × (reply ≡ Ok (answer.WideState test place)))
+  Says = (reply ≡ Ok (answer.Brief (brief.No p))) ⊎ ((test : Test) × (place : ℕ) × (reply ≡ Ok (answer.Brief (brief.WideState test place))))
 
-  judged : (told : Result Judgement WideSum) → IsBreakingAnswer n p state told → reply ≡ Ok (state_verdict (answer.No p) told) → Says
+  judged : (told : Result Judgement WideSum) → IsBreakingAnswer n p state told → reply ≡ Ok (answer.Brief (state_verdict (brief.No p) told)) → Says
   judged (Ok Passes) h e = inl e
   judged (Ok (Fails test place)) h e =
       let s = breaks.some.0 in
@@ -108,7 +111,7 @@ module _ (n : Network) (p : Property) (state : Fractions) (reply : Reply) (break
   read_of : IsStateRead n p (printed_state p state) (Ok state)
   read_of = printed_is_read n p state lowest (state_fits n state breaks.some.0 breaks.some.1)
 
-  state_judged : IsStateJudged n p (answer.No p) (printed_state p state) reply → Says
+  state_judged : IsStateJudged n p (brief.No p) (printed_state p state) reply → Says
   state_judged (stopped fault h e) = absurd (not_both state fault (one_state_read n p (printed_state p state) (Ok state) (Err fault) read_of h))
   state_judged (went_on t h (told, right, e)) =
       let same = same_value t state (one_state_read n p (printed_state p state) (Ok t) (Ok state) h read_of) in
@@ -130,7 +133,7 @@ module _ (n : Network) (p : Property) (state : Fractions) (reply : Reply) (break
 -- a design and the state that is written of it
 module _ (p : Property) (bytes : List ℕ) (state : Fractions) (reply : Reply) (n : Network) (breaks : IsTrueOf n state (Breaks n p)) (lowest : AreLowest state)
     (on : IsFollowed IsDesign bytes (printed_state p state) n) where
-  certified : IsCertified p (bytes ++ 10 ∷ printed_state p state) reply → (reply ≡ Ok (answer.No p)) ⊎ ((test : Test) × (place : ℕ) × (reply ≡ Ok (answer.WideState test place)))
+  certified : IsChecked p (bytes ++ 10 ∷ printed_state p state) reply → (reply ≡ Ok (answer.Brief (brief.No p))) ⊎ ((test : Test) × (place : ℕ) × (reply ≡ Ok (answer.Brief (brief.WideState test place))))
   certified (stopped fault h e) = absurd (not_both (n, on.used) fault (one_design (bytes ++ 10 ∷ printed_state p state) (Ok (n, on.used)) (Err fault) on.front h))
   certified (went_on found h checked) =
       let same = same_value found (n, on.used) (one_design (bytes ++ 10 ∷ printed_state p state) (Ok found) (Ok (n, on.used)) h on.front) in

@@ -15,6 +15,7 @@ use Rattle.bt_layout.specs.declared.outcome.Layout.TheVariants as layout
 use Rattle.bt_layout.specs.Layouts.{IsLayout}
 use Rattle.bt_layout.proofs.Certified.{nowhere_is_certificate}
 use Rattle.bt_top.specs.declared.answer.Answer.TheVariants as answer
+use Rattle.bt_top.specs.declared.answer.Brief.TheVariants as brief
 use Rattle.bt_designs.specs.declared.fault.DesignFault.{DesignFault}
 use Rattle.bt_designs.specs.declared.held.TheConstants.{MOST_CHECKED}
 use Rattle.bt_top.specs.Answers.{none_word, nowhere_text}
@@ -90,15 +91,15 @@ told_nowhere (layout.Spent other) log e = cc
 module _ (rect : Rect) (tier : Tier) (learnt : ℕ) (bytes : List ℕ) (log : Log) (short : length (bytes ++ 10 ∷ nowhere_text log.steps) ≤ MOST_CHECKED) where
   -- what follows the request is the certificate
   pub certificate_follows : (n : PinnedNet) (r : LayoutRequest) → IsFollowed IsPinned bytes (nowhere_text log.steps) n → IsRequestFor rect tier n (Ok r)
-      → IsLayout r learnt (layout.Nowhere log) → IsLayoutChecked rect tier (bytes ++ 10 ∷ nowhere_text log.steps) (Ok answer.NoLayout)
+      → IsLayout r learnt (layout.Nowhere log) → IsLayoutChecked rect tier (bytes ++ 10 ∷ nowhere_text log.steps) (Ok (answer.Brief brief.NoLayout))
   certificate_follows n r on made right =
       let front : IsFrontRequest rect tier (bytes ++ 10 ∷ nowhere_text log.steps) (Ok (r, on.used)) = went_on (n, on.used) on.front (Ok r, made, refl) in
       let is = front_request rect tier (bytes ++ 10 ∷ nowhere_text log.steps) (r, on.used) front in
-      let certificate = nowhere_is_certificate r log.steps is right.1 (few_printed bytes none_word log.steps short) in
+      let certificate = nowhere_is_certificate r log.steps is right.1 (few_printed bytes none_word [] log.steps short) in
       went_on (r, on.used) front (nowhere_text log.steps, on.rest, inl (log_text log.steps, says_none log.steps, none_told r (log_text log.steps) is certificate))
 
   none_checked : (n : PinnedNet) (r : LayoutRequest) → IsFollowed IsPinned bytes (nowhere_text log.steps) n → IsRequestFor rect tier n (Ok r) → IsLaidOut learnt r (Ok (answer.Nowhere log))
-      → IsLayoutChecked rect tier (bytes ++ 10 ∷ nowhere_text log.steps) (Ok answer.NoLayout)
+      → IsLayoutChecked rect tier (bytes ++ 10 ∷ nowhere_text log.steps) (Ok (answer.Brief brief.NoLayout))
   none_checked n r on made (found, right, again, e) =
       let same = told_nowhere found log (same_value (answer.Nowhere log) (layout_told found) e) in
       certificate_follows n r on made (subst (IsLayout r learnt) same right)

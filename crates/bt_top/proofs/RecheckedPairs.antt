@@ -1,7 +1,8 @@
 -- What `check-same` answers to what `same` wrote.
 use Rattle.std.proofs.Common.{◌≡◌, ◌⊎◌, ℕ, List, ◌∷◌, [], ◌++◌, drop, get_or, Result, Ok, Err, refl, ap, ◌∙◌, subst, inl, inr, arith}
-use Rattle.std.specs.Prelude.{codes}
+use Rattle.std.specs.Prelude.{Vec, codes}
 use Rattle.std.proofs.lemmas.List.{append_assoc}
+use Rattle.std.specs.declared.alloc.Global.{Global}
 use Rattle.bt_text.specs.Blanks.{SkipsBlanks}
 use Rattle.bt_text.proofs.Lacking.{lacks}
 use Rattle.bt_net.specs.Network.{Network, IsNetwork}
@@ -9,7 +10,8 @@ use Rattle.bt_flow.specs.declared.judgement.Test.{Test}
 use Rattle.bt_flow.specs.States.{AreLowest}
 use Rattle.bt_log.specs.declared.log.Log.{Log}
 use Rattle.bt_log.specs.Logs.{Step}
-use Rattle.bt_log.specs.LogText.{log_text}
+use Rattle.bt_extend.specs.Texts.{definitions_text}
+use Rattle.bt_extend.specs.declared.definition.Definition.{Definition}
 use Rattle.bt_same.specs.declared.pair.Pair.{Pair}
 use Rattle.bt_same.specs.declared.pair.PairJudgement.{PairJudgement}
 use Rattle.bt_same.specs.declared.pair.PairWide.{PairWide}
@@ -26,7 +28,8 @@ use Rattle.bt_decide.specs.declared.verdict.SameVerdict.TheVariants as of_same
 use Rattle.bt_decide.specs.Verdicts.{IsSameVerdict}
 use Rattle.bt_decide.proofs.Certified.{same_is_certificate}
 use Rattle.bt_top.specs.declared.answer.Answer.TheVariants as answer
-use Rattle.bt_top.specs.Answers.{same_text}
+use Rattle.bt_top.specs.declared.answer.Brief.TheVariants as brief
+use Rattle.bt_top.specs.Answers.{same_text, steps_text}
 use Rattle.bt_top.specs.Comparing.{same_told}
 use Rattle.bt_top.specs.RecheckingPairs.{SameIsChecked, DifferenceIsChecked}
 use Rattle.bt_top.specs.Replies.{Reply}
@@ -40,36 +43,39 @@ use Rattle.bt_designs.proofs.OnePair.{one_front_nets}
 use Rattle.bt_top.proofs.SameCertified.{same_shown}
 use Rattle.bt_designs.proofs.TwoFollowed.{AreFollowed, nets_followed}
 
-told_same : (v : SameVerdict) (log : Log) → answer.Same log ≡ same_told v → v ≡ of_same.Yes log
-told_same (of_same.Yes found) log e = cc
-told_same (of_same.No pair) log e = cc
-told_same (of_same.GaveUp cause) log e = cc
+told_same : (v : SameVerdict) (definitions : Vec Definition Global) (log : Log) → answer.Same definitions log ≡ same_told v → v ≡ of_same.Yes definitions log
+told_same (of_same.Yes made found) definitions log e = cc
+told_same (of_same.No pair) definitions log e = cc
+told_same (of_same.GaveUp made cause) definitions log e = cc
 
 told_differ : (v : SameVerdict) (pair : Pair) → answer.Differ pair ≡ same_told v → v ≡ of_same.No pair
-told_differ (of_same.Yes log) pair e = cc
+told_differ (of_same.Yes made log) pair e = cc
 told_differ (of_same.No found) pair e = cc
-told_differ (of_same.GaveUp cause) pair e = cc
+told_differ (of_same.GaveUp made cause) pair e = cc
 
-says_same : (steps : List Step) → SaysSame (same_text steps) (log_text steps)
-says_same steps = inl (record { first = lacks 10 (codes "same") refl; text_is = append_assoc (codes "same") (10 ∷ []) (log_text steps) })
+says_same : (definitions : List Definition) (steps : List Step) → SaysSame (same_text definitions steps) (steps_text definitions steps)
+says_same definitions steps = inl (record { first = lacks 10 (codes "same") refl; text_is = append_assoc (codes "same") (10 ∷ []) (steps_text definitions steps) })
 
 -- two designs and the proof that is written of them
 pub same_is_checked : SameIsChecked
-same_is_checked limits bytes log (stopped fault h e) short = absurd (no_refusal (answer.Same log) fault (λ r same. cc) e)
-same_is_checked limits bytes log (went_on nets two (v, is, e)) short =
-    let same = told_same v log (same_value (answer.Same log) (same_told v) e) in
-    let right : IsSameVerdict nets.0 nets.1 limits (of_same.Yes log) = subst (IsSameVerdict nets.0 nets.1 limits) same is in
-    let all = nets_followed bytes (same_text log.steps) (λ some. other_than 115 (λ x. omega (arith, x)) (λ x. omega (arith, x)) (λ x. omega (arith, x)) (λ x. omega (arith, x))) nets two in
-    let certificate = same_is_certificate nets.0 nets.1 log.steps all.1 all.2 right.1 (few_printed bytes (codes "same") log.steps short) in
+same_is_checked limits bytes definitions log (stopped fault h e) short = absurd (no_refusal (answer.Same definitions log) fault (λ r same. cc) e)
+same_is_checked limits bytes definitions log (went_on nets two (v, is, e)) short =
+    let ds = definitions.items in
+    let text = same_text ds log.steps in
+    let same = told_same v definitions log (same_value (answer.Same definitions log) (same_told v) e) in
+    let right : IsSameVerdict nets.0 nets.1 limits (of_same.Yes definitions log) = subst (IsSameVerdict nets.0 nets.1 limits) same is in
+    let all = nets_followed bytes text (λ some. other_than 115 (λ x. omega (arith, x)) (λ x. omega (arith, x)) (λ x. omega (arith, x)) (λ x. omega (arith, x))) nets two in
+    let few = few_printed bytes (codes "same") (definitions_text ds) log.steps short in
+    let certificate = same_is_certificate nets.0 nets.1 ds log.steps all.1 all.2 right.1.0 right.1.1 few in
     went_on (nets, all.0.used) all.0.front
-    (same_text log.steps, all.0.rest, inl (log_text log.steps, says_same log.steps, same_shown nets.0 nets.1 (log_text log.steps) all.1 all.2 all.3 certificate))
+    (text, all.0.rest, inl (steps_text ds log.steps, says_same ds log.steps, same_shown nets.0 nets.1 (steps_text ds log.steps) all.1 all.2 all.3 certificate))
 
 -- ---- a pair
 
 module _ (nets : Network × Network) (pair : Pair) (reply : Reply) (first : IsNetwork nets.0) (second : IsNetwork nets.1) (ends : HaveEqualEnds nets.0 nets.1)
     (shows : IsTrueOfBoth nets.0 nets.1 pair.first pair.second (ShowsDifference nets.0 nets.1)) (one : AreLowest pair.first) (other : AreLowest pair.second) where
   abbrev Says : Type 0
-  Says = (reply ≡ Ok answer.ShownDiffer) ⊎ ((which : Which) × (test : Test) × (place : ℕ) × (reply ≡ Ok (answer.WidePair which test place)))
+  Says = (reply ≡ Ok (answer.Brief brief.ShownDiffer)) ⊎ ((which : Which) × (test : Test) × (place : ℕ) × (reply ≡ Ok (answer.Brief (brief.WidePair which test place))))
 
   judged : (told : Result PairJudgement PairWide) → IsPairAnswer nets.0 nets.1 pair.first pair.second told → reply ≡ Ok (pair_verdict told) → Says
   judged told right e =

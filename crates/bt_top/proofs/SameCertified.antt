@@ -16,6 +16,7 @@ use Rattle.bt_same.proofs.Judged.{one_pair_answer}
 use Rattle.bt_same.proofs.PairTexts.{one_pair_read}
 use Rattle.bt_same.proofs.Refuted.{unmet_are_same}
 use Rattle.bt_top.specs.declared.answer.Answer.TheVariants as answer
+use Rattle.bt_top.specs.declared.answer.Brief.TheVariants as brief
 use Rattle.bt_top.specs.Certificates.{cert_told}
 use Rattle.bt_top.specs.Replies.{Reply, design_told}
 use Rattle.bt_top.specs.SameCertificates.{IsSameChecked, pair_verdict, IsPairJudged, IsPairTextJudged, IsSameTextChecked, IsSameCertificateChecked, IsSameCertified}
@@ -61,11 +62,11 @@ one_same_certified bytes =
 
 -- a certificate that is one shows that the networks behave the same
 pub same_shown : (a b : Network) (lines : List ℕ) → IsNetwork a → IsNetwork b → HaveEqualEnds a b → IsCertRead (same_formula a b) lines (Ok tt)
-    → IsSameChecked (a, b) lines (Ok answer.ShownSame)
+    → IsSameChecked (a, b) lines (Ok (answer.Brief brief.ShownSame))
 same_shown a b lines first second ends h = went_on tt h (unmet_are_same a b first second ends (certificate_shows_unmet (same_formula a b) lines (formed a b first second) h), refl)
 
 -- and else the first line for which it is none is told
 pub same_fault_told : (a b : Network) (lines : List ℕ) (fault : CertFault) (reply : Reply)
     → UnlessMemory Memory (IsCertRead (same_formula a b) lines) (Err fault) → reply ≡ cert_told fault → UnlessMemory alloc_error (IsSameChecked (a, b) lines) reply
 same_fault_told a b lines fault reply h e =
-    stops Memory alloc_error (IsCertRead (same_formula a b) lines) cert_told (λ done reply. AreSame a b × (reply ≡ Ok answer.ShownSame)) fault reply refl h e
+    stops Memory alloc_error (IsCertRead (same_formula a b) lines) cert_told (λ done reply. AreSame a b × (reply ≡ Ok (answer.Brief brief.ShownSame))) fault reply refl h e

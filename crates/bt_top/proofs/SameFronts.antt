@@ -14,6 +14,7 @@ use Rattle.bt_same.specs.PairReading.{pair_forms}
 use Rattle.bt_same.specs.SameFormula.{same_formula}
 use Rattle.bt_same.specs.Sameness.{HaveEqualEnds}
 use Rattle.bt_top.specs.declared.answer.Answer.TheVariants as answer
+use Rattle.bt_top.specs.declared.answer.Brief.TheVariants as brief
 use Rattle.bt_designs.specs.declared.fault.DesignFault.TheVariants.{Refused}
 use Rattle.bt_top.specs.declared.front.Front.TheVariants as front
 use Rattle.bt_top.specs.declared.front.Steps.{Steps}
@@ -33,7 +34,7 @@ use Rattle.bt_designs.proofs.TwoFollowed.{drop_past}
 -- ---- the designs
 
 -- a refusal of the first design
-pub first_refused : (all : List ℕ) (r : Refusal) → IsBareDesign all (Err (Refused r)) → IsSameCertified all (Ok (answer.Refused r))
+pub first_refused : (all : List ℕ) (r : Refusal) → IsBareDesign all (Err (Refused r)) → IsSameCertified all (Ok (answer.Brief (brief.Refused r)))
 first_refused all r h = stopped (Refused r) (stopped (Refused r) h refl) refl
 
 module _ (whole text : List ℕ) (used : ℕ) (skips : SkipsBlanks (drop used whole) text) where
@@ -77,18 +78,18 @@ module _ (a b : Network) (ended : Bool) (text title lines : List ℕ) (told : Te
 
   -- a first line that says same
   steps_reply : IsNetwork a → IsNetwork b → HaveEqualEnds a b → (all : List ℕ) (judged : Result (Unit {0}) CertFault) → IsCertRead (same_formula a b) all judged
-      → IsSameChecked nets all (steps_answer answer.ShownSame judged)
+      → IsSameChecked nets all (steps_answer brief.ShownSame judged)
   steps_reply left right ends all (Ok done) h = same_shown a b all left right ends h
   steps_reply left right ends all (Err fault) h = stopped fault h refl
 
-  pub same_is_front : IsNetwork a × IsNetwork b → HaveEqualEnds a b → title ≡ codes "same" → (steps : Steps) → steps.formula ≡ same_formula a b → steps.lines.now ≡ lines → steps.accepted ≡ answer.ShownSame
+  pub same_is_front : IsNetwork a × IsNetwork b → HaveEqualEnds a b → title ≡ codes "same" → (steps : Steps) → steps.formula ≡ same_formula a b → steps.lines.now ≡ lines → steps.accepted ≡ brief.ShownSame
       → IsFrontOf (IsSameTextChecked nets) ended text (front.Steps steps)
   same_is_front are ends says_so steps formula same accepted = (tt, λ more reply may h. by more reply may h.0 h.1 h.2)
     where
       by : (more : List ℕ) (reply : Reply) → MayFollow ended more → (judged : Result (Unit {0}) CertFault) → IsCertRead steps.formula (steps.lines.now ++ more) judged → reply ≡ steps_answer steps.accepted judged → IsSameTextChecked nets (text ++ more) reply
       by more reply may judged h e =
           let read : IsCertRead (same_formula a b) (lines ++ more) judged = subst (λ f. IsCertRead f (lines ++ more) judged) formula (subst (λ l. IsCertRead steps.formula (l ++ more) judged) same h) in
-          let right : IsSameChecked nets (lines ++ more) (steps_answer answer.ShownSame judged) = steps_reply are.0 are.1 ends (lines ++ more) judged read in
+          let right : IsSameChecked nets (lines ++ more) (steps_answer brief.ShownSame judged) = steps_reply are.0 are.1 ends (lines ++ more) judged read in
           let says : SaysSame (text ++ more) (lines ++ more) = subst (λ t. IsFirstLine (text ++ more) t (lines ++ more)) says_so (first more may) in
           inl (lines ++ more, says, subst (IsSameChecked nets (lines ++ more)) (sym (subst (λ x. reply ≡ steps_answer x judged) accepted e)) right)
 
@@ -109,8 +110,8 @@ module _ (a b : Network) (ended : Bool) (text title lines : List ℕ) (told : Te
   )
 
   -- another one than that and that of a written pair
-  pub other_is_front : (title ≡ codes "same" → ⊥) → (title ≡ codes "differ" → ⊥) → IsFrontOf (IsSameTextChecked nets) ended text (front.Known (answer.CertLine 1))
-  other_is_front not_same not_differ = known_front ended (IsSameTextChecked nets) text (answer.CertLine 1)
+  pub other_is_front : (title ≡ codes "same" → ⊥) → (title ≡ codes "differ" → ⊥) → IsFrontOf (IsSameTextChecked nets) ended text (front.Known (brief.CertLine 1))
+  other_is_front not_same not_differ = known_front ended (IsSameTextChecked nets) text (brief.CertLine 1)
       (λ more may.
       let cut = line_cuts (text ++ more) title (lines ++ more) (first more may) in
       inr (

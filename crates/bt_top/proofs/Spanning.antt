@@ -1,5 +1,5 @@
 -- Cells in rectangles.
-use Rattle.std.proofs.Common.{◌≡◌, ℕ, ◌*◌, ◌+◌, ◌^◌, ◌<◌, ◌≤◌, ℤ, pos, ◌+ℤ◌, ◌-ℤ◌, ◌≤ℤ◌, ◌<ℤ◌, List, [], ◌∷◌, ◌++◌, length, get_or, inl, inr, Contains, Option, Some, None, refl, sym, subst, ap, ◌∙◌, arith}
+use Rattle.std.proofs.Common.{◌≡◌, ℕ, ◌*◌, ◌+◌, ◌^◌, ◌≤◌, ℤ, pos, ◌+ℤ◌, ◌-ℤ◌, ◌≤ℤ◌, ◌<ℤ◌, List, [], ◌∷◌, ◌++◌, length, get_or, inl, inr, Contains, Option, Some, None, refl, sym, subst, ◌∙◌, arith}
 use native.Mathlib.Nat.{mul-le-mul}
 use Rattle.std.specs.Prelude.{All, min, slice_get, unsigned_abs, unwrap_or, ◌↔◌}
 use Rattle.std.specs.Int.{int_min, int_max}
@@ -14,7 +14,7 @@ use Rattle.bt_parts.specs.declared.part.Dir.TheVariants.{North, East, South, Wes
 use Rattle.bt_parts.specs.Cells.{Covers, IsGreaterHalf, IsInRange, IsInside, beside}
 use Rattle.bt_layout.specs.Grids.{area_of}
 use Rattle.bt_top.specs.Finding.{Holds, IsSpanned}
-use Rattle.bt_top.specs.declared.finding.Span.{Span}
+use Rattle.bt_top.specs.declared.smallest_found.Span.{Span}
 use Rattle.bt_top.specs.inner.Spans.{Encloses, IsBetween, IsNear, IsSpanOf}
 
 -- a cell as it is seen from a corner

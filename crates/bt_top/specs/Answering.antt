@@ -5,7 +5,7 @@ use Rattle.bt_words.specs.declared.command.Command.TheVariants.{FlowCheck, Recov
 use Rattle.bt_words.specs.declared.command.NetworkFamily.TheVariants.{Butterfly, Chain}
 use Rattle.bt_top.specs.declared.answer.Answer.{Answer}
 use Rattle.bt_top.specs.Answers.{status_of}
-use Rattle.bt_top.specs.Certificates.{IsCertified}
+use Rattle.bt_top.specs.Certificates.{IsChecked}
 use Rattle.bt_top.specs.Comparing.{IsComparedFrom}
 use Rattle.bt_top.specs.Deciding.{IsDecidedFrom}
 use Rattle.bt_top.specs.Finding.{IsFoundFrom}
@@ -17,13 +17,13 @@ use Rattle.bt_top.specs.Recovering.{IsRecoveredFrom}
 use Rattle.bt_top.specs.Replies.{Reply}
 use Rattle.bt_top.specs.SameCertificates.{IsSameCertified}
 use Rattle.bt_top.specs.Searching.{IsSearchedFrom}
-use Rattle.bt_top.specs.States.{IsChecked}
+use Rattle.bt_top.specs.States.{IsFlowChecked}
 
 -- what a command answers to bytes that are its whole input
 abbrev pub IsRightTo : Command → List ℕ → Reply → Type 0
-IsRightTo (FlowCheck p) bytes = IsChecked p bytes
+IsRightTo (FlowCheck p) bytes = IsFlowChecked p bytes
 IsRightTo Recover bytes = IsRecoveredFrom bytes
-IsRightTo (Check p) bytes = IsCertified p bytes
+IsRightTo (Check p) bytes = IsChecked p bytes
 IsRightTo (Decide p limits) bytes = IsDecidedFrom p limits bytes
 IsRightTo (Make family order limits) bytes = IsMade family order limits
 IsRightTo (Layout rect tier learnt) bytes = IsLaidOutFrom rect tier learnt bytes

@@ -24,9 +24,13 @@ use Rattle.bt_trail.specs.TrailText.{pivots_text, wide_text}
 use Rattle.bt_write.specs.Written.{blueprint_text}
 use Rattle.bt_words.specs.declared.command.NetworkFamily.{NetworkFamily}
 use Rattle.bt_words.specs.declared.command.NetworkFamily.TheVariants.{Butterfly, Chain}
-use Rattle.bt_top.specs.declared.making.Made as making
+use Rattle.bt_top.specs.declared.make.Made as making
+use Rattle.bt_extend.specs.Texts.{definitions_text}
+use Rattle.bt_extend.specs.declared.definition.Definition.{Definition}
 use Rattle.bt_top.specs.declared.answer.Answer.{Answer}
-use Rattle.bt_top.specs.declared.answer.Answer.TheVariants.{Breaks, Yes, No, Recovered, Proved, Broken, GaveUp, Made, LaidOut, Nowhere, NoLayout, Least, Small, Usage, Refused, WideState, CertLine, BadStep, NoVerdict, CertWide, NotBreaking, TooLong, FlowFormula, PlaceFormula, Same, Differ, ShownSame, ShownDiffer, NotDiffering, WidePair}
+use Rattle.bt_top.specs.declared.answer.Answer.TheVariants.{Brief, Usage, TooLong, Recovered, Proved, Broken, GaveUp, Undecided, Made, LaidOut, Nowhere, Least, Small, FlowFormula, PlaceFormula, Same, Differ}
+use Rattle.bt_top.specs.declared.answer.Brief as short
+use Rattle.bt_top.specs.declared.answer.Brief.TheVariants.{Breaks, Yes, No, NoLayout, ShownSame, ShownDiffer, Refused, WideState, WidePair, CertLine, BadStep, NoVerdict, CertWide, NotBreaking, NotDiffering}
 use Rattle.bt_designs.specs.Refusals.{refusal_text}
 
 -- the status of a network that was made: 0 where it is balanced, and 1 where it isn't
@@ -50,38 +54,43 @@ abbrev pub small_status : ASmall → ℕ
 small_status (small.Found grid parts steps) = 0
 small_status (small.Spent steps) = 4
 
+-- the status of an answer that is said in one line
+abbrev pub brief_status : short.Brief → ℕ
+brief_status (Breaks p) = 0
+brief_status (Yes p) = 0
+brief_status (No p) = 1
+brief_status NoLayout = 1
+brief_status ShownSame = 0
+brief_status ShownDiffer = 1
+brief_status (Refused r) = 3
+brief_status (WideState t a) = 5
+brief_status (WidePair which t a) = 5
+brief_status (CertLine k) = 9
+brief_status (BadStep k cause) = 9
+brief_status NoVerdict = 9
+brief_status (CertWide k row column) = 9
+brief_status (NotBreaking t a) = 9
+brief_status (NotDiffering which t a) = 9
+
 -- the status of an answer
 abbrev pub status_of : Answer → ℕ
-status_of (Breaks p) = 0
-status_of (Yes p) = 0
-status_of (No p) = 1
+status_of (Brief b) = brief_status b
+status_of Usage = 2
+status_of TooLong = 11
 status_of (Recovered n) = 0
-status_of (Proved p log) = 0
+status_of (Proved p definitions log) = 0
 status_of (Broken p state) = 1
 status_of (GaveUp cause) = gave_up_status cause
+status_of (Undecided definitions cause) = gave_up_status cause
 status_of (Made made) = made_status made
 status_of (LaidOut parts) = 0
 status_of (Nowhere log) = 1
-status_of NoLayout = 1
 status_of (Least first found) = least_status found
 status_of (Small found) = small_status found
-status_of Usage = 2
-status_of (Refused r) = 3
-status_of (WideState t a) = 5
-status_of (CertLine k) = 9
-status_of (BadStep k cause) = 9
-status_of NoVerdict = 9
-status_of (CertWide k row column) = 9
-status_of (NotBreaking t a) = 9
-status_of TooLong = 11
 status_of (FlowFormula columns f) = 0
 status_of (PlaceFormula starts f) = 0
-status_of (Same log) = 0
+status_of (Same definitions log) = 0
 status_of (Differ pair) = 1
-status_of ShownSame = 0
-status_of ShownDiffer = 1
-status_of (NotDiffering which t a) = 9
-status_of (WidePair which t a) = 5
 
 -- the word for why a step isn't valid
 abbrev pub cause_name : Cause → List ℕ
@@ -106,23 +115,27 @@ made_text made =
     line (family_name made.family ++ codes " " ++ decimal made.order) ++ line (codes "edges " ++ decimal made.edges)
     ++ line (codes "outputs " ++ decimal made.outputs) ++ line (balance_word made.balanced ++ codes " balanced")
 
--- the yes certificate for a property: `yes` and its name, and the steps of the log
-abbrev pub proved_text : Property → List Step → List ℕ
-proved_text p steps = line (codes "yes " ++ property_name p) ++ log_text steps
+-- the lines of definitions, and the steps of a log
+abbrev pub steps_text : List Definition → List Step → List ℕ
+steps_text definitions steps = definitions_text definitions ++ log_text steps
 
--- the certificate that two networks behave the same: `same`, and the steps of the log
-abbrev pub same_text : List Step → List ℕ
-same_text steps = line (codes "same") ++ log_text steps
+-- the yes certificate for a property: `yes` and its name, the definitions, and the steps of the log
+abbrev pub proved_text : Property → List Definition → List Step → List ℕ
+proved_text p definitions steps = line (codes "yes " ++ property_name p) ++ steps_text definitions steps
 
--- the text of a log that is used up: `spent` and the number of its steps, and the steps
-abbrev pub spent_text : List Step → List ℕ
-spent_text steps = line (codes "spent " ++ decimal (length steps)) ++ log_text steps
+-- the certificate that two networks behave the same: `same`, the definitions, and the steps of the log
+abbrev pub same_text : List Definition → List Step → List ℕ
+same_text definitions steps = line (codes "same") ++ steps_text definitions steps
+
+-- the text of a log that is used up: `spent` and the number of its steps, the definitions, and the steps
+abbrev pub spent_text : List Definition → List Step → List ℕ
+spent_text definitions steps = line (codes "spent " ++ decimal (length steps)) ++ steps_text definitions steps
 
 -- the text where a search was given up
-abbrev pub gave_up_text : gave.GaveUp → List ℕ
-gave_up_text (Spent log) = spent_text log.steps
-gave_up_text (Wide wide) = wide_text wide
-gave_up_text (Pivots trail) = pivots_text trail
+abbrev pub gave_up_text : List Definition → gave.GaveUp → List ℕ
+gave_up_text definitions (Spent log) = spent_text definitions log.steps
+gave_up_text definitions (Wide wide) = wide_text wide
+gave_up_text definitions (Pivots trail) = pivots_text trail
 
 -- the word for what of a pair a test is of, and a space; of both states together there is none
 abbrev pub which_text : Which → List ℕ
@@ -130,35 +143,40 @@ which_text First = codes "first "
 which_text Second = codes "second "
 which_text Kept = []
 
+-- the line of an answer that is said in one
+abbrev pub brief_text : short.Brief → List ℕ
+brief_text (Breaks p) = line (codes "breaks " ++ property_name p)
+brief_text (Yes p) = line (codes "yes " ++ property_name p)
+brief_text (No p) = line (codes "no " ++ property_name p)
+brief_text NoLayout = line none_word
+brief_text ShownSame = line (codes "same")
+brief_text ShownDiffer = line (codes "differ")
+brief_text (Refused r) = line (codes "refused " ++ refusal_text r)
+brief_text (WideState t a) = line (codes "wide state " ++ test_name t ++ codes " " ++ decimal a)
+brief_text (WidePair which t a) = line (codes "wide " ++ which_text which ++ test_name t ++ codes " " ++ decimal a)
+brief_text (CertLine k) = line (codes "refused 50 CertLine " ++ decimal k)
+brief_text (BadStep k cause) = line (codes "refused 51 BadStep " ++ decimal k ++ codes " " ++ cause_name cause)
+brief_text NoVerdict = line (codes "refused 52 NoVerdict")
+brief_text (CertWide k row column) = line (codes "refused 53 CertWide " ++ decimal k ++ codes " " ++ decimal row ++ codes " " ++ decimal column)
+brief_text (NotBreaking t a) = line (codes "refused 54 NotBreaking " ++ test_name t ++ codes " " ++ decimal a)
+brief_text (NotDiffering which t a) = line (codes "refused 54 NotBreaking " ++ which_text which ++ test_name t ++ codes " " ++ decimal a)
+
 -- the text of an answer
 abbrev pub text_of : Answer → List ℕ
-text_of (Breaks p) = line (codes "breaks " ++ property_name p)
-text_of (Yes p) = line (codes "yes " ++ property_name p)
-text_of (No p) = line (codes "no " ++ property_name p)
+text_of (Brief b) = brief_text b
+text_of Usage = line (codes "usage")
+text_of TooLong = line (codes "too long")
 text_of (Recovered n) = net_text n
-text_of (Proved p log) = proved_text p log.steps
+text_of (Proved p definitions log) = proved_text p definitions.items log.steps
 text_of (Broken p state) = printed_state p state
-text_of (GaveUp cause) = gave_up_text cause
+text_of (GaveUp cause) = gave_up_text [] cause
+text_of (Undecided definitions cause) = gave_up_text definitions.items cause
 text_of (Made made) = made_text made
 text_of (LaidOut parts) = blueprint_text parts.items
 text_of (Nowhere log) = nowhere_text log.steps
-text_of NoLayout = line none_word
 text_of (Least first found) = smallest_text first found
 text_of (Small found) = small_text found
-text_of Usage = line (codes "usage")
-text_of (Refused r) = line (codes "refused " ++ refusal_text r)
-text_of (WideState t a) = line (codes "wide state " ++ test_name t ++ codes " " ++ decimal a)
-text_of (CertLine k) = line (codes "refused 50 CertLine " ++ decimal k)
-text_of (BadStep k cause) = line (codes "refused 51 BadStep " ++ decimal k ++ codes " " ++ cause_name cause)
-text_of NoVerdict = line (codes "refused 52 NoVerdict")
-text_of (CertWide k row column) = line (codes "refused 53 CertWide " ++ decimal k ++ codes " " ++ decimal row ++ codes " " ++ decimal column)
-text_of (NotBreaking t a) = line (codes "refused 54 NotBreaking " ++ test_name t ++ codes " " ++ decimal a)
-text_of TooLong = line (codes "too long")
 text_of (FlowFormula columns f) = flow_formula_text columns f
 text_of (PlaceFormula starts f) = place_formula_text starts f
-text_of (Same log) = same_text log.steps
+text_of (Same definitions log) = same_text definitions.items log.steps
 text_of (Differ pair) = printed_pair pair
-text_of ShownSame = line (codes "same")
-text_of ShownDiffer = line (codes "differ")
-text_of (NotDiffering which t a) = line (codes "refused 54 NotBreaking " ++ which_text which ++ test_name t ++ codes " " ++ decimal a)
-text_of (WidePair which t a) = line (codes "wide " ++ which_text which ++ test_name t ++ codes " " ++ decimal a)

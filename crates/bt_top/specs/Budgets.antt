@@ -4,6 +4,9 @@ use Rattle.bt_io.specs.Passages.{Passage}
 use Rattle.bt_flow.specs.declared.property.Property.TheVariants.{Balanced}
 use Rattle.bt_net.specs.Network.{Network}
 use Rattle.bt_cnf.specs.Formulas.{FormulaParts}
+use Rattle.bt_extend.specs.Extending.{extended}
+use Rattle.bt_extend.specs.declared.definition.Definition.{Definition}
+use Rattle.bt_decide.specs.Verdicts.{AreMade, splitters_of_both}
 use Rattle.bt_fenc.specs.FlowFormula.{flow_formula}
 use Rattle.bt_gen.specs.Chain.{chain_net}
 use Rattle.bt_same.specs.SameFormula.{same_formula}
@@ -32,15 +35,20 @@ use Rattle.bt_designs.specs.TwoDesigns.{IsTwoNets}
 abbrev pub IsAmple : FormulaParts → ℕ → Type 0
 IsAmple f learnt = 3 ^ f.vars ≤ learnt
 
+-- so many steps may be logged in deciding the formula of so many splitters, whatever definitions are made for it
+abbrev pub IsAmpleFor : ℕ → FormulaParts → ℕ → Type 0
+IsAmpleFor splitters f learnt = (definitions : List Definition) → AreMade splitters f definitions → IsAmple (extended f definitions) learnt
+
 -- the command may log that many steps of the formula that it decides: the flow formula of the design's network or of the chain that is made, or the placement formula of the request, or of the network on each grid that isn't passed by, or the formula of two networks; a butterfly takes none
 abbrev pub HasAmple : Command → List ℕ → Type 0
-HasAmple (Decide p limits) bytes = (n : Network) × IsLoneNet bytes (Ok n) × IsAmple (flow_formula n p) limits.learnt
+HasAmple (Decide p limits) bytes = (n : Network) × IsLoneNet bytes (Ok n) × IsAmpleFor n.splitters (flow_formula n p) limits.learnt
 HasAmple (Make Butterfly order limits) bytes = Unit {0}
-HasAmple (Make Chain order limits) bytes = IsAmple (flow_formula (chain_net order) Balanced) limits.learnt
+HasAmple (Make Chain order limits) bytes = IsAmpleFor (chain_net order).splitters (flow_formula (chain_net order) Balanced) limits.learnt
 HasAmple (Layout rect tier learnt) bytes = (r : LayoutRequest) × IsLoneRequest rect tier bytes (Ok r) × IsAmple (place_formula r) learnt
 HasAmple (Smallest first most tier learnt) bytes =
     (r : LayoutRequest) × IsSidedRequest most tier bytes (Ok r) × ((grid : Rect) → IsWithin most grid → (IsSkipped first grid → ⊥) → IsAmple (place_formula (request_on r grid)) learnt)
-HasAmple (Same limits) bytes = (nets : Network × Network) × IsTwoNets bytes (Ok nets) × IsAmple (same_formula nets.0 nets.1) limits.learnt
+HasAmple (Same limits) bytes =
+    (nets : Network × Network) × IsTwoNets bytes (Ok nets) × IsAmpleFor (splitters_of_both nets.0 nets.1) (same_formula nets.0 nets.1) limits.learnt
 HasAmple other bytes = ⊥
 
 -- then no answer whose status says that the steps are used up is right

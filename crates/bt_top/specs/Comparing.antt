@@ -13,9 +13,9 @@ use Rattle.bt_designs.specs.TwoDesigns.{IsTwoNets}
 
 -- what is answered to a verdict on two networks
 abbrev pub same_told : SameVerdict → Answer
-same_told (Yes log) = answer.Same log
+same_told (Yes definitions log) = answer.Same definitions log
 same_told (No pair) = answer.Differ pair
-same_told (GaveUp cause) = answer.GaveUp cause
+same_told (GaveUp definitions cause) = answer.Undecided definitions cause
 
 -- what is answered to two networks: a verdict that is right of them, within the limits
 abbrev pub IsCompared : Limits → Network × Network → Reply → Type 0

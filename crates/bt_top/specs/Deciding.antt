@@ -14,9 +14,9 @@ use Rattle.bt_designs.specs.Steps.{InTurn}
 
 -- what is answered to a verdict on a property
 abbrev pub verdict_told : Property → Verdict → Answer
-verdict_told p (Yes log) = answer.Proved p log
+verdict_told p (Yes definitions log) = answer.Proved p definitions log
 verdict_told p (No state) = answer.Broken p state
-verdict_told p (GaveUp cause) = answer.GaveUp cause
+verdict_told p (GaveUp definitions cause) = answer.Undecided definitions cause
 
 -- what is answered to a network: a verdict that is right of it and the property, within the limits
 abbrev pub IsDecided : Network → Property → Limits → Reply → Type 0

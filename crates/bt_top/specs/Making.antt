@@ -18,6 +18,7 @@ use Rattle.bt_words.specs.declared.command.NetworkFamily.{NetworkFamily}
 use Rattle.bt_words.specs.declared.command.NetworkFamily.TheVariants.{Butterfly, Chain}
 use Rattle.bt_top.specs.declared.answer.Answer.{Answer}
 use Rattle.bt_top.specs.declared.answer.Answer.TheVariants as answer
+use Rattle.bt_top.specs.declared.answer.Brief.TheVariants as brief
 use Rattle.bt_designs.specs.declared.refusal.Refusal.TheVariants as refusal
 use Rattle.bt_top.specs.Replies.{Reply}
 use Rattle.bt_designs.specs.Steps.{InTurn}
@@ -29,13 +30,13 @@ made_of family order n balanced =
 
 -- what is answered to a verdict on the balance of a chain
 abbrev pub balance_told : ℕ → Network → Verdict → Answer
-balance_told order n (Yes log) = made_of Chain order n true
+balance_told order n (Yes definitions log) = made_of Chain order n true
 balance_told order n (No state) = made_of Chain order n false
-balance_told order n (GaveUp cause) = answer.GaveUp cause
+balance_told order n (GaveUp definitions cause) = answer.Undecided definitions cause
 
 -- the refusal of an order
 abbrev pub gen_told : GenFault → Reply
-gen_told (Order order) = Ok (answer.Refused (refusal.Order order))
+gen_told (Order order) = Ok (answer.Brief (brief.Refused (refusal.Order order)))
 gen_told Memory = Err alloc_error
 
 -- what is answered to a butterfly: that it is balanced, which each one is

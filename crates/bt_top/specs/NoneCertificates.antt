@@ -11,6 +11,7 @@ use Rattle.bt_layout.specs.Layouts.{HasNoLayout}
 use Rattle.bt_cert.specs.Certificates.{IsCertRead}
 use Rattle.bt_theory.specs.Outcomes.{IsRefutation}
 use Rattle.bt_top.specs.declared.answer.Answer.TheVariants as answer
+use Rattle.bt_top.specs.declared.answer.Brief.TheVariants as brief
 use Rattle.bt_top.specs.Answers.{none_word, nowhere_text}
 use Rattle.bt_top.specs.Certificates.{cert_told}
 use Rattle.bt_top.specs.Replies.{Reply, design_told}
@@ -23,12 +24,12 @@ SaysNone text lines = IsFirstLine text none_word lines
 
 -- what is answered to the lines of steps: that there is no layout, and then no parts lay the request; or the first line for which the steps are no certificate
 abbrev pub IsNoneChecked : LayoutRequest → List ℕ → Reply → Type 0
-IsNoneChecked r lines = InTurn (IsCertRead (place_formula r) lines) cert_told (λ done reply. HasNoLayout r × (reply ≡ Ok answer.NoLayout))
+IsNoneChecked r lines = InTurn (IsCertRead (place_formula r) lines) cert_told (λ done reply. HasNoLayout r × (reply ≡ Ok (answer.Brief brief.NoLayout)))
 
 -- what is answered to a certificate: the answer to its steps where its first line says none, and else that this line isn't one that belongs there
 abbrev pub IsNoneTextChecked : LayoutRequest → List ℕ → Reply → Type 0
 IsNoneTextChecked r text reply = ((lines : List ℕ) × SaysNone text lines × IsNoneChecked r lines reply)
-    ⊎ (((lines : List ℕ) → SaysNone text lines → ⊥) × (reply ≡ Ok (answer.CertLine 1)))
+    ⊎ (((lines : List ℕ) → SaysNone text lines → ⊥) × (reply ≡ Ok (answer.Brief (brief.CertLine 1))))
 
 -- what is answered to what follows a request: behind blanks, the answer to the certificate
 abbrev pub IsNoneCertificateChecked : LayoutRequest → List ℕ → Reply → Type 0
@@ -41,4 +42,4 @@ IsLayoutChecked rect tier bytes = InTurn (IsFrontRequest rect tier bytes) design
 -- what is written where a log soundly refutes the placement formula of a request is accepted behind that request and a line feed, where the log has fewer than 10 ^ 17 steps
 abbrev pub NoneIsAccepted : Type 0
 NoneIsAccepted = (r : LayoutRequest) (steps : List Step) → IsRequest r → IsRefutation (place_formula r) steps → length steps < 10 ^ 17
-    → IsNoneCertificateChecked r (10 ∷ nowhere_text steps) (Ok answer.NoLayout)
+    → IsNoneCertificateChecked r (10 ∷ nowhere_text steps) (Ok (answer.Brief brief.NoLayout))

@@ -7,6 +7,7 @@ use Rattle.bt_layout.specs.declared.outcome.Smallest.{Smallest}
 use Rattle.bt_layout.specs.declared.outcome.Smallest.TheVariants.{Found, Nowhere, Spent}
 use Rattle.bt_layout.specs.SmallestText.{nowhere_text, earlier_text, from_line}
 use Rattle.bt_top.specs.declared.answer.Answer.TheVariants as answer
+use Rattle.bt_top.specs.declared.answer.Brief.TheVariants as brief
 use Rattle.bt_designs.specs.declared.held.TheConstants.{MOST_CHECKED}
 use Rattle.bt_top.specs.Answers.{text_of}
 use Rattle.bt_top.specs.NoneCertificates.{IsLayoutChecked}
@@ -21,7 +22,7 @@ certified_in (Spent earlier grid log) = []
 -- behind the network text, the certificate of a grid is accepted with this grid and the tier, where both aren't more than `check-layout` reads
 abbrev pub IsAccepted : Tier → List ℕ → RuledOut → Type 0
 IsAccepted tier bytes one = length (bytes ++ 10 ∷ nowhere_text one.log.steps) ≤ MOST_CHECKED
-    → IsLayoutChecked one.grid tier (bytes ++ 10 ∷ nowhere_text one.log.steps) (Ok answer.NoLayout)
+    → IsLayoutChecked one.grid tier (bytes ++ 10 ∷ nowhere_text one.log.steps) (Ok (answer.Brief brief.NoLayout))
 
 -- the text begins with the line of the first grid, where one is named, and the lines and certificates of these
 abbrev pub BeginsWithGrids : Option Rect → List ℕ → List RuledOut → Type 0

@@ -3,6 +3,7 @@ use Rattle.std.specs.Prelude.{Result, Ok, Err, alloc_error}
 use Rattle.std.specs.declared.alloc.AllocError.{AllocError}
 use Rattle.bt_top.specs.declared.answer.Answer.{Answer}
 use Rattle.bt_top.specs.declared.answer.Answer.TheVariants as answer
+use Rattle.bt_top.specs.declared.answer.Brief.TheVariants as brief
 use Rattle.bt_designs.specs.declared.fault.DesignFault.{DesignFault}
 use Rattle.bt_designs.specs.declared.fault.DesignFault.TheVariants as design
 
@@ -12,5 +13,5 @@ Reply = Result Answer AllocError
 
 -- the refusal of a design
 abbrev pub design_told : DesignFault → Reply
-design_told (design.Refused r) = Ok (answer.Refused r)
+design_told (design.Refused r) = Ok (answer.Brief (brief.Refused r))
 design_told design.Memory = Err alloc_error

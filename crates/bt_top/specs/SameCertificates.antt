@@ -14,6 +14,7 @@ use Rattle.bt_same.specs.SameFormula.{same_formula}
 use Rattle.bt_same.specs.Sameness.{AreSame}
 use Rattle.bt_top.specs.declared.answer.Answer.{Answer}
 use Rattle.bt_top.specs.declared.answer.Answer.TheVariants as answer
+use Rattle.bt_top.specs.declared.answer.Brief.TheVariants as brief
 use Rattle.bt_top.specs.Certificates.{cert_told}
 use Rattle.bt_top.specs.Replies.{Reply, design_told}
 use Rattle.bt_top.specs.States.{state_told}
@@ -26,13 +27,13 @@ SaysSame text lines = IsFirstLine text (codes "same") lines
 
 -- what is answered to the lines of steps: that the networks behave the same; or the first line for which the steps are no certificate
 abbrev pub IsSameChecked : Network × Network → List ℕ → Reply → Type 0
-IsSameChecked nets lines = InTurn (IsCertRead (same_formula nets.0 nets.1) lines) cert_told (λ done reply. AreSame nets.0 nets.1 × (reply ≡ Ok answer.ShownSame))
+IsSameChecked nets lines = InTurn (IsCertRead (same_formula nets.0 nets.1) lines) cert_told (λ done reply. AreSame nets.0 nets.1 × (reply ≡ Ok (answer.Brief brief.ShownSame)))
 
 -- the verdict on a pair of states: that it shows a difference, the first test that it fails and at which place, or a sum that leaves 128 bits
 abbrev pub pair_verdict : Result PairJudgement PairWide → Answer
-pair_verdict (Ok Holds) = answer.ShownDiffer
-pair_verdict (Ok (Fails which test place)) = answer.NotDiffering which test place
-pair_verdict (Err wide) = answer.WidePair wide.place wide.sum.test wide.sum.place
+pair_verdict (Ok Holds) = answer.Brief brief.ShownDiffer
+pair_verdict (Ok (Fails which test place)) = answer.Brief (brief.NotDiffering which test place)
+pair_verdict (Err wide) = answer.Brief (brief.WidePair wide.place wide.sum.test wide.sum.place)
 
 -- what is answered to a pair of states of the networks: the verdict on it
 abbrev pub IsPairJudged : Network × Network → Pair → Reply → Type 0

@@ -11,35 +11,36 @@ use Rattle.bt_flow.specs.declared.property.Property.{Property}
 use Rattle.bt_flow.specs.Judging.{IsBreakingAnswer}
 use Rattle.bt_flow.specs.States.{Fractions}
 use Rattle.bt_flow.specs.StateReading.{IsStateRead}
-use Rattle.bt_top.specs.declared.answer.Answer.{Answer}
 use Rattle.bt_top.specs.declared.answer.Answer.TheVariants as answer
+use Rattle.bt_top.specs.declared.answer.Brief.{Brief}
+use Rattle.bt_top.specs.declared.answer.Brief.TheVariants as brief
 use Rattle.bt_designs.specs.Designs.{IsDesign}
 use Rattle.bt_top.specs.Replies.{Reply, design_told}
 use Rattle.bt_designs.specs.Steps.{InTurn}
 
 -- the line at which a text stops to be that of a state
 abbrev pub state_told : StateFault → Reply
-state_told (state.CertLine k) = Ok (answer.CertLine k)
+state_told (state.CertLine k) = Ok (answer.Brief (brief.CertLine k))
 state_told state.Memory = Err alloc_error
 
 -- the verdict on a state: this answer where it breaks the property, the first test that it fails and at which place, or a sum that leaves 128 bits
-abbrev pub verdict : Answer → Result Judgement WideSum → Answer
+abbrev pub verdict : Brief → Result Judgement WideSum → Brief
 verdict broken (Ok Passes) = broken
-verdict broken (Ok (Fails test place)) = answer.NotBreaking test place
-verdict broken (Err wide) = answer.WideState wide.test wide.place
+verdict broken (Ok (Fails test place)) = brief.NotBreaking test place
+verdict broken (Err wide) = brief.WideState wide.test wide.place
 
 -- what is answered to a state of the network: the verdict on it
-abbrev pub IsJudged : Network → Property → Answer → Fractions → Reply → Type 0
-IsJudged n p broken t reply = (told : Result Judgement WideSum) × IsBreakingAnswer n p t told × (reply ≡ Ok (verdict broken told))
+abbrev pub IsJudged : Network → Property → Brief → Fractions → Reply → Type 0
+IsJudged n p broken t reply = (told : Result Judgement WideSum) × IsBreakingAnswer n p t told × (reply ≡ Ok (answer.Brief (verdict broken told)))
 
 -- what is answered to a text: the first line that isn't that of a state which is written for the property, or the verdict on the state
-abbrev pub IsStateJudged : Network → Property → Answer → List ℕ → Reply → Type 0
+abbrev pub IsStateJudged : Network → Property → Brief → List ℕ → Reply → Type 0
 IsStateJudged n p broken text = InTurn (IsStateRead n p text) state_told (IsJudged n p broken)
 
 -- what is answered to what follows a design: behind blanks, the answer to the text of a state
 abbrev pub IsStateChecked : Network → Property → List ℕ → Reply → Type 0
-IsStateChecked n p rest reply = (text : List ℕ) × SkipsBlanks rest text × IsStateJudged n p (answer.Breaks p) text reply
+IsStateChecked n p rest reply = (text : List ℕ) × SkipsBlanks rest text × IsStateJudged n p (brief.Breaks p) text reply
 
 -- what `flow-check` answers to bytes: the refusal of the design at their front, or what is answered to what follows it
-abbrev pub IsChecked : Property → List ℕ → Reply → Type 0
-IsChecked p bytes = InTurn (IsDesign bytes) design_told (λ found. IsStateChecked found.0 p (drop found.1 bytes))
+abbrev pub IsFlowChecked : Property → List ℕ → Reply → Type 0
+IsFlowChecked p bytes = InTurn (IsDesign bytes) design_told (λ found. IsStateChecked found.0 p (drop found.1 bytes))

@@ -1,13 +1,14 @@
 //! The answers of the program. Each has a status and a text.
 ghost use Rattle.std.specs.Prelude.{◌≡◌};
-ghost use Rattle.bt_top.specs.Answers.{gave_up_status, least_status, small_status, status_of};
+ghost use Rattle.bt_top.specs.Answers.{brief_status, gave_up_status, least_status, small_status, status_of};
 ghost use Rattle.bt_top.specs.Replies.{design_told};
 
-use crate::making::Made;
+use crate::make::Made;
 use bt_cert::Cause;
 use bt_cnf::Formula;
 use bt_designs::{DesignFault, Refusal};
 use bt_dimacs::Columns;
+use bt_extend::Definition;
 use bt_flow::{Property, State, Test};
 use bt_layout::{Small, Smallest};
 use bt_log::Log;
@@ -18,42 +19,27 @@ use bt_same::{Pair, Which};
 use bt_theory::GaveUp;
 use std::alloc::AllocError;
 
-/// What a command answers, once its words and its input are known.
-#[derive(Drop)]
-pub enum Answer {
+/// An answer whose text is one line that has to be formed: words, and numbers and names that are said with them.
+#[derive(Clone, Copy)]
+pub enum Brief {
     /// The read state breaks the property.
     Breaks(Property),
     /// The certificate shows that the design's network has the property.
     Yes(Property),
     /// The certificate's state breaks the property.
     No(Property),
-    /// The design has this network.
-    Recovered(Net),
-    /// The design's network has the property, which the log shows.
-    Proved(Property, Log),
-    /// The state of the design's network breaks the property.
-    Broken(Property, State),
-    /// The search was given up.
-    GaveUp(GaveUp),
-    /// Whether a network that was made is balanced.
-    Made(Made),
-    /// The parts lay the request.
-    LaidOut(Vec<Part>),
-    /// No parts lay the request, which the log shows.
-    Nowhere(Log),
     /// The certificate shows that no parts lay the request.
     NoLayout,
-    /// With which grid a search for the least grid began on which parts show a network, where one was named, and what it
-    /// came to.
-    Least(Option<Rect>, Smallest),
-    /// What looking for small grids on which parts show a network comes to.
-    Small(Small),
-    /// The words are no command.
-    Usage,
+    /// The certificate shows that the networks of the designs behave the same.
+    ShownSame,
+    /// The certificate's pair of states shows that they differ.
+    ShownDiffer,
     /// The design is refused.
     Refused(Refusal),
     /// A sum that a test at a place needs leaves 128 bits.
     WideState(Test, usize),
+    /// A sum that a test of a state of the pair needs, at a place, leaves 128 bits.
+    WidePair(Which, Test, usize),
     /// This line, from 1, isn't one of a written state or of a certificate that belongs there.
     CertLine(usize),
     /// The step on this line isn't valid.
@@ -64,24 +50,68 @@ pub enum Answer {
     CertWide(usize, usize, usize),
     /// The read state doesn't break the property: the first test that fails, and its place.
     NotBreaking(Test, usize),
+    /// The read pair shows no difference: of what the first test is that fails, which it is, and its place.
+    NotDiffering(Which, Test, usize),
+}
+
+/// What a command answers, once its words and its input are known.
+#[derive(Drop)]
+pub enum Answer {
+    /// What is said in one line.
+    Brief(Brief),
+    /// The words are no command.
+    Usage,
     /// The input is longer than the command reads.
     TooLong,
+    /// The design has this network.
+    Recovered(Net),
+    /// The design's network has the property, which the log shows over the formula that the definitions extend.
+    Proved(Property, Vec<Definition>, Log),
+    /// The state of the design's network breaks the property.
+    Broken(Property, State),
+    /// The search for a layout was given up.
+    GaveUp(GaveUp),
+    /// Deciding was given up. A log is over the formula that the definitions extend.
+    Undecided(Vec<Definition>, GaveUp),
+    /// Whether a network that was made is balanced.
+    Made(Made),
+    /// The parts lay the request.
+    LaidOut(Vec<Part>),
+    /// No parts lay the request, which the log shows.
+    Nowhere(Log),
+    /// With which grid a search for the least grid began on which parts show a network, where one was named, and what it
+    /// came to.
+    Least(Option<Rect>, Smallest),
+    /// What looking for small grids on which parts show a network comes to.
+    Small(Small),
     /// The flow formula of the design's network and a property.
     FlowFormula(Columns, Formula),
     /// The placement formula of the request, and where the blocks of its variables begin.
     PlaceFormula(Starts, Formula),
-    /// The networks of the designs behave the same, which the log shows.
-    Same(Log),
+    /// The networks of the designs behave the same, which the log shows over the formula that the definitions extend.
+    Same(Vec<Definition>, Log),
     /// The pair of states shows that the networks of the designs differ.
     Differ(Pair),
-    /// The certificate shows that the networks of the designs behave the same.
-    ShownSame,
-    /// The certificate's pair of states shows that they differ.
-    ShownDiffer,
-    /// The read pair shows no difference: of what the first test is that fails, which it is, and its place.
-    NotDiffering(Which, Test, usize),
-    /// A sum that a test of a state of the pair needs, at a place, leaves 128 bits.
-    WidePair(Which, Test, usize),
+}
+
+impl Brief {
+    /// The status with which the program ends, but for a fault of the sink or want of memory.
+    pub fn status(self) -> u8
+        ensures { result ≡ brief_status self }
+    {
+        match self {
+            Brief::Breaks(_) | Brief::Yes(_) | Brief::ShownSame => 0,
+            Brief::No(_) | Brief::NoLayout | Brief::ShownDiffer => 1,
+            Brief::Refused(_) => 3,
+            Brief::WideState(..) | Brief::WidePair(..) => 5,
+            Brief::CertLine(_)
+            | Brief::BadStep(..)
+            | Brief::NoVerdict
+            | Brief::CertWide(..)
+            | Brief::NotBreaking(..)
+            | Brief::NotDiffering(..) => 9,
+        }
+    }
 }
 
 impl Answer {
@@ -90,35 +120,20 @@ impl Answer {
         ensures { result ≡ status_of self.now }
     {
         match self {
-            Answer::Breaks(_)
-            | Answer::Yes(_)
-            | Answer::Recovered(_)
+            Answer::Brief(brief) => brief.status(),
+            Answer::Usage => 2,
+            Answer::TooLong => 11,
+            Answer::Recovered(_)
             | Answer::Proved(..)
             | Answer::LaidOut(_)
             | Answer::FlowFormula(..)
             | Answer::PlaceFormula(..)
-            | Answer::Same(_)
-            | Answer::ShownSame => 0,
-            Answer::No(_)
-            | Answer::Broken(..)
-            | Answer::Nowhere(_)
-            | Answer::NoLayout
-            | Answer::Differ(_)
-            | Answer::ShownDiffer => 1,
+            | Answer::Same(..) => 0,
+            Answer::Broken(..) | Answer::Nowhere(_) | Answer::Differ(_) => 1,
+            Answer::GaveUp(cause) | Answer::Undecided(_, cause) => gave_up_status(cause),
             Answer::Made(made) => made.status(),
             Answer::Least(_, found) => least_status(found),
             Answer::Small(found) => small_status(found),
-            Answer::Usage => 2,
-            Answer::Refused(_) => 3,
-            Answer::GaveUp(cause) => gave_up_status(cause),
-            Answer::WideState(..) | Answer::WidePair(..) => 5,
-            Answer::CertLine(_)
-            | Answer::BadStep(..)
-            | Answer::NoVerdict
-            | Answer::CertWide(..)
-            | Answer::NotBreaking(..)
-            | Answer::NotDiffering(..) => 9,
-            Answer::TooLong => 11,
         }
     }
 }
@@ -160,7 +175,7 @@ pub fn refused(fault: DesignFault) -> Result<Answer, AllocError>
     ensures { result ≡ design_told fault }
 {
     match fault {
-        DesignFault::Refused(refusal) => Ok(Answer::Refused(refusal)),
+        DesignFault::Refused(refusal) => Ok(Answer::Brief(Brief::Refused(refusal))),
         DesignFault::Memory => Err(AllocError),
     }
 }

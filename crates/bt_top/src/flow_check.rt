@@ -2,9 +2,9 @@
 ghost use Rattle.std.specs.Prelude.{◌≡◌, Ok, alloc_error};
 ghost use Rattle.bt_answers.specs.Answers.{UnlessMemory};
 ghost use Rattle.bt_flow.specs.States.{Fits};
-ghost use Rattle.bt_top.specs.States.{IsChecked, IsStateChecked, IsStateJudged, IsJudged, state_told};
+ghost use Rattle.bt_top.specs.States.{IsFlowChecked, IsStateChecked, IsStateJudged, IsJudged, state_told};
 
-use crate::answer::{Answer, refused};
+use crate::answer::{Answer, Brief, refused};
 use bt_designs::read_design;
 use bt_flow::{Judgement, Property, State, StateFault, WideSum, breaks, read_state};
 use bt_net::Net;
@@ -12,8 +12,8 @@ use bt_text::skip_blanks;
 use std::alloc::{AllocError, Global};
 
 /// The answer of `flow-check` to the bytes of its input.
-pub fn check(alloc: Global, property: Property, bytes: &[u8]) -> Result<Answer, AllocError>
-    ensures { UnlessMemory alloc_error (IsChecked property bytes.now) result }
+pub fn flow_check(alloc: Global, property: Property, bytes: &[u8]) -> Result<Answer, AllocError>
+    ensures { UnlessMemory alloc_error (IsFlowChecked property bytes.now) result }
 {
     match read_design(alloc, bytes) {
         Ok(design) => {
@@ -34,7 +34,7 @@ fn check_state(
     ensures { UnlessMemory alloc_error (IsStateChecked net.now property rest.now) result }
 {
     let text = skip_blanks(rest);
-    judge_text(alloc, property, net, text, Answer::Breaks(property))
+    judge_text(alloc, property, net, text, Brief::Breaks(property))
 }
 
 /// The answer to the text of a state, which is this one where the state breaks the property.
@@ -43,12 +43,12 @@ pub fn judge_text(
     property: Property,
     net: &Net,
     text: &[u8],
-    broken: Answer,
+    broken: Brief,
 ) -> Result<Answer, AllocError>
     ensures { UnlessMemory alloc_error (IsStateJudged net.now property broken text.now) result }
 {
     match read_state(alloc, net, text, property) {
-        Ok(state) => Ok(judge(property, net, &state, broken)),
+        Ok(state) => Ok(Answer::Brief(judge(property, net, &state, broken))),
         Err(fault) => unwritten(fault),
     }
 }
@@ -58,19 +58,19 @@ pub fn unwritten(fault: StateFault) -> Result<Answer, AllocError>
     ensures { result ≡ state_told fault }
 {
     match fault {
-        StateFault::CertLine(line) => Ok(Answer::CertLine(line)),
+        StateFault::CertLine(line) => Ok(Answer::Brief(Brief::CertLine(line))),
         StateFault::Memory => Err(AllocError),
     }
 }
 
 /// The answer to a written state, which is this one where the state breaks the property.
-fn judge(property: Property, net: &Net, state: &State, broken: Answer) -> Answer
+fn judge(property: Property, net: &Net, state: &State, broken: Brief) -> Brief
     requires { Fits net.now state.now }
-    ensures { IsJudged net.now property broken state.now (Ok result) }
+    ensures { IsJudged net.now property broken state.now (Ok (Answer.Brief result)) }
 {
     match breaks(net, property, state) {
         Ok(Judgement::Passes) => broken,
-        Ok(Judgement::Fails { test, place }) => Answer::NotBreaking(test, place),
-        Err(WideSum { test, place, .. }) => Answer::WideState(test, place),
+        Ok(Judgement::Fails { test, place }) => Brief::NotBreaking(test, place),
+        Err(WideSum { test, place, .. }) => Brief::WideState(test, place),
     }
 }

@@ -3,11 +3,11 @@ ghost use Rattle.std.specs.Prelude.{◌≡◌, ◌++◌, ◌+◌, ◌≤◌, ◌
 ghost use Rattle.bt_net.specs.Network.{IsNetwork};
 ghost use Rattle.bt_flow.specs.Names.{property_name};
 ghost use Rattle.bt_designs.specs.declared.held.TheConstants.{MOST_CHECKED};
-ghost use Rattle.bt_top.specs.Certificates.{IsCertificateChecked, IsCertified, IsTextChecked};
+ghost use Rattle.bt_top.specs.Certificates.{IsCertificateChecked, IsChecked, IsTextChecked};
 ghost use Rattle.bt_designs.specs.Told.{TellsLine};
 ghost use Rattle.bt_top.specs.inner.Fronts.{GivesFront, GivesHeldFront};
 
-use crate::answer::Answer;
+use crate::answer::Brief;
 use crate::front::{Front, Steps, WrittenState, known_refusal};
 use bt_designs::{Held, told_design, told_line};
 use bt_fenc::encode;
@@ -23,7 +23,7 @@ pub fn flow_front<'a>(
     held: Held<'a>,
 ) -> Result<Option<Front<'a>>, AllocError>
     requires { held.skipped + length held.bytes.now ≤ MOST_CHECKED }
-    ensures { GivesHeldFront (IsCertified property) held.entry result }
+    ensures { GivesHeldFront (IsChecked property) held.entry result }
 {
     match told_design(alloc, held) {
         Ok(Some(design)) => {
@@ -74,7 +74,7 @@ fn behind_title<'a>(
 {
     if says_yes(written.property, title) {
         let formula = encode(alloc, &written.net, written.property)?;
-        let accepted = Answer::Yes(written.property);
+        let accepted = Brief::Yes(written.property);
         return Ok(Some(Front::Steps(Steps {
             formula,
             lines,
@@ -84,7 +84,7 @@ fn behind_title<'a>(
     if says_no(written.property, title) {
         return Ok(Some(Front::State(written)));
     }
-    Ok(Some(Front::Known(Answer::CertLine(1))))
+    Ok(Some(Front::Known(Brief::CertLine(1))))
 }
 
 /// Whether the line says that the network has the property.

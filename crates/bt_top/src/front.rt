@@ -2,7 +2,7 @@
 ghost use Rattle.std.specs.Prelude.{IfOk, MatchOption};
 ghost use Rattle.bt_top.specs.inner.Fronts.{TellsRefusal};
 
-use crate::answer::Answer;
+use crate::answer::Brief;
 use bt_cnf::Formula;
 use bt_designs::DesignFault;
 use bt_flow::Property;
@@ -17,7 +17,7 @@ pub struct Steps<'a> {
     /// The front of their lines.
     pub lines: &'a [u8],
     /// The answer where they do.
-    pub accepted: Answer,
+    pub accepted: Brief,
 }
 
 /// A written state of which some was read.
@@ -44,7 +44,7 @@ pub struct WrittenPair<'a> {
 #[derive(Drop)]
 pub enum Front<'a> {
     /// It is this.
-    Known(Answer),
+    Known(Brief),
     /// It is that to these steps, which go on with what follows.
     Steps(Steps<'a>),
     /// It is that to this state, whose text goes on with what follows.
@@ -58,7 +58,7 @@ pub fn known_refusal<'a>(fault: DesignFault) -> Result<Option<Front<'a>>, AllocE
     ensures { IfOk result (λ o. MatchOption o ⊥ (λ front. TellsRefusal fault front)) }
 {
     match fault {
-        DesignFault::Refused(refusal) => Ok(Some(Front::Known(Answer::Refused(refusal)))),
+        DesignFault::Refused(refusal) => Ok(Some(Front::Known(Brief::Refused(refusal)))),
         DesignFault::Memory => Err(AllocError),
     }
 }

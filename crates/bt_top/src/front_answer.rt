@@ -8,7 +8,7 @@ ghost use Rattle.bt_same.specs.Sameness.{HaveEqualEnds};
 ghost use Rattle.bt_top.specs.inner.Fronts.{AnswersRest, DrainsRest, IsFit, IsPairReply, IsReply, IsStateReply};
 ghost use Rattle.bt_top.specs.inner.Fronts.{IsStepsReply, ReadsRest, judged_answer, steps_told};
 
-use crate::answer::Answer;
+use crate::answer::{Answer, Brief};
 use crate::flow_check::judge_text;
 use crate::front::{Front, Steps, WrittenPair, WrittenState};
 use crate::pair_check::judge_pair_text;
@@ -31,7 +31,7 @@ pub fn answer_behind<S: Source>(
         (passage S.left S.faults source.old source.new) result }
 {
     match front {
-        Front::Known(answer) => known_from(answer, ended, source, limit),
+        Front::Known(brief) => known_from(brief, ended, source, limit),
         Front::Steps(steps) => steps_from(alloc, steps, ended, source, limit),
         Front::State(written) => state_from(alloc, written, ended, source, limit),
         Front::Pair(written) => pair_from(alloc, written, ended, source, limit),
@@ -40,20 +40,17 @@ pub fn answer_behind<S: Source>(
 
 /// An answer that is known. What follows is read and dropped.
 fn known_from<S: Source>(
-    answer: Answer,
+    brief: Brief,
     ended: bool,
     source: &mut S,
     limit: usize,
 ) -> Result<Answer, ReadAll>
     requires at_end { ended ≡ true → IsAtEnd (S.left source.old) }
     requires limit { limit < 2 ^ 62 }
-    ensures { AnswersRest ended (λ more reply. reply ≡ Ok answer) limit
+    ensures { AnswersRest ended (λ more reply. reply ≡ Ok (Answer.Brief brief)) limit
         (passage S.left S.faults source.old source.new) result }
 {
-    match drain_rest(ended, source, limit) {
-        Ok(()) => Ok(answer),
-        Err(fault) => Err(fault),
-    }
+    drain_rest(ended, source, limit).and(Ok(Answer::Brief(brief)))
 }
 
 /// The answer to steps whose lines go on in the source.
@@ -89,11 +86,11 @@ fn steps_at_hand(alloc: Global, mut steps: Steps<'_>) -> Result<Answer, ReadAll>
 }
 
 /// The answer to steps that were judged so, of which the accepted are answered with this.
-fn steps_answer(accepted: Answer, judged: Result<(), CertFault>) -> Result<Answer, ReadAll>
+fn steps_answer(accepted: Brief, judged: Result<(), CertFault>) -> Result<Answer, ReadAll>
     ensures { result ≡ judged_answer accepted judged }
 {
     match judged {
-        Ok(()) => Ok(accepted),
+        Ok(()) => Ok(Answer::Brief(accepted)),
         Err(fault) => steps_told(fault),
     }
 }
@@ -103,10 +100,12 @@ fn steps_told(fault: CertFault) -> Result<Answer, ReadAll>
     ensures { result ≡ steps_told fault }
 {
     match fault {
-        CertFault::CertLine(line) => Ok(Answer::CertLine(line)),
-        CertFault::BadStep(line, cause) => Ok(Answer::BadStep(line, cause)),
-        CertFault::NoVerdict => Ok(Answer::NoVerdict),
-        CertFault::CertWide(line, row, column) => Ok(Answer::CertWide(line, row, column)),
+        CertFault::CertLine(line) => Ok(Answer::Brief(Brief::CertLine(line))),
+        CertFault::BadStep(line, cause) => Ok(Answer::Brief(Brief::BadStep(line, cause))),
+        CertFault::NoVerdict => Ok(Answer::Brief(Brief::NoVerdict)),
+        CertFault::CertWide(line, row, column) => {
+            Ok(Answer::Brief(Brief::CertWide(line, row, column)))
+        }
         CertFault::ReadFault => Err(ReadAll::ReadFault),
         CertFault::TooLong => Err(ReadAll::TooLong),
         CertFault::Memory => Err(ReadAll::Memory),
@@ -137,7 +136,7 @@ fn state_answer(alloc: Global, written: WrittenState<'_>, rest: &[u8]) -> Result
     ensures { IfOk result (λ answer. IsStateReply written.entry rest.now (Ok answer)) }
 {
     let text = joined(alloc, written.text, rest)?;
-    let broken = Answer::No(written.property);
+    let broken = Brief::No(written.property);
     judge_text(alloc, written.property, &written.net, &text, broken)
 }
 

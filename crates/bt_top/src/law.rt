@@ -60,7 +60,7 @@ pub fn compared_is_checked()
 
 /// Where `--learnt` is 3 ^ v or more, for the v variables of the formula that `decide`, `make`, `same` or `layout` decides, or
 /// of each that `smallest` does, no right answer is that the steps are used up, and the program doesn't end with that
-/// status.
+/// status. Of `decide`, `make` and `same` the variables are those of the formula that whatever is defined for it extends.
 pub fn ample_is_never_spent()
     ensures answers { AmpleIsNeverSpent }
     ensures endings { AmpleNeverEndsSpent }

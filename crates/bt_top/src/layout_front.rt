@@ -9,7 +9,7 @@ ghost use Rattle.bt_designs.specs.Told.{TellsLine};
 ghost use Rattle.bt_top.specs.inner.Fronts.{GivesFront, GivesHeldFront};
 ghost use Rattle.bt_top.specs.inner.RequestParts.{IsRequestChecked};
 
-use crate::answer::Answer;
+use crate::answer::Brief;
 use crate::front::{Front, Steps, known_refusal};
 use bt_designs::{Held, PinnedDesign, request_for, told_line, told_pinned};
 use bt_model::Request;
@@ -87,14 +87,14 @@ fn behind_title<'a>(
 {
     if says_none(title) {
         let formula = encode_place(alloc, request)?;
-        let accepted = Answer::NoLayout;
+        let accepted = Brief::NoLayout;
         return Ok(Some(Front::Steps(Steps {
             formula,
             lines,
             accepted,
         })));
     }
-    Ok(Some(Front::Known(Answer::CertLine(1))))
+    Ok(Some(Front::Known(Brief::CertLine(1))))
 }
 
 /// Whether the line says that there is no layout.

@@ -1,7 +1,7 @@
 //! All that the program does, over words, a source of bytes and a sink of bytes.
 //!
-//! `program` reads the words and the source and writes the answer; `flow_check`, `recover`, `decision`, `making`, `laying`,
-//! `least`, `finding`, `formula` and `comparing` find the answer to an input that is read whole. `blocks` finds that of
+//! `program` reads the words and the source and writes the answer; `flow_check`, `recover`, `decide`, `make`, `layout`,
+//! `smallest`, `smallest_found`, `formula` and `same` find the answer to an input that is read whole. `blocks` finds that of
 //! `check`, `check-layout` and `check-same` as the input is gathered: by what is told of a design at its front,
 //! `flow_front`, `layout_front` and `same_front` give a `front`, and `front_answer` the answer that it tells, with
 //! `pair_check` of a pair of states. `text` and `printing` write answers.
@@ -11,9 +11,7 @@ mod answer;
 mod blocks;
 mod choosers;
 mod claim;
-mod comparing;
-mod decision;
-mod finding;
+mod decide;
 mod flow_check;
 mod flow_front;
 mod formula;
@@ -21,18 +19,20 @@ mod front;
 mod front_answer;
 mod input;
 mod law;
-mod laying;
+mod layout;
 mod layout_front;
-mod least;
-mod making;
+mod make;
 mod pair_check;
 mod printing;
 mod program;
 mod recover;
+mod same;
 mod same_front;
+mod smallest;
+mod smallest_found;
 mod text;
 
-pub use answer::Answer;
+pub use answer::{Answer, Brief};
 pub use bt_designs::{MOST_CHECKED, Refusal};
 pub use choosers::Choosers;
 pub use input::{MOST_OF_DESIGN, MOST_OF_TWO};
@@ -41,6 +41,6 @@ pub use law::{
     laid_out_is_checked, least_is_checked, longer_is_read, none_is_accepted, numbers_are,
     one_right_answer,
 };
-pub use making::Made;
+pub use make::Made;
 pub use program::{NO_MEMORY, READ_FAULT, WRITE_FAULT, run};
 pub use std::alloc::AllocError as Memory;

@@ -5,7 +5,7 @@ ghost use Rattle.bt_flow.specs.States.{Fits};
 ghost use Rattle.bt_same.specs.Sameness.{HaveEqualEnds};
 ghost use Rattle.bt_top.specs.SameCertificates.{IsPairJudged, IsPairTextJudged};
 
-use crate::answer::Answer;
+use crate::answer::{Answer, Brief};
 use crate::flow_check::unwritten;
 use bt_net::Net;
 use bt_same::{Pair, PairJudgement, PairWide, differs, read_pair};
@@ -35,8 +35,12 @@ fn judge_pair(first: &Net, second: &Net, pair: &Pair) -> Answer
     ensures { IsPairJudged (first.now, second.now) pair.now (Ok result) }
 {
     match differs(first, second, pair) {
-        Ok(PairJudgement::Holds) => Answer::ShownDiffer,
-        Ok(PairJudgement::Fails { place, test, at }) => Answer::NotDiffering(place, test, at),
-        Err(PairWide { place, sum }) => Answer::WidePair(place, sum.test, sum.place),
+        Ok(PairJudgement::Holds) => Answer::Brief(Brief::ShownDiffer),
+        Ok(PairJudgement::Fails { place, test, at }) => {
+            Answer::Brief(Brief::NotDiffering(place, test, at))
+        }
+        Err(PairWide { place, sum }) => {
+            Answer::Brief(Brief::WidePair(place, sum.test, sum.place))
+        }
     }
 }

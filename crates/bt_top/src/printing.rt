@@ -2,9 +2,10 @@
 ghost use Rattle.bt_io.specs.Bytes.{WritesText};
 ghost use Rattle.bt_io.specs.Passages.{passage};
 ghost use Rattle.std.specs.Prelude.{◌≡◌};
-ghost use Rattle.bt_top.specs.Answers.{balance_word, family_name, gave_up_text, made_text, proved_text, same_text, spent_text};
+ghost use Rattle.bt_top.specs.Answers.{balance_word, family_name, gave_up_text, made_text, proved_text, same_text, spent_text, steps_text};
 
-use crate::making::Made;
+use crate::make::Made;
+use bt_extend::{Definition, print_definitions};
 use bt_flow::Property;
 use bt_io::{Sink, WriteFault, write_all_of, write_pieces};
 use bt_log::Log;
@@ -14,43 +15,76 @@ use bt_words::NetworkFamily;
 use itoa::Buffer;
 
 /// Writes the yes certificate for a property.
-pub fn print_proof<K: Sink>(property: Property, log: &Log, sink: &mut K) -> Result<(), WriteFault>
+pub fn print_proof<K: Sink>(
+    property: Property,
+    definitions: &[Definition],
+    log: &Log,
+    sink: &mut K,
+) -> Result<(), WriteFault>
     ensures { WritesText (passage K.held K.faults sink.old sink.new)
-        (proved_text property log.now.steps) result }
+        (proved_text property definitions.now log.now.steps) result }
 {
     write_pieces(sink, &[b"yes ", property.name().as_bytes(), b"\n"])?;
+    print_steps(definitions, log, sink)
+}
+
+/// Writes the lines of definitions, and the steps of a log.
+fn print_steps<K: Sink>(
+    definitions: &[Definition],
+    log: &Log,
+    sink: &mut K,
+) -> Result<(), WriteFault>
+    ensures { WritesText (passage K.held K.faults sink.old sink.new)
+        (steps_text definitions.now log.now.steps) result }
+{
+    print_definitions(definitions, sink)?;
     log.print(sink)
 }
 
 /// Writes the certificate that two networks behave the same.
-pub fn print_same<K: Sink>(log: &Log, sink: &mut K) -> Result<(), WriteFault>
-    ensures { WritesText (passage K.held K.faults sink.old sink.new) (same_text log.now.steps) result }
+pub fn print_same<K: Sink>(
+    definitions: &[Definition],
+    log: &Log,
+    sink: &mut K,
+) -> Result<(), WriteFault>
+    ensures { WritesText (passage K.held K.faults sink.old sink.new)
+        (same_text definitions.now log.now.steps) result }
 {
     write_all_of(sink, b"same\n")?;
-    log.print(sink)
+    print_steps(definitions, log, sink)
 }
 
 /// Writes why a search was given up.
-pub fn print_gave_up<K: Sink>(cause: &GaveUp, sink: &mut K) -> Result<(), WriteFault>
-    ensures { WritesText (passage K.held K.faults sink.old sink.new) (gave_up_text cause.now) result }
+pub fn print_gave_up<K: Sink>(
+    definitions: &[Definition],
+    cause: &GaveUp,
+    sink: &mut K,
+) -> Result<(), WriteFault>
+    ensures { WritesText (passage K.held K.faults sink.old sink.new)
+        (gave_up_text definitions.now cause.now) result }
 {
     match cause {
-        GaveUp::Spent(log) => print_spent(log, sink),
+        GaveUp::Spent(log) => print_spent(definitions, log, sink),
         GaveUp::Pivots(trail) => print_pivots(trail, sink),
         GaveUp::Wide(wide) => print_wide(wide, sink),
     }
 }
 
 /// Writes a log that is used up.
-fn print_spent<K: Sink>(log: &Log, sink: &mut K) -> Result<(), WriteFault>
-    ensures { WritesText (passage K.held K.faults sink.old sink.new) (spent_text log.now.steps) result }
+fn print_spent<K: Sink>(
+    definitions: &[Definition],
+    log: &Log,
+    sink: &mut K,
+) -> Result<(), WriteFault>
+    ensures { WritesText (passage K.held K.faults sink.old sink.new)
+        (spent_text definitions.now log.now.steps) result }
 {
     let mut steps = Buffer::new();
     write_pieces(
         sink,
         &[b"spent ", steps.format(log.len()).as_bytes(), b"\n"],
     )?;
-    log.print(sink)
+    print_steps(definitions, log, sink)
 }
 
 /// Writes the lines of a network that was made.

@@ -9,25 +9,25 @@ ghost use Rattle.bt_top.specs.Answering.{IsRightTo};
 ghost use Rattle.bt_top.specs.Endings.{Ends, status_after};
 ghost use Rattle.bt_top.specs.inner.Claims.{IsReadWhole};
 ghost use Rattle.bt_top.specs.inner.Grids.{HasGrid};
-ghost use Rattle.bt_top.specs.inner.Lines.{IsLine, formed_text};
-ghost use Rattle.bt_top.specs.inner.Telling.{IsAnswered, IsAnsweredTo, IsPrinted, IsToldUnlessMemory, IsLineTold};
+ghost use Rattle.bt_top.specs.inner.Lines.{formed_text};
+ghost use Rattle.bt_top.specs.inner.Telling.{IsAnswered, IsAnsweredTo, IsToldUnlessMemory};
 
 use crate::answer::Answer;
 use crate::blocks::claim_answer;
 use crate::choosers::Choosers;
 use crate::claim::CertificateClaim;
-use crate::comparing::compared;
-use crate::decision::decided;
-use crate::finding::found_small;
-use crate::flow_check::check;
+use crate::decide::decide;
+use crate::flow_check::flow_check;
 use crate::formula::{flow_formula, place_formula};
 use crate::input::read_input;
-use crate::laying::laid_out;
-use crate::least::searched;
-use crate::making::make;
+use crate::layout::layout;
+use crate::make::make;
 use crate::printing::{print_gave_up, print_made, print_proof, print_same};
-use crate::recover::recovered;
-use crate::text::text_of_answer;
+use crate::recover::recover;
+use crate::same::same;
+use crate::smallest::smallest;
+use crate::smallest_found::smallest_found;
+use crate::text::formed_of;
 use bt_dimacs::{print_flow_formula, print_place_formula};
 use bt_flow::print_state;
 use bt_io::{ReadAll, Sink, Source, WriteFault, write_all_of};
@@ -75,14 +75,14 @@ fn answer_to<S: Source>(
     alloc: Global,
     words: &[String],
     source: &mut S,
-    choosers: Choosers,
+    mut choosers: Choosers,
 ) -> Result<Answer, ReadAll>
     ensures answer { IsAnsweredTo (map string_bytes words.now)
         (passage S.left S.faults source.old source.new) result }
     ensures unread { IsUnread (map string_bytes words.now) → source.new ≡ source.old }
 {
     match command_of(words) {
-        Some(command) => answer_of(alloc, command, source, choosers),
+        Some(command) => answer_of(alloc, command, source, &mut choosers),
         None => Ok(Answer::Usage),
     }
 }
@@ -92,7 +92,7 @@ fn answer_of<S: Source>(
     alloc: Global,
     command: Command,
     source: &mut S,
-    choosers: Choosers,
+    choosers: &mut Choosers,
 ) -> Result<Answer, ReadAll>
     requires { HasGrid command }
     ensures answer { IsAnswered command (passage S.left S.faults source.old source.new) result }
@@ -113,7 +113,7 @@ fn whole_answer<S: Source>(
     alloc: Global,
     command: Command,
     source: &mut S,
-    choosers: Choosers,
+    choosers: &mut Choosers,
 ) -> Result<Answer, ReadAll>
     requires grid { HasGrid command }
     requires whole { IsReadWhole command }
@@ -134,33 +134,46 @@ fn right_answer(
     alloc: Global,
     command: Command,
     bytes: &[u8],
-    choosers: Choosers,
+    choosers: &mut Choosers,
 ) -> Result<Answer, AllocError>
     requires grid { HasGrid command }
     requires whole { IsReadWhole command }
     ensures { UnlessMemory alloc_error (IsRightTo command bytes.now) result }
 {
     match command {
-        Command::FlowCheck(property) => check(alloc, property, bytes),
-        Command::Recover => recovered(alloc, bytes),
+        Command::FlowCheck(property) => flow_check(alloc, property, bytes),
+        Command::Recover => recover(alloc, bytes),
         Command::Decide(property, limits) => {
-            decided(alloc, property, limits, bytes, choosers.decisions)
+            decide(
+                alloc,
+                property,
+                limits,
+                bytes,
+                choosers.take_decisions(alloc),
+            )
         }
         Command::Make(family, order, limits) => {
-            make(alloc, family, order, limits, choosers.decisions)
+            make(alloc, family, order, limits, choosers.take_decisions(alloc))
         }
         Command::Layout(rect, tier, learnt) => {
-            laid_out(alloc, rect, tier, learnt, bytes, choosers.layouts)
+            layout(
+                alloc,
+                rect,
+                tier,
+                learnt,
+                bytes,
+                choosers.take_layouts(alloc),
+            )
         }
         Command::Smallest(first, most, tier, learnt) => {
-            searched(alloc, first, most, tier, learnt, bytes)
+            smallest(alloc, first, most, tier, learnt, bytes)
         }
         Command::FindSmall(most, tier, sides, learnt) => {
-            found_small(alloc, most, tier, sides, learnt, bytes)
+            smallest_found(alloc, most, tier, sides, learnt, bytes)
         }
         Command::FlowFormula(property) => flow_formula(alloc, property, bytes),
         Command::PlaceFormula(rect, tier) => place_formula(alloc, rect, tier, bytes),
-        Command::Same(limits) => compared(alloc, limits, bytes, choosers.decisions),
+        Command::Same(limits) => same(alloc, limits, bytes, choosers.take_decisions(alloc)),
         Command::Check(_) | Command::CheckLayout(..) | Command::CheckSame => unreachable!(),
     }
 }
@@ -169,54 +182,46 @@ fn right_answer(
 fn told<K: Sink>(alloc: Global, answer: Answer, sink: &mut K) -> u8
     ensures { IsToldUnlessMemory answer (passage K.held K.faults sink.old sink.new) result }
 {
-    match print_lines(&answer, sink) {
-        Some(written) => status_after(answer.status(), written),
-        None => line_told(alloc, &answer, sink),
-    }
+    let status = tell(alloc, &answer, sink);
+    drop(answer);
+    status
 }
 
-/// Gives the answer's text to the sink, where that takes no memory.
-fn print_lines<K: Sink>(answer: &Answer, sink: &mut K) -> Option<Result<(), WriteFault>>
-    ensures { IsPrinted answer.now (passage K.held K.faults sink.old sink.new) result }
+/// The same, and keeps the answer.
+fn tell<K: Sink>(alloc: Global, answer: &Answer, sink: &mut K) -> u8
+    ensures { IsToldUnlessMemory answer.now (passage K.held K.faults sink.old sink.new) result }
 {
-    let written = match answer {
-        Answer::Recovered(net) => print(net, sink),
-        Answer::Proved(property, log) => print_proof(*property, log, sink),
-        Answer::Broken(property, state) => print_state(state, *property, sink),
-        Answer::GaveUp(cause) => print_gave_up(cause, sink),
-        Answer::Made(made) => print_made(made, sink),
-        Answer::Nowhere(log) => print_none(log, sink),
-        Answer::FlowFormula(columns, formula) => print_flow_formula(*columns, formula, sink),
-        Answer::PlaceFormula(starts, formula) => print_place_formula(*starts, formula, sink),
-        Answer::Same(log) => print_same(log, sink),
-        Answer::Differ(pair) => print_pair(pair, sink),
-        Answer::Usage => write_all_of(sink, b"usage\n"),
-        Answer::TooLong => write_all_of(sink, b"too long\n"),
-        _ => return None,
-    };
-    Some(written)
-}
-
-/// Gives the line of an answer to the sink, where there is memory to form it, and gives the status.
-fn line_told<K: Sink>(alloc: Global, answer: &Answer, sink: &mut K) -> u8
-    requires { IsLine answer.now }
-    ensures { IsLineTold answer.now (passage K.held K.faults sink.old sink.new) result }
-{
-    match text_of_answer(alloc, answer) {
-        Ok(text) => status_after(answer.status(), write_formed(answer, &text, sink)),
+    match formed_of(alloc, answer) {
+        Ok(formed) => status_after(answer.status(), print_answer(answer, &formed, sink)),
         Err(_) => NO_MEMORY,
     }
 }
 
 /// Gives an answer's text to the sink, where this is what had to be formed of it.
-fn write_formed<K: Sink>(answer: &Answer, formed: &[u8], sink: &mut K) -> Result<(), WriteFault>
+fn print_answer<K: Sink>(answer: &Answer, formed: &[u8], sink: &mut K) -> Result<(), WriteFault>
     requires { formed.now ≡ formed_text answer.now }
     ensures { WritesText (passage K.held K.faults sink.old sink.new) (answer_text answer.now) result }
 {
     match answer {
+        Answer::Brief(_) => write_all_of(sink, formed),
+        Answer::LaidOut(_) => write_all_of(sink, formed),
         Answer::Least(first, found) => bt_layout::print_smallest(*first, found, formed, sink),
         Answer::Small(found) => bt_layout::print_small(found, formed, sink),
-        _ => write_all_of(sink, formed),
+        Answer::Usage => write_all_of(sink, b"usage\n"),
+        Answer::TooLong => write_all_of(sink, b"too long\n"),
+        Answer::Recovered(net) => print(net, sink),
+        Answer::Proved(property, definitions, log) => {
+            print_proof(*property, definitions, log, sink)
+        }
+        Answer::Broken(property, state) => print_state(state, *property, sink),
+        Answer::GaveUp(cause) => print_gave_up(&[], cause, sink),
+        Answer::Undecided(definitions, cause) => print_gave_up(definitions, cause, sink),
+        Answer::Made(made) => print_made(made, sink),
+        Answer::Nowhere(log) => print_none(log, sink),
+        Answer::FlowFormula(columns, formula) => print_flow_formula(*columns, formula, sink),
+        Answer::PlaceFormula(starts, formula) => print_place_formula(*starts, formula, sink),
+        Answer::Same(definitions, log) => print_same(definitions, log, sink),
+        Answer::Differ(pair) => print_pair(pair, sink),
     }
 }
 

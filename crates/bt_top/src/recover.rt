@@ -8,7 +8,7 @@ use bt_designs::read_alone;
 use std::alloc::{AllocError, Global};
 
 /// The answer of `recover` to the bytes of its input.
-pub fn recovered(alloc: Global, bytes: &[u8]) -> Result<Answer, AllocError>
+pub fn recover(alloc: Global, bytes: &[u8]) -> Result<Answer, AllocError>
     ensures { UnlessMemory alloc_error (IsRecoveredFrom bytes.now) result }
 {
     match read_alone(alloc, bytes) {

@@ -7,7 +7,7 @@ ghost use Rattle.bt_designs.specs.Told.{TellsLine};
 ghost use Rattle.bt_top.specs.inner.Fronts.{GivesFront, GivesHeldFront};
 ghost use Rattle.bt_top.specs.inner.PairParts.{IsBehindFirstChecked, IsPairedChecked, IsSecondChecked};
 
-use crate::answer::Answer;
+use crate::answer::Brief;
 use crate::front::{Front, Steps, WrittenPair, known_refusal};
 use bt_designs::{Held, paired, told_bare, told_line};
 use bt_net::Net;
@@ -115,7 +115,7 @@ fn behind_title<'a>(
 {
     if says_same(title) {
         let formula = encode_same(alloc, &written.first, &written.second)?;
-        let accepted = Answer::ShownSame;
+        let accepted = Brief::ShownSame;
         return Ok(Some(Front::Steps(Steps {
             formula,
             lines,
@@ -125,7 +125,7 @@ fn behind_title<'a>(
     if says_differ(title) {
         return Ok(Some(Front::Pair(written)));
     }
-    Ok(Some(Front::Known(Answer::CertLine(1))))
+    Ok(Some(Front::Known(Brief::CertLine(1))))
 }
 
 /// Whether the line says that the networks behave the same.

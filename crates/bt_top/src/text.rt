@@ -1,12 +1,12 @@
 //! The texts of answers: a line each, of fixed words and of numbers and names that are said with them.
-ghost use Rattle.std.specs.Prelude.{◌≡◌, ◌++◌, codes, decimal, IfOk, OnOk};
+ghost use Rattle.std.specs.Prelude.{◌≡◌, ◌++◌, codes, decimal, IfErr, IfOk, OnOk};
 ghost use Rattle.bt_net.specs.NetText.{line};
 ghost use Rattle.bt_flow.specs.Names.{test_name};
-ghost use Rattle.bt_top.specs.Answers.{cause_name, which_text, text_of as answer_text};
+ghost use Rattle.bt_top.specs.Answers.{brief_text, cause_name, which_text};
 ghost use Rattle.bt_designs.specs.Refusals.{member_name, refusal_text};
-ghost use Rattle.bt_top.specs.inner.Lines.{IsFixedLine, IsLine, IsOfCertificate, detail_text, formed_text, line_text};
+ghost use Rattle.bt_top.specs.inner.Lines.{NeedsMemory, detail_text, formed_text, line_text};
 
-use crate::answer::Answer;
+use crate::answer::{Answer, Brief};
 use bt_cert::Cause;
 use bt_designs::Refusal;
 use bt_entities::Member;
@@ -89,60 +89,53 @@ fn push_number(text: &mut Vec<u8>, number: usize) -> Result<(), AllocError>
     text.extend_from_slice(buffer.format(number).as_bytes())
 }
 
-/// What has to be formed of an answer's text: its line, or the blueprint in it.
-pub fn text_of_answer(alloc: Global, answer: &Answer) -> Result<Vec<u8>, AllocError>
-    requires { IsLine answer.now }
-    ensures { IfOk result (λ text. text.items ≡ formed_text answer.now) }
+/// What has to be formed of an answer's text before it is written: its line, or the blueprint in it; else nothing.
+pub fn formed_of(alloc: Global, answer: &Answer) -> Result<Vec<u8>, AllocError>
+    ensures text { IfOk result (λ text. text.items ≡ formed_text answer.now) }
+    ensures needs { IfErr result (λ fault. NeedsMemory answer.now) }
 {
     match answer {
+        Answer::Brief(brief) => text_of(alloc, &line_of(*brief)),
         Answer::LaidOut(parts) => bt_write::text_of(alloc, parts),
         Answer::Least(_, found) => bt_layout::blueprint_of(alloc, found),
         Answer::Small(found) => bt_layout::blueprint_of_small(alloc, found),
-        _ => text_of(alloc, &answer_line(answer)),
+        _ => Ok(Vec::new(alloc)),
     }
 }
 
-/// The line of an answer that has fixed words.
-fn answer_line(answer: &Answer) -> Line
-    requires { IsFixedLine answer.now }
-    ensures { line_text result ≡ answer_text answer.now }
+/// The line of an answer that is said in one.
+fn line_of(brief: Brief) -> Line
+    ensures { line_text result ≡ brief_text brief }
 {
-    match *answer {
-        Answer::Recovered(_)
-        | Answer::Proved(..)
-        | Answer::Broken(..)
-        | Answer::GaveUp(_)
-        | Answer::Made(_)
-        | Answer::LaidOut(_)
-        | Answer::Nowhere(_)
-        | Answer::Least(..)
-        | Answer::Small(_)
-        | Answer::FlowFormula(..)
-        | Answer::PlaceFormula(..)
-        | Answer::Same(_)
-        | Answer::Differ(_) => unreachable!(),
-        Answer::NoLayout => Line("none", Detail::Nothing),
-        Answer::ShownSame => Line("same", Detail::Nothing),
-        Answer::ShownDiffer => Line("differ", Detail::Nothing),
-        Answer::NotDiffering(which, test, place) => {
-            Line("refused 54 NotBreaking", pair_detail(which, test, place))
-        }
-        Answer::WidePair(which, test, place) => Line("wide", pair_detail(which, test, place)),
-        Answer::Usage => Line("usage", Detail::Nothing),
-        Answer::TooLong => Line("too long", Detail::Nothing),
-        Answer::Breaks(property) => Line("breaks", Detail::Name(property.name())),
-        Answer::Yes(property) => Line("yes", Detail::Name(property.name())),
-        Answer::No(property) => Line("no", Detail::Name(property.name())),
-        Answer::Refused(refusal) => refusal_line(refusal),
-        Answer::WideState(test, place) => {
+    match brief {
+        Brief::Breaks(property) => Line("breaks", Detail::Name(property.name())),
+        Brief::Yes(property) => Line("yes", Detail::Name(property.name())),
+        Brief::No(property) => Line("no", Detail::Name(property.name())),
+        Brief::NoLayout => Line("none", Detail::Nothing),
+        Brief::ShownSame => Line("same", Detail::Nothing),
+        Brief::ShownDiffer => Line("differ", Detail::Nothing),
+        Brief::Refused(refusal) => refusal_line(refusal),
+        Brief::WideState(test, place) => {
             Line("wide state", Detail::NameAndNumber(test.name(), place))
         }
-        Answer::NotBreaking(test, place) => Line(
+        Brief::WidePair(which, test, place) => Line("wide", pair_detail(which, test, place)),
+        Brief::CertLine(line) => Line("refused 50 CertLine", Detail::Number(line)),
+        Brief::BadStep(line, cause) => Line(
+            "refused 51 BadStep",
+            Detail::NumberAndName(line, name_of_cause(cause)),
+        ),
+        Brief::NoVerdict => Line("refused 52 NoVerdict", Detail::Nothing),
+        Brief::CertWide(line, row, column) => Line(
+            "refused 53 CertWide",
+            Detail::ThreeNumbers(line, row, column),
+        ),
+        Brief::NotBreaking(test, place) => Line(
             "refused 54 NotBreaking",
             Detail::NameAndNumber(test.name(), place),
         ),
-        Answer::CertLine(_) | Answer::BadStep(..) | Answer::NoVerdict | Answer::CertWide(..) =>
-            certificate_line(answer),
+        Brief::NotDiffering(which, test, place) => {
+            Line("refused 54 NotBreaking", pair_detail(which, test, place))
+        }
     }
 }
 
@@ -155,24 +148,6 @@ fn pair_detail(which: Which, test: Test, place: usize) -> Detail
         Which::First => Detail::NamesAndNumber("first", test.name(), place),
         Which::Second => Detail::NamesAndNumber("second", test.name(), place),
         Which::Kept => Detail::NameAndNumber(test.name(), place),
-    }
-}
-
-/// The line of an answer to a text that is no certificate; of another answer, some line.
-fn certificate_line(answer: &Answer) -> Line
-    ensures { IsOfCertificate answer.now → line_text result ≡ answer_text answer.now }
-{
-    match *answer {
-        Answer::CertLine(line) => Line("refused 50 CertLine", Detail::Number(line)),
-        Answer::BadStep(line, cause) => Line(
-            "refused 51 BadStep",
-            Detail::NumberAndName(line, name_of_cause(cause)),
-        ),
-        Answer::CertWide(line, row, column) => Line(
-            "refused 53 CertWide",
-            Detail::ThreeNumbers(line, row, column),
-        ),
-        _ => Line("refused 52 NoVerdict", Detail::Nothing),
     }
 }
 

@@ -2,7 +2,7 @@
 use Rattle.std.proofs.Common.{◌≡◌, ℕ, ◌+◌, ◌*◌, ◌<◌, arith, Bool, true, false, refl, ap₂}
 use Rattle.std.specs.Prelude.{cond}
 use Rattle.bt_cnf.specs.declared.literal.Lit.{Lit}
-use Rattle.bt_watch.specs.Codes.{code_of}
+use Rattle.bt_cnf.specs.Codes.{code_of}
 
 made : (a b : Lit) → a.var ≡ b.var → a.positive ≡ b.positive → a ≡ b
 made a b var sign = let make : ℕ → Bool → Lit = λ v p. record { var = v; positive = p } in ap₂ make var sign

@@ -14,7 +14,7 @@ use Rattle.bt_watch.specs.declared.search.Search.{Search}
 use Rattle.bt_watch.specs.Assigning.{Assigns}
 use Rattle.bt_watch.specs.Watched.{no_lit}
 use Rattle.bt_watch.specs.inner.AttendingIn.{AttendsIn}
-use Rattle.bt_watch.specs.Codes.{code_of}
+use Rattle.bt_cnf.specs.Codes.{code_of}
 use Rattle.bt_watch.specs.Keeping.{kept_at, AreTrue, AreWatched, IsBlocked, IsWatchable}
 use Rattle.bt_watch.specs.inner.Loads.{AreEmptyLists}
 use Rattle.bt_watch.specs.Propagating.{root_of, GoesOn}

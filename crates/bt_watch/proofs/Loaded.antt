@@ -13,7 +13,7 @@ use Rattle.bt_cnf.specs.Truths.{IsTrueIn, IsFalseIn}
 use Rattle.bt_cnf.specs.Units.{opposite, clause_at}
 use Rattle.bt_watch.specs.declared.assignment.Assignment.{Assignment}
 use Rattle.bt_watch.specs.declared.search.Search.{Search}
-use Rattle.bt_watch.specs.Codes.{code_of}
+use Rattle.bt_cnf.specs.Codes.{code_of}
 use Rattle.bt_watch.specs.Assigning.{Assigns}
 use Rattle.bt_watch.specs.Watched.{no_lit, first, second}
 use Rattle.bt_watch.specs.Keeping.{kept_at, IsBlocked, AreTrue, IsAtRest, IsWatchable}

@@ -1,5 +1,4 @@
 pub mod Assigning
-pub mod Codes
 pub mod Keeping
 pub mod Levels
 pub mod Propagating

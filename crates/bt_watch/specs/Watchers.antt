@@ -2,7 +2,7 @@
 use Rattle.std.specs.Prelude.{ℕ, [], List, map, slice_index_or}
 use Rattle.bt_cnf.specs.declared.literal.Lit.{Lit}
 use Rattle.bt_watch.specs.declared.clause_pool.Watch.{Watch}
-use Rattle.bt_watch.specs.Codes.{code_of}
+use Rattle.bt_cnf.specs.Codes.{code_of}
 use Rattle.bt_watch.specs.WatchersParts.{WatchersParts}
 
 -- the list of a literal, which stands at the literal's number

@@ -1,7 +1,6 @@
 -- How clauses are watched and visited, which no public clause cites.
 pub mod Attending
 pub mod AttendingIn
-pub mod Codes
 pub mod Loads
 pub mod Roots
 pub mod Settling

@@ -1,8 +1,8 @@
 //! The kind of the clauses that are kept for watching, and how a literal's list names one.
 ghost use Rattle.std.specs.Prelude.{◌≡◌, ◌<◌, length, IfOk};
 
-use crate::packed::Packed;
 use bt_arena::{Id, Pool};
+use bt_cnf::Packed;
 use std::alloc::AllocError;
 use std::marker::Model;
 

@@ -6,7 +6,6 @@ mod clause_pool;
 mod levels;
 mod loading;
 mod opposites;
-mod packed;
 mod search;
 mod watched;
 mod watchers;

@@ -12,10 +12,9 @@ ghost use Rattle.bt_watch.specs.Propagating.{IsSettledTo, Keeps, Propagates, roo
 use crate::assignment::{Assignment, assign};
 use crate::clause_pool::{ClausePool, PackedId, Watch};
 use crate::opposites::negation;
-use crate::packed::{Packed, pack_all};
 use crate::watched::{Visit, attend};
 use crate::watchers::Watchers;
-use bt_cnf::{Lit, Values};
+use bt_cnf::{Lit, Packed, Values, pack_all};
 use std::alloc::AllocError;
 
 /// What is true, and the clauses that say what follows.

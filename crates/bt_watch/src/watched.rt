@@ -6,8 +6,7 @@ ghost use Rattle.bt_watch.specs.inner.Attending.{Attends};
 ghost use Rattle.bt_cnf.specs.Truths.{IsFalseIn};
 ghost use Rattle.bt_watch.specs.inner.Visits.{BringsSecond, CanWatch, ReplacesSecond, Visits};
 
-use crate::packed::Packed;
-use bt_cnf::Values;
+use bt_cnf::{Packed, Values};
 
 /// What a clause does where a literal has become false.
 #[derive(Clone, Copy)]

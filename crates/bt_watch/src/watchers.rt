@@ -1,13 +1,12 @@
 //! For each literal, the kept clauses that watch it.
 ghost use Rattle.std.specs.Prelude.{◌≡◌, ◌<◌, ◌*◌, length, IfOk, OnOk};
-ghost use Rattle.bt_watch.specs.Codes.{code_of};
+ghost use Rattle.bt_cnf.specs.Codes.{code_of};
 ghost use Rattle.bt_watch.specs.inner.Loads.{AreEmptyLists, AreUnwatched};
 ghost use Rattle.bt_watch.specs.inner.Watchers.{lists_of, with_list, Watches};
 ghost use Rattle.bt_watch.specs.Watchers.{watches_of};
 
 use crate::clause_pool::Watch;
-use crate::packed::Packed;
-use bt_cnf::{Lit, Var};
+use bt_cnf::{Lit, Packed, Var};
 use std::alloc::{AllocError, Global};
 use std::marker::Model;
 use std::mem::replace;

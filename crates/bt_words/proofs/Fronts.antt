@@ -71,14 +71,6 @@ after_dashes : (word option other : List ℕ) → word ≡ codes "--" ++ option 
 after_dashes word option other p q = let e : codes "--" ++ option ≡ codes "--" ++ other = sym p ∙ q in cc
 
 module _ (words : List (List ℕ)) (word : List ℕ) (rest : List (List ℕ)) (e : words ≡ word ∷ rest) (no_plain : (a : Argument) → IsPlain a word → ⊥) where
-  -- a word that is no argument for itself and no option
-  pub no_option : ((option : List ℕ) → word ≡ codes "--" ++ option → ⊥) → (a : Argument) (more : List (List ℕ)) → BeginsWith words a more → ⊥
-  no_option none a more b = elim (front_of words word rest a more e b) [
-    | alone p q ↦ no_plain a p
-    | apart name value v is q ↦ none name is
-    | joined name value v is q ↦ none (name ++ 61 ∷ value) is
-  ]
-
   module _ (option : List ℕ) (dashes : word ≡ codes "--" ++ option) where
     -- an option that is joined to a value, and isn't one
     pub none_joined : (name value : List ℕ) → SplitsAt 61 option name value → ((a : Argument) → IsValued a name value → ⊥) → (a : Argument) (more : List (List ℕ))

@@ -1,4 +1,4 @@
-//! Random networks of up to six splitters: one verdict whoever steers the search, with scopes and guesses and without.
+//! Random networks of up to six splitters: one verdict whoever steers the search, with scopes and goals and without.
 use super::{net_of, property_named};
 use bt_choosers::{Active, Highest, Lowest, Recent};
 use bt_cnf::Chooser;
@@ -10,7 +10,8 @@ use bt_theory::{Outcome, solve};
 use std::alloc::{AllocError, Global};
 use std::test::Fail;
 
-const NETWORKS: &[&str] = &[
+/// In four parts, since some take as long as all others.
+const FIRST: &[&str] = &[
     "net 2 4 2\nedge i0 o2 4\nedge i1 s0 4\nedge s0 o0\nedge s0 o1 4\nedge s1 s1 3\nedge s1 o3 2\n\
      end\n",
     "net 2 2 1\nedge i0 s0 2\nedge i1 o1\nedge s0 o0 2\nend\n",
@@ -21,6 +22,9 @@ const NETWORKS: &[&str] = &[
     "net 1 1 3\nedge i0 s1\nedge s0 s2 3\nedge s0 s2 2\nedge s1 s0\nedge s1 s0 3\nedge s2 s1 4\n\
      edge s2 o0 4\nend\n",
     "net 1 1 2\nedge i0 s0\nedge s0 s1\nedge s1 s1\nedge s1 o0\nend\n",
+];
+
+const SECOND: &[&str] = &[
     "net 1 2 2\nedge i0 s0 3\nedge s0 o1 2\nedge s0 o0 3\nedge s1 s1\nedge s1 s1 3\nend\n",
     "net 2 1 5\nedge i0 s0 2\nedge i1 s3 2\nedge s0 s2 4\nedge s0 s3 4\nedge s1 s1 2\n\
      edge s2 s4 4\nedge s2 o0 3\nedge s3 s2 3\nedge s4 s1 2\nend\n",
@@ -28,10 +32,16 @@ const NETWORKS: &[&str] = &[
      edge s2 o0\nedge s2 s3 3\nedge s3 s3\nedge s3 s1 3\nedge s4 s2 2\nend\n",
     "net 1 2 4\nedge i0 s1\nedge s0 s3\nedge s0 s2\nedge s1 s1\nedge s1 o1\nedge s2 s2\n\
      edge s2 o0\nedge s3 s0\nedge s3 s3\nend\n",
+];
+
+const THIRD: &[&str] = &[
     "net 2 1 5\nedge i0 s0 4\nedge i1 s3 3\nedge s0 s4\nedge s0 s2\nedge s1 s3 2\nedge s2 s1 3\n\
      edge s2 o0\nedge s3 s0 2\nedge s3 s1 3\nedge s4 s2 3\nedge s4 s4 2\nend\n",
     "net 2 2 3\nedge i0 s0\nedge i1 s1 4\nedge s0 s0 2\nedge s0 s1 2\nedge s1 o1 3\nedge s1 s2 2\n\
      edge s2 s2\nedge s2 o0\nend\n",
+];
+
+const LAST: &[&str] = &[
     "net 2 1 4\nedge i0 s1\nedge i1 o0\nedge s0 s3\nedge s0 s2\nedge s1 s3\nedge s1 s0\n\
      edge s2 s1\nedge s3 s2\nedge s3 s0\nend\n",
     "net 3 2 6\nedge i0 s0 4\nedge i1 s0 4\nedge i2 s3 4\nedge s0 s3 2\nedge s1 s5\nedge s1 s1 2\n\
@@ -58,9 +68,9 @@ const LIMITS: Limits = Limits {
 /// A letter for a verdict: yes, no, or neither.
 fn letter_of(verdict: &Verdict) -> u8 {
     match verdict {
-        Verdict::Yes(_) => b'y',
+        Verdict::Yes { .. } => b'y',
         Verdict::No(_) => b'n',
-        Verdict::GaveUp(_) => b'?',
+        Verdict::GaveUp { .. } => b'?',
     }
 }
 
@@ -85,21 +95,12 @@ fn letter_of_outcome(outcome: &Outcome) -> u8 {
     }
 }
 
-/// The same of a search without definitions, scopes, guesses, goals and choosers.
+/// The same of a search without definitions, scopes, goals and choosers.
 fn searched(alloc: Global, net: &Net, property: Property) -> Result<u8, AllocError> {
     let formula = encode(alloc, net, property)?;
     let choosers: Vec<Lowest> = Vec::new(alloc);
     let mut definitions = Vec::new(alloc);
-    let outcome = solve(
-        alloc,
-        formula,
-        &mut definitions,
-        &[],
-        &[],
-        &[],
-        choosers,
-        LIMITS,
-    )?;
+    let outcome = solve(alloc, formula, &mut definitions, &[], &[], choosers, LIMITS)?;
     Ok(letter_of_outcome(&outcome))
 }
 
@@ -133,10 +134,36 @@ fn is_settled(alloc: Global, text: &str) -> Result<bool, AllocError> {
     }
 }
 
-#[test]
-fn random_networks_have_one_verdict(rt: HostRuntime) -> Result<(), Fail> {
-    for text in NETWORKS {
-        assert!(rt; is_settled(rt.alloc(), text)?, "{text}");
+/// Whether each of these networks is settled.
+fn are_settled(alloc: Global, networks: &[&str]) -> Result<bool, AllocError> {
+    for text in networks {
+        if !is_settled(alloc, text)? {
+            return Ok(false);
+        }
     }
+    Ok(true)
+}
+
+#[test]
+fn first_networks_have_one_verdict(rt: HostRuntime) -> Result<(), Fail> {
+    assert!(rt; are_settled(rt.alloc(), FIRST)?);
+    Ok(())
+}
+
+#[test]
+fn second_networks_have_one_verdict(rt: HostRuntime) -> Result<(), Fail> {
+    assert!(rt; are_settled(rt.alloc(), SECOND)?);
+    Ok(())
+}
+
+#[test]
+fn third_networks_have_one_verdict(rt: HostRuntime) -> Result<(), Fail> {
+    assert!(rt; are_settled(rt.alloc(), THIRD)?);
+    Ok(())
+}
+
+#[test]
+fn last_networks_have_one_verdict(rt: HostRuntime) -> Result<(), Fail> {
+    assert!(rt; are_settled(rt.alloc(), LAST)?);
     Ok(())
 }

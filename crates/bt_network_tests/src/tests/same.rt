@@ -58,9 +58,9 @@ fn verdict_on<C: Chooser>(
         pivots: 1000,
     };
     match decide_same(alloc, first, second, limits, choosers)? {
-        SameVerdict::Yes(_) => Ok("same"),
+        SameVerdict::Yes { .. } => Ok("same"),
         SameVerdict::No(_) => Ok("differ"),
-        SameVerdict::GaveUp(_) => Ok("gave up"),
+        SameVerdict::GaveUp { .. } => Ok("gave up"),
     }
 }
 

@@ -45,7 +45,7 @@ fn is_printed(
     Ok(is_whole == whole && sink.held() == text)
 }
 
-fn ends_with_hints(log: &Log, numbers: &[usize]) -> bool {
+fn ends_with_hints(log: &Log, numbers: &[u32]) -> bool {
     if log.len() != 2 {
         return false;
     }

@@ -6,8 +6,7 @@ use Rattle.bt_cnf.specs.declared.literal.Lit.{Lit}
 use Rattle.bt_cnf.specs.Formulas.{FormulaParts}
 use Rattle.bt_net.specs.Network.{Network}
 use Rattle.bt_fenc.specs.Columns.{output_edge, above}
-use Rattle.bt_fenc.specs.declared.state_literal.StateLiteral.{StateLiteral}
-use Rattle.bt_fenc.specs.Numbering.{rows_in, clauses_from, atoms_from}
+use Rattle.bt_fenc.specs.Numbering.{atoms_from}
 use Rattle.bt_fenc.specs.FlowFormula.{steady_formula}
 use Rattle.bt_same.specs.SameFormula.{first_shift, second_columns, second_vars, moved_lits, moved_atoms}
 
@@ -22,14 +21,6 @@ with_rows f rows = record { vars = f.vars + length rows; clauses = f.clauses; at
 -- a formula with these clauses behind its own
 abbrev pub with_lits : FormulaParts → List (List Lit) → FormulaParts
 with_lits f clauses = record f { clauses = f.clauses ++ clauses }
-
--- a formula with these clauses of claims behind its own, whose rows become its variables
-abbrev pub with_telling : FormulaParts → List (List StateLiteral) → FormulaParts
-with_telling f clauses = record {
-  vars = f.vars + length (rows_in clauses);
-  clauses = f.clauses ++ clauses_from (λ pair. 0) f.vars clauses;
-  atoms = f.atoms ++ atoms_from f.vars (rows_in clauses);
-}
 
 -- the literals that say that rows hold which are variables from this one on
 abbrev pub hold_from : ℕ → List RowParts → List Lit

@@ -3,7 +3,7 @@ use super::{fields, formula_of, number_of};
 use bt_cnf::{Chooser, Formula};
 use bt_extend::{Definition, Form};
 use bt_frac::Frac;
-use bt_theory::{GaveUp, Limits, Outcome, solve};
+use bt_theory::{GaveUp, Limits, Outcome, first_solution, solve};
 use std::alloc::{AllocError, Global};
 use std::test::Fail;
 
@@ -108,7 +108,7 @@ fn limits_of(text: &str) -> Limits {
     }
 }
 
-/// What a formula comes to, with scopes and limits of these texts.
+/// What a formula comes to, by guesses and then by a search, with scopes and limits of these texts.
 fn solved(
     alloc: Global,
     formula: Formula,
@@ -116,6 +116,13 @@ fn solved(
     guesses: &[Vec<bool>],
     limits: &str,
 ) -> Result<Outcome, AllocError> {
+    let limits = limits_of(limits);
+    if let Some(solution) = first_solution(alloc, &formula, guesses, limits.pivots)? {
+        return Ok(Outcome::Sat {
+            values: solution.values,
+            assignment: solution.assignment,
+        });
+    }
     let scopes = scopes_of(alloc, scopes)?;
     let choosers: Vec<Box<dyn Chooser>> = Vec::new(alloc);
     let mut definitions = Vec::new(alloc);
@@ -124,10 +131,9 @@ fn solved(
         formula,
         &mut definitions,
         &scopes,
-        guesses,
         &[],
         choosers,
-        limits_of(limits),
+        limits,
     )
 }
 
@@ -175,7 +181,6 @@ fn taken(alloc: Global, columns: &[usize]) -> Result<usize, AllocError> {
         alloc,
         formula,
         &mut definitions,
-        &[],
         &[],
         &[],
         choosers,

@@ -51,8 +51,6 @@ IsRoomAt t position (Some half) = IsLowest half × IsHalfRoom t position half
 -- one of two numbers, and at most both
 pub record IsLesser (first second lesser : Ratio) : Type 0 where
   pub is : (lesser ≡ first) ⊎ (lesser ≡ second)
-  pub first_lowest : IsLowest first
-  pub second_lowest : IsLowest second
   pub at_most_first : IsAtMost lesser first
   pub at_most_second : IsAtMost lesser second
 

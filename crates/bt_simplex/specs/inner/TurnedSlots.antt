@@ -1,13 +1,10 @@
 -- A turn of a basis, slot by slot.
-use Rattle.std.specs.Prelude.{◌≡◌, ◌≢◌, ℕ, ◌⊎◌, Bool, [], ◌∷◌, length, Option, Some, None, slice_set, ◌==◌, if◌then◌else◌}
-use Rattle.bt_frac.specs.Ratio.{Ratio, IsLowest, negated}
-use Rattle.bt_frac.specs.Products.{IsDivision}
+use Rattle.std.specs.Prelude.{◌≡◌, ◌≢◌, ℕ, Bool, length, Some, None, slice_set, ◌==◌, if◌then◌else◌}
+use Rattle.bt_frac.specs.Ratio.{Ratio}
 use Rattle.bt_lin.specs.WeightedRows.{coefficient_at}
-use Rattle.bt_line.specs.Lines.{one, Terms, IsLine, IsCombination, signed_terms}
+use Rattle.bt_line.specs.Lines.{Terms, IsLine, signed_terms}
 use Rattle.bt_line.specs.Substituting.{IsZeroLine, IsSubstituted, IsEntering}
 use Rattle.bt_simplex.specs.SolvedForms.{Slots, slot_at}
-use Rattle.bt_line.specs.declared.unfit.Unfit.{Unfit}
-use Rattle.bt_line.specs.Unfits.{IsUnfit}
 
 -- in every slot the line lacks the position, or its number there times the zero line is added to it
 pub record AreSubstituted (position : ℕ) (zero : Terms) (slots slots' : Slots) : Type 0 where

@@ -1,8 +1,8 @@
 -- Operations of a turn whose results leave 128 bits.
-use Rattle.std.specs.Prelude.{◌≡◌, ◌≢◌, ◌⊎◌, ℕ, length, Option, Some, None}
+use Rattle.std.specs.Prelude.{◌≡◌, ◌≢◌, ℕ, length, Option, Some, None}
 use Rattle.bt_frac.specs.Ratio.{Ratio, negated}
 use Rattle.bt_lin.specs.WeightedRows.{coefficient_at}
-use Rattle.bt_line.specs.Lines.{one, Terms, IsLine}
+use Rattle.bt_line.specs.Lines.{Terms, IsLine}
 use Rattle.bt_simplex.specs.SolvedForms.{Slots, slot_at, basis_of}
 use Rattle.bt_line.specs.Unfits.{IsNone, IsUnfit, IsUnfitZero}
 use Rattle.bt_simplex.specs.Causes.{IsEntryStep}

@@ -8,11 +8,10 @@ use Rattle.bt_sat.specs.Solving.{SolverParts, KeepsModel, IsModel, IsSoundLog, I
 use Rattle.bt_simplex.specs.SolvedForms.{basis_of}
 use Rattle.bt_simplex.specs.Tableaus.{TableauParts, positions_from}
 use Rattle.bt_theory.specs.Reaching.{atom_rows, columns_of, IsTableauOf, IsReachable}
-use Rattle.bt_theory.specs.Outcomes.{IsSolution, Fits, IsRefutation, IsUsedUp, TurnsOn, IsTooWide, IsOutcomeOver}
+use Rattle.bt_theory.specs.Outcomes.{Solves, Fits, IsRefutation, IsUsedUp, TurnsOn, IsTooWide, IsOutcomeOver}
 use Rattle.bt_theory.specs.declared.base.Base.{Base}
 use Rattle.bt_theory.specs.declared.lemma.Conflict.{Conflict}
 use Rattle.bt_theory.specs.declared.outcome.Outcome.{Outcome}
-use Rattle.bt_theory.specs.declared.outcome.Solution.{Solution}
 use Rattle.bt_theory.specs.inner.Bases.{base_in}
 use Rattle.bt_theory.specs.inner.Choosing.{IsChosen}
 use Rattle.bt_theory.specs.inner.Scopes.{IsScopeOf, parts_of}
@@ -52,10 +51,6 @@ pub record HasChosen (b : Base) (s : SolverParts) (chosen : List Bool) : Type 0 
 -- the conflict makes a lemma, where the weights are fractions in lowest terms
 abbrev pub MakesLemma : SolverParts → Conflict → Type 0
 MakesLemma s conflict = All IsLowest conflict.weights.items → IsLemmaOf s conflict.lits.items conflict.weights.items
-
--- the solution is one of the formula
-abbrev pub Solves : FormulaParts → Solution → Type 0
-Solves f solution = IsSolution f solution.values.items solution.assignment.items
 
 -- what is right to say at the end of a search
 abbrev pub IsEnd : ℕ → Base → SolverParts → End → Type 0

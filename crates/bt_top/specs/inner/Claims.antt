@@ -5,14 +5,14 @@ use Rattle.bt_words.specs.declared.command.Command.{Command}
 use Rattle.bt_words.specs.declared.command.Command.TheVariants.{Check, CheckLayout, CheckSame}
 use Rattle.bt_top.specs.declared.claim.CertificateClaim.{CertificateClaim}
 use Rattle.bt_top.specs.declared.claim.CertificateClaim.TheVariants.{Flow, NoLayout, Same}
-use Rattle.bt_top.specs.Certificates.{IsCertified}
+use Rattle.bt_top.specs.Certificates.{IsChecked}
 use Rattle.bt_top.specs.NoneCertificates.{IsLayoutChecked}
 use Rattle.bt_top.specs.Replies.{Reply}
 use Rattle.bt_top.specs.SameCertificates.{IsSameCertified}
 
 -- what is answered to bytes of which the certificate is to show the claim
 abbrev pub IsClaimed : CertificateClaim → List ℕ → Reply → Type 0
-IsClaimed (Flow p) = IsCertified p
+IsClaimed (Flow p) = IsChecked p
 IsClaimed (NoLayout rect tier) = IsLayoutChecked rect tier
 IsClaimed Same = IsSameCertified
 

@@ -1,9 +1,8 @@
 -- Fronts of an input: what they tell of the answer to it, whatever may follow.
-use Rattle.std.specs.Prelude.{◌≡◌, ℕ, ◌+◌, Bool, false, List, ◌++◌, All, Option, Result, Ok, Err, IfOk, MatchOption, length}
+use Rattle.std.specs.Prelude.{◌≡◌, ℕ, Bool, false, List, ◌++◌, All, Option, Result, Ok, Err, IfOk, MatchOption, length}
 use Rattle.std.specs.declared.alloc.AllocError.{AllocError}
 use Rattle.bt_answers.specs.Answers.{seen}
 use Rattle.bt_text.specs.Blanks.{IsBlank}
-use Rattle.bt_text.specs.Lines.{line}
 use Rattle.bt_io.specs.Bytes.{ReadsAll}
 use Rattle.bt_io.specs.Passages.{Passage}
 use Rattle.bt_io.specs.declared.fault.ReadAll.{ReadAll}
@@ -14,6 +13,8 @@ use Rattle.bt_cert.specs.declared.fault.CertFault.TheVariants as cert
 use Rattle.bt_same.specs.Sameness.{HaveEqualEnds}
 use Rattle.bt_top.specs.declared.answer.Answer.{Answer}
 use Rattle.bt_top.specs.declared.answer.Answer.TheVariants as answer
+use Rattle.bt_top.specs.declared.answer.Brief.{Brief}
+use Rattle.bt_top.specs.declared.answer.Brief.TheVariants as brief
 use Rattle.bt_designs.specs.declared.fault.DesignFault.{DesignFault}
 use Rattle.bt_designs.specs.declared.fault.DesignFault.TheVariants as design
 use Rattle.bt_top.specs.declared.front.Front.{Front}
@@ -30,14 +31,14 @@ use Rattle.bt_designs.specs.Told.{MayFollow}
 
 -- the front tells the refusal
 abbrev pub TellsRefusal : DesignFault → Front → Type 0
-TellsRefusal (design.Refused r) f = f ≡ front.Known (answer.Refused r)
+TellsRefusal (design.Refused r) f = f ≡ front.Known (brief.Refused r)
 TellsRefusal design.Memory f = ⊥
 
 -- ---- what is answered
 
 -- what is answered to steps: what they are accepted with where they refute the formula, or the first line for which they don't
-abbrev pub steps_answer : Answer → Result (Unit {0}) CertFault → Reply
-steps_answer accepted (Ok done) = Ok accepted
+abbrev pub steps_answer : Brief → Result (Unit {0}) CertFault → Reply
+steps_answer accepted (Ok done) = Ok (answer.Brief accepted)
 steps_answer accepted (Err fault) = cert_told fault
 
 -- what is answered to steps of which these lines were read, and more
@@ -47,7 +48,7 @@ IsStepsReply steps more reply =
 
 -- what is answered to a written state of which this was read, and more
 abbrev pub IsStateReply : WrittenState → List ℕ → Reply → Type 0
-IsStateReply w more reply = IsStateJudged w.net w.property (answer.No w.property) (w.text.now ++ more) reply
+IsStateReply w more reply = IsStateJudged w.net w.property (brief.No w.property) (w.text.now ++ more) reply
 
 -- what is answered to a written pair of states of which this was read, and more
 abbrev pub IsPairReply : WrittenPair → List ℕ → Reply → Type 0
@@ -55,7 +56,7 @@ IsPairReply w more reply = IsPairTextJudged (w.first, w.second) (w.text.now ++ m
 
 -- what is answered where a front was read, and more
 abbrev pub IsReply : Front → List ℕ → Reply → Type 0
-IsReply (front.Known a) more reply = reply ≡ Ok a
+IsReply (front.Known b) more reply = reply ≡ Ok (answer.Brief b)
 IsReply (front.Steps steps) more reply = IsStepsReply steps more reply
 IsReply (front.State w) more reply = IsStateReply w more reply
 IsReply (front.Pair w) more reply = IsPairReply w more reply
@@ -97,15 +98,15 @@ DrainsRest ended limit source result = (more : List ℕ) × ReadsRest ended limi
 
 -- why steps that are read from a source are no certificate, or why they could not be read
 abbrev pub steps_told : CertFault → Result Answer ReadAll
-steps_told (cert.CertLine k) = Ok (answer.CertLine k)
-steps_told (cert.BadStep k cause) = Ok (answer.BadStep k cause)
-steps_told cert.NoVerdict = Ok answer.NoVerdict
-steps_told (cert.CertWide k row column) = Ok (answer.CertWide k row column)
+steps_told (cert.CertLine k) = Ok (answer.Brief (brief.CertLine k))
+steps_told (cert.BadStep k cause) = Ok (answer.Brief (brief.BadStep k cause))
+steps_told cert.NoVerdict = Ok (answer.Brief brief.NoVerdict)
+steps_told (cert.CertWide k row column) = Ok (answer.Brief (brief.CertWide k row column))
 steps_told cert.ReadFault = Err ReadFault
 steps_told cert.TooLong = Err TooLong
 steps_told cert.Memory = Err Memory
 
 -- what is answered to steps that were judged so
-abbrev pub judged_answer : Answer → Result (Unit {0}) CertFault → Result Answer ReadAll
-judged_answer accepted (Ok done) = Ok accepted
+abbrev pub judged_answer : Brief → Result (Unit {0}) CertFault → Result Answer ReadAll
+judged_answer accepted (Ok done) = Ok (answer.Brief accepted)
 judged_answer accepted (Err fault) = steps_told fault

@@ -1,11 +1,11 @@
 -- Where the parts of a design lie.
-use Rattle.std.specs.Prelude.{ℕ, ◌+◌, ◌≤◌, ◌-ℤ◌, ◌≤ℤ◌, unsigned_abs, List, All}
+use Rattle.std.specs.Prelude.{◌+◌, ◌≤◌, ◌-ℤ◌, ◌≤ℤ◌, unsigned_abs, List, All}
 use Rattle.bt_parts.specs.declared.part.TheConstants.{MOST_COORDINATE}
 use Rattle.bt_parts.specs.declared.part.Cell.{Cell}
 use Rattle.bt_parts.specs.declared.part.Part.{Part}
 use Rattle.bt_parts.specs.declared.part.Rect.{Rect}
 use Rattle.bt_parts.specs.Cells.{Covers, IsInside}
-use Rattle.bt_top.specs.declared.finding.Span.{Span}
+use Rattle.bt_top.specs.declared.smallest_found.Span.{Span}
 use Rattle.bt_top.specs.Finding.{Holds}
 
 -- both cells of a span lie in each rectangle that holds the parts

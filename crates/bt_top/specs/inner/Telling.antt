@@ -1,17 +1,13 @@
 -- What the parts of the program tell of reading, answering and writing.
-use Rattle.std.specs.Prelude.{◌≡◌, ◌≢◌, ℕ, List, ◌⊎◌, Result, Ok, Err, Option, Some, None}
-use Rattle.bt_io.specs.Bytes.{WritesText}
+use Rattle.std.specs.Prelude.{◌≡◌, ◌≢◌, ℕ, List, ◌⊎◌, Result, Ok, Err}
 use Rattle.bt_io.specs.Passages.{Passage}
 use Rattle.bt_io.specs.declared.fault.ReadAll.{ReadAll}
-use Rattle.bt_io.specs.declared.fault.WriteFault.{WriteFault}
 use Rattle.bt_top.specs.declared.answer.Answer.{Answer}
 use Rattle.bt_top.specs.declared.answer.Answer.TheVariants as answer
 use Rattle.bt_words.specs.declared.command.Command.{Command}
 use Rattle.bt_words.specs.Commands.{IsCommand}
 use Rattle.bt_top.specs.declared.program.TheConstants.{NO_MEMORY}
-use Rattle.bt_top.specs.Answers.{text_of}
 use Rattle.bt_top.specs.Inputs.{IsUntouched, ReadsInput}
-use Rattle.bt_top.specs.inner.Lines.{IsLine}
 use Rattle.bt_top.specs.Answering.{IsRightTo}
 use Rattle.bt_top.specs.Endings.{IsRight, IsTold}
 
@@ -30,12 +26,3 @@ IsAnsweredTo words source (Err fault) = (command : Command) × IsCommand command
 abbrev pub IsToldUnlessMemory : Answer → Passage → ℕ → Type 0
 IsToldUnlessMemory a sink status =
     IsTold a sink status ⊎ ((status ≡ NO_MEMORY) × IsUntouched sink × (a ≢ answer.Usage) × (a ≢ answer.TooLong))
-
--- the answer is told; or there is no memory for its text, and nothing is written
-abbrev pub IsLineTold : Answer → Passage → ℕ → Type 0
-IsLineTold a sink status = IsTold a sink status ⊎ ((status ≡ NO_MEMORY) × IsUntouched sink)
-
--- the answer's text is given to the sink; or it is a line that has to be formed, and nothing is written
-abbrev pub IsPrinted : Answer → Passage → Option (Result (Unit {0}) WriteFault) → Type 0
-IsPrinted a sink (Some written) = WritesText sink (text_of a) written
-IsPrinted a sink None = IsLine a × IsUntouched sink × (a ≢ answer.Usage) × (a ≢ answer.TooLong)

@@ -3,7 +3,7 @@ use Rattle.std.specs.Prelude.{◌≡◌, ◌≢◌, ◌+◌, ◌-◌, ◌<◌, �
 use Rattle.std.specs.Global.{Vec}
 use Rattle.bt_cnf.specs.declared.literal.Lit.{Lit}
 use Rattle.bt_watch.specs.declared.clause_pool.Watch.{Watch}
-use Rattle.bt_watch.specs.Codes.{code_of}
+use Rattle.bt_cnf.specs.Codes.{code_of}
 use Rattle.bt_watch.specs.WatchersParts.{WatchersParts}
 use Rattle.bt_watch.specs.Watchers.{watches_of}
 

@@ -1,4 +1,4 @@
-use Rattle.std.proofs.Common.{◌≡◌, [], List, Bool, sym, subst}
+use Rattle.std.proofs.Common.{◌≡◌, List, Bool, sym, subst}
 use Rattle.bt_frac.specs.Ratio.{Ratio}
 use Rattle.bt_frac.specs.Values.{value_in}
 use Rattle.bt_net.specs.Network.{Network}
@@ -9,7 +9,9 @@ use Rattle.bt_cnf.specs.Assignments.{truth_in}
 use Rattle.bt_cnf.specs.Meeting.{Meets}
 use Rattle.bt_fenc.specs.FlowFormula.{flow_formula}
 use Rattle.bt_fenc.specs.Solutions.{BreaksWhatIsMet}
-use Rattle.bt_fenc.proofs.Refuted.{refuted_holds}
+use Rattle.bt_extend.proofs.Conservative.{refuted_extension_is_unmet}
+use Rattle.bt_fenc.proofs.Formulas.{is_formula}
+use Rattle.bt_fenc.proofs.Refuted.{unmet_holds}
 use Rattle.bt_theory.specs.Outcomes.{IsOutcome}
 use Rattle.bt_decide.proofs.deciding.verdict_of.Goals as goal
 
@@ -20,13 +22,18 @@ breaks_met n p state values lent_values truths lent_truths e f met breaks =
     breaks p (subst (λ vs. Meets (flow_formula n p) (truth_in lent_truths) (value_in vs)) (sym e) (subst (λ ts. Meets (flow_formula n p) (truth_in ts) (value_in values)) (sym f) met))
 
 pub returns-in_ok-state-in-Sat : goal.returns-in_ok-state-in-Sat
-returns-in_ok-state-in-Sat c = λ p limits network is. (
+returns-in_ok-state-in-Sat c = λ p limits network are is. (
   breaks_met c.args.net.now p c.in_ok-state-in-Sat.state c.in-Sat.values.items c.deref.result.now c.in-Sat.assignment.items c.deref-in-Sat.result.now c.deref.ensures.value c.deref-in-Sat.ensures.value
-      (subst (IsOutcome (flow_formula c.args.net.now p) [] limits) c.in-Sat.is is).meets c.in_ok-state-in-Sat.ensures.breaks,
+      (subst (IsOutcome (flow_formula c.args.net.now p) c.args.definitions.items limits) c.in-Sat.is is).meets c.in_ok-state-in-Sat.ensures.breaks,
   c.in_ok-state-in-Sat.ensures.lowest,
 )
 
 pub returns-in-Refuted : goal.returns-in-Refuted
-returns-in-Refuted c = λ p limits network is.
-    let refutes = subst (IsOutcome (flow_formula c.args.net.now p) [] limits) c.in-Refuted.is is in
-    (refuted_holds c.args.net.now p c.in-Refuted.log.steps network refutes.0.refutes, refutes.0, refutes.1)
+returns-in-Refuted c = λ p limits network are is.
+    let f = flow_formula c.args.net.now p in
+    let refutes = subst (IsOutcome f c.args.definitions.items limits) c.in-Refuted.is is in
+    let unmet = refuted_extension_is_unmet f c.args.definitions.items c.in-Refuted.log.steps (is_formula c.args.net.now p network) are.are refutes.0.refutes in
+    (unmet_holds c.args.net.now p network unmet, (are, refutes.0, refutes.1))
+
+pub returns-in-GaveUp : goal.returns-in-GaveUp
+returns-in-GaveUp c = λ p limits network are is. (are, subst (IsOutcome (flow_formula c.args.net.now p) c.args.definitions.items limits) c.in-GaveUp.is is)

@@ -3,6 +3,7 @@ use Rattle.std.specs.List.{All}
 use Rattle.bt_cnf.specs.declared.literal.Lit.{Lit}
 use Rattle.bt_cnf.specs.Units.{clause_at}
 use Rattle.bt_sat.specs.inner.Analysing.{IsTracing, MarksSeen}
+use Rattle.bt_sat.specs.inner.KnownLits.{lits_in}
 use Rattle.bt_sat.specs.inner.LoggedFormula.{clauses_in}
 use Rattle.bt_sat.proofs.Deriving
 use Rattle.bt_sat.proofs.analysis.begin.Goals as goal
@@ -11,7 +12,7 @@ pub mark_seen-requires : goal.mark_seen-requires
 mark_seen-requires c =
     let all = clauses_in c.args.known.now in
     let s = c.args.search.now in
-    subst (λ ps. All (λ (l : Lit). l.var < length ps) c.clause-clause.result.now) (sym c.deref.ensures.value)
+    subst (λ ps. All (λ (l : Lit). l.var < length ps) (lits_in c.clause-clause.result)) (sym c.deref.ensures.value)
     (subst (All (λ (l : Lit). l.var < length s.assignment.places.items)) (sym c.clause-clause.ensures)
     (Deriving.false_below all s c.requires.ordered c.args.conflict c.requires.falses))
 
@@ -27,7 +28,7 @@ conflict_level-requires-clause-inside c =
     let s = c.args.search.now in
     let size : c.len-size.result ≡ length s.assignment.trail.items = omega (arith, c.len-size.ensures) in
     Deriving.conflict_inside all s c.requires.ordered c.args.conflict c.mark_seen.new.agenda c.requires.below c.requires.falses
-    (seen c.deref.result.now s.assignment.places.items c.clause-clause.result.now (clause_at all c.args.conflict) c.len-size.result (length s.assignment.trail.items) c.clear.new.self [] c.mark_seen.new.agenda c.deref.ensures.value
+    (seen c.deref.result.now s.assignment.places.items (lits_in c.clause-clause.result) (clause_at all c.args.conflict) c.len-size.result (length s.assignment.trail.items) c.clear.new.self [] c.mark_seen.new.agenda c.deref.ensures.value
     c.clause-clause.ensures size c.clear.ensures c.in_ok-mark_seen.ensures)
 
 pub returns : goal.returns
@@ -35,7 +36,7 @@ returns c =
     let all = clauses_in c.args.known.now in
     let s = c.args.search.now in
     let size : c.len-size.result ≡ length s.assignment.trail.items = omega (arith, c.len-size.ensures) in
-    let marks = seen c.deref.result.now s.assignment.places.items c.clause-clause.result.now (clause_at all c.args.conflict) c.len-size.result (length s.assignment.trail.items) c.clear.new.self [] c.mark_seen.new.agenda
+    let marks = seen c.deref.result.now s.assignment.places.items (lits_in c.clause-clause.result) (clause_at all c.args.conflict) c.len-size.result (length s.assignment.trail.items) c.clear.new.self [] c.mark_seen.new.agenda
     c.deref.ensures.value c.clause-clause.ensures size c.clear.ensures c.in_ok-mark_seen.ensures in
     let none : [] ≡ c.clear-2.new.self.items = sym c.clear-2.ensures.items in
     let one : c.args.conflict ∷ [] ≡ c.push.new.self.items = ap (λ ns. ns ++ c.args.conflict ∷ []) (sym c.clear-3.ensures.items) ∙ sym c.in_ok-push.ensures.items in

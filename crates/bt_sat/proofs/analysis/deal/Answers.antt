@@ -3,6 +3,7 @@ use Rattle.std.specs.List.{All}
 use Rattle.bt_cnf.specs.declared.literal.Lit.{Lit}
 use Rattle.bt_cnf.specs.Units.{clause_at}
 use Rattle.bt_sat.specs.inner.Analysing.{IsTraced, IsTracing, MarksSeen}
+use Rattle.bt_sat.specs.inner.KnownLits.{lits_in}
 use Rattle.bt_sat.specs.inner.LoggedFormula.{clauses_in}
 use Rattle.bt_sat.proofs.Deriving
 use Rattle.bt_sat.proofs.analysis.deal.Goals as goal
@@ -22,7 +23,7 @@ mark_seen-requires c =
     let s = c.args.search.now in
     let inside = Deriving.place_inside all s c.requires.ordered c.args.conflict_level c.args.place c.args.analysis.now.agenda c.args.analysis.now.picked.items c.args.analysis.now.hints.items c.requires.taken in
     let reason = c.requires.ordered.reasoned.reasons c.args.place c.in-Some.number inside c.in-Some.ensures.1 in
-    subst (λ ps. All (λ (l : Lit). l.var < length ps) c.clause.result.now) (sym c.deref.ensures.value)
+    subst (λ ps. All (λ (l : Lit). l.var < length ps) (lits_in c.clause.result)) (sym c.deref.ensures.value)
     (subst (All (λ (l : Lit). l.var < length s.assignment.places.items)) (sym c.clause.ensures) (Deriving.reason_below all s c.requires.ordered c.args.place c.in-Some.number inside reason))
 
 pub returns-in_ok-mark_seen-in-Some : goal.returns-in_ok-mark_seen-in-Some

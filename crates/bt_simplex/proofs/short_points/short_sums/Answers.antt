@@ -1,4 +1,4 @@
-use Rattle.std.proofs.Common.{◌≡◌, ◌<◌, ◌≤◌, ◌∙◌, ◌^◌, arith, refl, length, get_or, subst, sym, ap, FitsSigned, w64, rules}
+use Rattle.std.proofs.Common.{◌≡◌, ◌<◌, ◌≤◌, ◌∙◌, ◌^◌, arith, refl, length, subst, sym, ap, FitsSigned, w64, rules}
 use Rattle.std.proofs.lemmas.Int.{to_z-of_z}
 use Rattle.bt_simplex.specs.Points.{resting}
 use Rattle.bt_simplex.specs.inner.Rests.{rest_point}

@@ -6,13 +6,13 @@ use Rattle.bt_theory.specs.inner.Bases.{base_in, IsBase}
 use Rattle.bt_theory.proofs.Bases.{base_extended, is_base}
 use Rattle.bt_theory.proofs.solving.solve.Goals as goal
 
-pub decide-requires : goal.decide-requires
-decide-requires g c =
+pub search-requires : goal.search-requires
+search-requires g c =
     subst (IsBase c.in_ok-base.base) (sym c.in_ok-extend_all.ensures.formula) (is_base c.args.formula c.in_ok-base.base c.extend_all.new.definitions.items c.in_ok-base.ensures)
 
 pub returns-clause-outcome : goal.returns-clause-outcome
 returns-clause-outcome g c =
     let b = c.in_ok-base.base in
     let further = extended c.args.formula c.extend_all.new.definitions.items in
-    subst (λ f. IfOk c.decide.result (IsOutcomeOver f further c.args.limits)) (base_extended c.args.formula b c.extend_all.new.definitions.items c.in_ok-base.ensures)
-    (subst (λ g. IfOk c.decide.result (IsOutcomeOver (base_in b g) g c.args.limits)) c.in_ok-extend_all.ensures.formula c.decide.ensures)
+    subst (λ f. IfOk c.search.result (IsOutcomeOver f further c.args.limits)) (base_extended c.args.formula b c.extend_all.new.definitions.items c.in_ok-base.ensures)
+    (subst (λ g. IfOk c.search.result (IsOutcomeOver (base_in b g) g c.args.limits)) c.in_ok-extend_all.ensures.formula c.search.ensures)

@@ -1,4 +1,4 @@
-use Rattle.std.proofs.Common.{◌≡◌, ◌+◌, ◌-◌, ◌<◌, ◌++◌, false, length, refl, arith}
+use Rattle.std.proofs.Common.{◌≡◌, ◌-◌, ◌++◌, false, refl, arith}
 use Rattle.bt_io.specs.Passages.{passage}
 use Rattle.bt_designs.specs.declared.held.Held.{Held}
 use Rattle.bt_designs.specs.declared.held.TheConstants.{MOST_CHECKED}

@@ -2,7 +2,7 @@ use Rattle.std.proofs.Common.{◌≡◌, ℕ, ◌<◌, arith, [], ◌∷◌, ◌
 use Rattle.std.proofs.lemmas.List.{get_or_default}
 use Rattle.bt_cnf.specs.declared.literal.Lit.{Lit}
 use Rattle.bt_watch.specs.Watched.{no_lit, first, second}
-use Rattle.bt_watch.specs.Codes.{code_of}
+use Rattle.bt_cnf.specs.Codes.{code_of}
 use Rattle.bt_watch.specs.Keeping.{AreWatched}
 use Rattle.bt_watch.specs.Propagating.{root_of}
 use Rattle.bt_watch.specs.inner.Watchers.{Watches}

@@ -1,4 +1,4 @@
-use Rattle.std.proofs.Common.{◌∷◌, ◌++◌, [], ap, ◌∙◌}
+use Rattle.std.proofs.Common.{◌≡◌, ◌∷◌, ◌++◌, [], ap, ◌∙◌}
 use Rattle.std.proofs.lemmas.Result.{err_from_is_err_and}
 use Rattle.bt_log.specs.Logs.{LogParts, Learnt}
 use Rattle.bt_log.specs.declared.pooled_step.PooledStep.TheVariants as kept
@@ -9,7 +9,7 @@ use Rattle.bt_log.proofs.log.Log.add_learnt.Goals as goal
 pub returns-in_err-ids : goal.returns-in_err-ids
 returns-in_err-ids c =
     let f = c.self.inside in
-    let p = err_from_is_err_and c.from_residual.result c.from_residual.ensures.1 in
+    let p = err_from_is_err_and c.from_residual-in_err-ids.result c.from_residual-in_err-ids.ensures.1 in
     let same = same_steps f.lits c.keep_both.new.all_lits f.weights f.weights f.hints c.keep_both.new.all_items c.keep_both.ensures.lits_grow (grows_not f.weights) c.keep_both.ensures.items_grow f.steps.items c.self.invariant in
     rw p.1 (ap (λ steps. record { first = f.first; steps = steps }) same ∙ c.self.view_is)
 
@@ -25,17 +25,19 @@ returns-in_err-push c =
 pub invariant_of-self-2 : goal.invariant_of-self-2
 invariant_of-self-2 c =
     let f = c.self.inside in
-    let keeps = keeps_learnt c.keep_both.new.all_lits f.weights c.keep_both.new.all_items c.args.lits.now c.args.hints.now c.in_ok-ids.ids.0 c.in_ok-ids.ids.1 c.in_ok-ids.ensures.kept.0 c.in_ok-ids.ensures.kept.1 in
+    let keeps = keeps_learnt c.keep_both.new.all_lits f.weights c.keep_both.new.all_items c.deref.result.now c.deref-2.result.now c.in_ok-ids.ids.0 c.in_ok-ids.ids.1 c.in_ok-ids.ensures.kept.0 c.in_ok-ids.ensures.kept.1 in
     let are = are_kept f.lits c.keep_both.new.all_lits f.weights f.weights f.hints c.keep_both.new.all_items c.keep_both.ensures.lits_grow (grows_not f.weights) c.keep_both.ensures.items_grow f.steps.items c.self.invariant in
     kept_added c.keep_both.new.all_lits f.weights c.keep_both.new.all_items f.steps.items c.push.new.self.items (kept.Learnt c.in_ok-ids.ids.0 c.in_ok-ids.ids.1) c.in_ok-push.ensures.items are keeps.0
 
 pub returns : goal.returns
 returns c =
     let f = c.self.inside in
-    let keeps = keeps_learnt c.keep_both.new.all_lits f.weights c.keep_both.new.all_items c.args.lits.now c.args.hints.now c.in_ok-ids.ids.0 c.in_ok-ids.ids.1 c.in_ok-ids.ensures.kept.0 c.in_ok-ids.ensures.kept.1 in
+    let keeps = keeps_learnt c.keep_both.new.all_lits f.weights c.keep_both.new.all_items c.deref.result.now c.deref-2.result.now c.in_ok-ids.ids.0 c.in_ok-ids.ids.1 c.in_ok-ids.ensures.kept.0 c.in_ok-ids.ensures.kept.1 in
     let same = same_steps f.lits c.keep_both.new.all_lits f.weights f.weights f.hints c.keep_both.new.all_items c.keep_both.ensures.lits_grow (grows_not f.weights) c.keep_both.ensures.items_grow f.steps.items c.self.invariant in
     let step = Learnt c.args.lits.now c.args.hints.now in
+    let packed : Learnt c.deref.result.now c.deref-2.result.now ≡ step =
+    ap (λ lits. Learnt lits c.deref-2.result.now) (c.deref.ensures.value ∙ c.in_ok-packed.ensures) ∙ ap (Learnt c.args.lits.now) (c.deref-2.ensures.value ∙ c.in_ok-narrow.ensures) in
     ap (λ steps. record { first = f.first; steps = steps })
     (step_added c.keep_both.new.all_lits f.weights c.keep_both.new.all_items f.steps.items c.push.new.self.items (kept.Learnt c.in_ok-ids.ids.0 c.in_ok-ids.ids.1) (kept_steps f.lits f.weights f.hints f.steps.items) step
-    c.in_ok-push.ensures.items same keeps.1)
+    c.in_ok-push.ensures.items same (keeps.1 ∙ packed))
     ∙ ap (λ (log : LogParts). record log { steps = log.steps ++ step ∷ [] }) c.self.view_is

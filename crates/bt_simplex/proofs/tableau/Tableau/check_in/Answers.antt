@@ -1,6 +1,6 @@
-use Rattle.std.proofs.Common.{◌≡◌, ap, subst, sym, ◌∙◌}
+use Rattle.std.proofs.Common.{subst, sym}
 use Rattle.bt_simplex.specs.SolvedForms.{Slots}
-use Rattle.bt_simplex.specs.Tableaus.{TableauParts, IsTableau}
+use Rattle.bt_simplex.specs.Tableaus.{IsTableau}
 use Rattle.bt_simplex.specs.inner.Bases.{with_slots}
 use Rattle.bt_simplex.specs.inner.Runs.{IsRun}
 use Rattle.bt_simplex.proofs.tableau.Tableau.check_in.Goals as goal

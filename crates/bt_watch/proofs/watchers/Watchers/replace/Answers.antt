@@ -1,7 +1,7 @@
 use Rattle.std.proofs.Common.{List, set, ap, ◌∙◌}
 use Rattle.std.specs.Global.{Vec}
 use Rattle.bt_watch.specs.declared.clause_pool.Watch.{Watch}
-use Rattle.bt_watch.specs.Codes.{code_of}
+use Rattle.bt_cnf.specs.Codes.{code_of}
 use Rattle.bt_watch.specs.inner.Watchers.{lists_of, with_list}
 use Rattle.bt_watch.specs.WatchersParts.{WatchersParts}
 use Rattle.bt_watch.proofs.Lent.{put_at}

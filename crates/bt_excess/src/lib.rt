@@ -1,0 +1,12 @@
+//! Lines of argument by how much edges carry more or less than others: than in the state in which splitters divide evenly, or
+//! than those beside them in another network. Nothing is claimed of them but that they are safe.
+#![tactic(auto)]
+
+mod dividing;
+mod looping;
+mod numbers;
+mod pairing;
+
+pub use looping::add_looping;
+pub use pairing::pairing_of;
+pub use std::alloc::AllocError as Memory;

@@ -1,0 +1,12 @@
+//! The line of argument for `unlimited`: by the means of the ends that flows reach. Nothing is claimed of it but that it is
+//! safe.
+#![tactic(auto)]
+
+mod defining;
+mod delivering;
+mod means;
+mod side;
+mod unlimited;
+
+pub use std::alloc::AllocError as Memory;
+pub use unlimited::add_unlimited;

@@ -1,5 +1,0 @@
-use Rattle.std.proofs.Common.{Ok, ap}
-use Rattle.bt_top.proofs.decision.decided_of.Goals as goal
-
-pub returns-in-Ok : goal.returns-in-Ok
-returns-in-Ok g c = (c.in-Ok.verdict, c.in-Ok.ensures, ap Ok c.verdict_told.ensures)
