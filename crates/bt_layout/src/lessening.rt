@@ -15,7 +15,7 @@ const GREATEST: Rect = Rect {
 };
 
 /// Layouts are made smaller only to rectangles that have so many cells for each splitter.
-const LEAST_ROOM: u64 = 8;
+const LEAST_ROOM: u64 = 9;
 
 /// For each cell a layout is made smaller for about as long as so many conflicts take.
 const CELL_EFFORT: u64 = 200;
