@@ -153,7 +153,8 @@ def collect(asked):
 
 def main(arguments):
     asked = words_of(arguments)
-    signal.signal(signal.SIGTERM, lambda *_: signal.raise_signal(signal.SIGINT))
+    # Not by way of an interrupt, which who starts this may have it ignore.
+    signal.signal(signal.SIGTERM, signal.default_int_handler)
     try:
         status = collect(asked)
         sys.stdout.flush()

@@ -55,8 +55,11 @@ class Program:
             timer.start()
         try:
             feed(process.stdin, reads)
-        finally:
             os.waitid(os.P_PID, process.pid, os.WEXITED | os.WNOWAIT)
+        except BaseException:
+            self.end(process.pid)
+            raise
+        finally:
             with self.guard:
                 _, status, usage = os.wait4(process.pid, 0)
                 late = self.running.pop(process.pid)

@@ -5,6 +5,7 @@ import os
 import shlex
 import signal
 from concurrent.futures import ThreadPoolExecutor
+from contextlib import contextmanager
 from queue import Empty, SimpleQueue
 
 from . import design, files
@@ -12,6 +13,9 @@ from .answers import Answer, Smaller
 from .progress import REDRAWN_EACH, Progress
 from .states import PROPERTIES
 from .work import DESIGN_JSON, FAILED, Folder
+
+STOPS = signal.SIGINT, signal.SIGTERM
+"""The signals that stop the work."""
 
 
 def fault_of(fault):
@@ -133,9 +137,23 @@ def next_of(ended, progress):
             pass
 
 
+@contextmanager
+def stops_into(ended):
+    """What stops the work comes through the queue of what tasks leave, as if one had ended by it: raised wherever it comes,
+    it could leave a lock taken that a task waits for. What the caller ignores stays ignored."""
+    before = {it: signal.getsignal(it) for it in STOPS}
+    heeded = [it for it in STOPS if before[it] is not signal.SIG_IGN]
+    for it in heeded:
+        signal.signal(it, lambda *_: ended.put(KeyboardInterrupt()))
+    try:
+        yield
+    finally:
+        for it in heeded:
+            signal.signal(it, before[it])
+
+
 def run_all(tasks, jobs, program):
-    """Does all tasks, so many at once. An interrupt comes through the queue of what tasks leave, as if one had ended by
-    it: raised wherever it comes, it could leave a lock taken that a task waits for."""
+    """Does all tasks, so many at once."""
     progress, ended = Progress(len(tasks)), SimpleQueue()
 
     def run(name, call, *rest):
@@ -148,24 +166,25 @@ def run_all(tasks, jobs, program):
         progress.running.pop(id(rest))
         ended.put(fault)
 
-    before = signal.signal(signal.SIGINT, lambda *_: ended.put(KeyboardInterrupt()))
-    pool = ThreadPoolExecutor(jobs)
-    try:
-        for name, task in tasks:
-            pool.submit(run, name, *task)
-        for _ in tasks:
-            fault = next_of(ended, progress)
-            progress.done += 1
-            if fault:
-                raise fault
-    except BaseException:
-        program.stop()
-        pool.shutdown(cancel_futures=True)
-        raise
-    finally:
-        progress.end()
-        pool.shutdown()
-        signal.signal(signal.SIGINT, before)
+    with stops_into(ended):
+        pool = ThreadPoolExecutor(jobs)
+        try:
+            for name, task in tasks:
+                pool.submit(run, name, *task)
+            for _ in tasks:
+                fault = next_of(ended, progress)
+                progress.done += 1
+                if fault:
+                    raise fault
+        except BaseException:
+            program.stop()
+            pool.shutdown(cancel_futures=True)
+            raise
+        finally:
+            progress.end()
+            pool.shutdown()
+    if not ended.empty():
+        raise ended.get()
 
 
 def work(rows, worker, jobs):

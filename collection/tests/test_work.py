@@ -6,8 +6,9 @@ import signal
 import subprocess
 import sys
 import time
+from unittest import mock
 
-from .. import states, strings
+from .. import program, progress, running, states, strings
 from ..files import replacing
 from . import EXAMPLES, TOP, Case, belt, blueprint, run, test_report
 
@@ -120,11 +121,24 @@ class Resuming(Case):
         self.assertEqual(told, {("late", "the time was up after 0.3 seconds by the clock")})
         self.assertEqual((status, self.left_undone()), (0, []))
 
-    def start(self, *more, how=""):
-        words = [str(it) for it in self.words(*more, how=how)]
+    def start(self, *words, interrupt=signal.SIG_DFL):
+        """Starts the tool, with interrupts heeded or ignored however the tests were started."""
         environment = {**os.environ, "PYTHONPATH": str(TOP)}
-        command = [sys.executable, "-B", "-m", "collection", *words]
-        return subprocess.Popen(command, env=environment, stdout=subprocess.PIPE, stderr=subprocess.PIPE)
+        return subprocess.Popen(
+            [sys.executable, "-B", "-m", "collection", *map(str, words)],
+            env=environment,
+            stdin=subprocess.PIPE,
+            stdout=subprocess.PIPE,
+            stderr=subprocess.PIPE,
+            preexec_fn=lambda: signal.signal(signal.SIGINT, interrupt),
+        )
+
+    def stop(self, tool, number):
+        """Sends the tool a signal, and sees to it that it stops soon."""
+        tool.send_signal(number)
+        _, wrong = tool.communicate(timeout=50)
+        self.assertEqual((tool.returncode, b"goes on from here" in wrong), (130, True), wrong)
+        self.assertEqual(self.left_undone(), [])
 
     def wait_for(self, count):
         end = time.monotonic() + 20
@@ -134,18 +148,34 @@ class Resuming(Case):
     def test_a_stopped_tool_goes_on(self):
         for number in (signal.SIGTERM, signal.SIGINT):
             (self.folder / "log").unlink(missing_ok=True)
-            tool = self.start(how="slow")
+            tool = self.start(*self.words(how="slow"))
             self.wait_for(2)
-            tool.send_signal(number)
-            _, wrong = tool.communicate(timeout=90)
-            self.assertEqual((tool.returncode, b"goes on from here" in wrong), (130, True), wrong)
-            self.assertEqual((self.left_undone(), (self.report / "index.html").exists()), ([], False))
+            self.stop(tool, number)
+            self.assertFalse((self.report / "index.html").exists())
         (self.folder / "log").unlink()
         self.assertEqual(run(*self.words())[0], 0)
         self.assertEqual({it["verdict"] for it in self.results()}, {"yes"})
 
+    def test_it_is_stopped_wherever_it_is_though_interrupts_are_ignored(self):
+        tool = self.start(*self.words(how="slow"), interrupt=signal.SIG_IGN)
+        self.wait_for(2)
+        tool.send_signal(signal.SIGINT)
+        self.stop(tool, signal.SIGTERM)
+        (self.folder / "log").unlink()
+        tool = self.start("--one", self.report / "designs" / "one", *self.words()[3:], interrupt=signal.SIG_IGN)
+        self.wait_for(1)
+        self.stop(tool, signal.SIGTERM)
+        tool = self.start("-", *self.words()[1:], interrupt=signal.SIG_IGN)
+        tool.stdin.write(b" " * 1_000_000)
+        self.stop(tool, signal.SIGTERM)
+
+    def test_a_stop_after_the_last_task_is_heeded(self):
+        late = mock.patch.object(progress.Progress, "end", lambda _: signal.raise_signal(signal.SIGTERM))
+        with late, self.assertRaises(KeyboardInterrupt):
+            running.run_all([("one", (lambda: None,))], 1, program.Program(self.fake()))
+
     def test_a_killed_tool_leaves_nothing_half_done(self):
-        tool = self.start(how="slow")
+        tool = self.start(*self.words(how="slow"))
         self.wait_for(2)
         tool.kill()
         tool.communicate()
