@@ -55,6 +55,13 @@ class Networks(Case):
         self.assertIsNone(networks.renaming(rings(6).edges, rings(3, 3).edges))
         self.assertEqual(networks.grouped([rings(6), rings(3, 3), rings(6), rings(3, 3)]), [0, 1, 0, 1])
 
+    def test_small_layouts_show_the_networks_of_the_large_ones(self):
+        for small, large in (("loop-5-to-5-in-9x11", 5), ("loop-6-to-6-in-9x10", 6), ("loop-7-to-7-in-9x9", 7)):
+            one, other = (
+                states.read_net((EXAMPLES / f"{it}.net").read_text()).edges for it in (small, f"loop-{large}-to-{large}")
+            )
+            self.assertTrue(networks.is_renaming(networks.renaming(one, other), one, other), small)
+
     def test_they_stand_together_with_their_cells(self):
         large = json.loads((EXAMPLES / "balancer-8-to-8.json").read_text())
         small = (EXAMPLES / "balancer-8-to-8-in-9x11.json").read_text()
