@@ -58,7 +58,7 @@ class Labels(Case):
 class Examples(Case):
     def test_trimmed_to_their_splitters(self):
         found = list(trimming.designs())
-        self.assertEqual(len(found), 32)
+        self.assertEqual(len(found), 35)
         for name, text in found:
             with self.subTest(name=name):
                 label = name.split("/")[-1]

@@ -41,4 +41,4 @@ class Trimmed(Case):
                     (_, _, own), (_, _, opened) = whole[label][0], trimmed[label][0]
                     self.assertIn(told.format(own, opened), said[label])
                     others += 1
-        self.assertEqual((len(found), others), (32, 10))
+        self.assertEqual((len(found), others), (35, 10))

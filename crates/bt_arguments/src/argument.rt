@@ -3,12 +3,11 @@ use crate::balancing::aims_of;
 use crate::lacking::add_lacking;
 use bt_cnf::Formula;
 use bt_excess::{add_looping, pairing_of};
-use bt_extend::Definition;
+use bt_extend::{Definition, Goal};
 use bt_flow::Property;
 use bt_means::add_unlimited;
 use bt_net::Net;
 use bt_scopes::{Aim, Line, scopes_of, scopes_of_both};
-use bt_theory::Goal;
 use std::alloc::{AllocError, Global};
 
 /// Definitions that extend a formula, and scopes and goals over the extended formula.

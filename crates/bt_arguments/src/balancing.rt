@@ -2,11 +2,10 @@
 //! edges out of each splitter carry the same, and so do all outputs. From the inputs on it is the other way round: an edge
 //! that is free is full, so the edges into each splitter carry the same.
 use bt_cnf::{Formula, Lit};
-use bt_extend::NamedLit;
 use bt_flow::{Property, Role};
 use bt_graph::{edges_at, has_no_preference, list_at, loopless, places_of};
 use bt_net::Net;
-use bt_scopes::{Aim, Atoms, add_opposites, mark_of};
+use bt_scopes::{Aim, Atoms, add_aim, add_both, add_opposites, mark_of, named_as};
 use std::alloc::{AllocError, Global};
 
 /// What aims are made of.
@@ -112,13 +111,13 @@ impl<'a> Sources<'a> {
             for other in list_at(&self.before, splitter) {
                 let marked = mark_of(self.formula, *edge, !self.backed);
                 let full = self.atoms.full(*other);
-                add_both(alloc, &mut self.aims, marked, full, place)?;
+                add_both_of(alloc, &mut self.aims, marked, full, place)?;
             }
         }
         for edge in list_at(&self.behind, splitter) {
             let marked = mark_of(self.formula, *edge, !self.backed);
             let full = self.atoms.full(*edge);
-            add_both(alloc, &mut self.aims, marked, full, place)?;
+            add_both_of(alloc, &mut self.aims, marked, full, place)?;
         }
         Ok(())
     }
@@ -136,33 +135,18 @@ impl<'a> Sources<'a> {
     }
 }
 
-/// Adds the aim of two literals, in both orders.
-fn add_both(
+/// Adds the aim of two literals, in both orders, where there are both.
+fn add_both_of(
     alloc: Global,
     aims: &mut Vec<Aim>,
     first: Option<Lit>,
     second: Option<Lit>,
     place: usize,
 ) -> Result<(), AllocError> {
-    let Some(one) = first else {
-        return Ok(());
-    };
-    let Some(other) = second else {
-        return Ok(());
-    };
-    add_pair(alloc, aims, &one, &other, place)?;
-    add_pair(alloc, aims, &other, &one, place)
-}
-
-/// Adds the aim of two literals in this order.
-fn add_pair(
-    alloc: Global,
-    aims: &mut Vec<Aim>,
-    one: &Lit,
-    other: &Lit,
-    place: usize,
-) -> Result<(), AllocError> {
-    add_aim(alloc, aims, &[*one, *other], place)
+    match (first, second) {
+        (Some(one), Some(other)) => add_both(alloc, aims, named_as(one), named_as(other), place),
+        _ => Ok(()),
+    }
 }
 
 /// Adds the aim of a literal, where there is one.
@@ -173,28 +157,7 @@ fn add_one(
     place: usize,
 ) -> Result<(), AllocError> {
     match lit {
-        Some(lit) => add_aim(alloc, aims, &[lit], place),
+        Some(lit) => add_aim(alloc, aims, &[named_as(lit)], place),
         None => Ok(()),
     }
-}
-
-/// Adds an aim with the scope at a place.
-fn add_aim(
-    alloc: Global,
-    aims: &mut Vec<Aim>,
-    lits: &[Lit],
-    place: usize,
-) -> Result<(), AllocError> {
-    let mut names = Vec::new(alloc);
-    for lit in lits {
-        names.push(NamedLit {
-            var: lit.var.place(),
-            positive: lit.positive,
-        })?;
-    }
-    aims.push(Aim {
-        lits: names,
-        scope: place,
-    })?;
-    Ok(())
 }

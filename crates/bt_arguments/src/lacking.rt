@@ -3,50 +3,19 @@
 //! free the sums are those of the flows. So where the inputs lack nothing the outputs lack nothing. Where splitters have the
 //! smaller caps at their ins it is the other way round: what lacks counts where an edge is backed.
 use bt_cnf::Formula;
-use bt_extend::{Definition, Form, NamedLit};
+use bt_extend::{Form, NamedLit};
 use bt_flow::Role;
 use bt_frac::{Frac, Relation, Row};
 use bt_graph::{Graph, has_no_preference, list_at, places_of};
 use bt_net::{Edge, Net};
 use bt_scopes::{
-    Aim, Line, add_aim, add_both, add_rows, add_scope, edges_of_columns, is_at_end, named,
-    rows_alone,
+    Aim, Comparison, Counted, Line, Next, add_aim, add_both, add_scope, apart, edges_of_columns,
+    is_at_end, is_of_ends, named, rows_alone,
 };
 use std::alloc::{AllocError, Global};
 
 /// Of fewer splitters than this nothing is defined: the logs are shorter so.
 const LEAST_SPLITTERS: u32 = 4;
-
-/// How many variables and rows a column by cases adds.
-const OF_CASES: usize = 8;
-
-/// How many variables and rows a comparison adds.
-const OF_COMPARISON: usize = 2;
-
-/// What an edge lacks: its column, the first of the variables that compare it with nothing and with the cap less the flow,
-/// and the place of the first of the rows that it adds.
-#[derive(Clone, Copy)]
-struct Lack {
-    column: usize,
-    nothing: usize,
-    rest: usize,
-    row: usize,
-}
-
-/// A comparison: the variable that is true where a sum is at least nothing, and the place of its row.
-#[derive(Clone, Copy)]
-struct Compared {
-    var: usize,
-    row: usize,
-}
-
-/// The numbers of what is defined next.
-#[derive(Clone, Copy)]
-struct Next {
-    var: usize,
-    column: usize,
-    row: usize,
-}
 
 /// The argument so far.
 #[derive(Drop)]
@@ -56,13 +25,13 @@ struct Lacking<'a> {
     mirrored: bool,
     next: Next,
     /// What each edge lacks.
-    lacks: Vec<Lack>,
+    lacks: Vec<Counted>,
     /// For each edge the rows that speak of it alone.
     alone: Vec<Vec<usize>>,
     /// For each splitter the place of its scope.
     places: Vec<usize>,
     /// For each splitter the comparison of its ins with its outs.
-    compared: Vec<Compared>,
+    compared: Vec<Comparison>,
 }
 
 /// Adds the argument. There is none for a network of few splitters, where a splitter prefers an edge, and where neither the
@@ -94,11 +63,7 @@ fn add_by(
     let mut lacking = Lacking {
         graph,
         mirrored,
-        next: Next {
-            var: formula.vars(),
-            column: formula.columns(),
-            row: formula.rows().len(),
-        },
+        next: Next::behind(formula),
         lacks: Vec::new(alloc),
         compared: Vec::new(alloc),
         alone: rows_alone(alloc, graph.net, formula.rows())?,
@@ -136,11 +101,6 @@ fn is_mirrored(graph: &Graph) -> Option<bool> {
     }
 }
 
-/// The form of nothing.
-fn nothing(alloc: Global) -> Option<Form> {
-    Form::new(Frac::whole(0), Vec::new(alloc))
-}
-
 /// The form of what an edge lacks: its cap less its flow.
 fn rest_of(alloc: Global, number: usize, edge: &Edge) -> Result<Option<Form>, AllocError> {
     let mut terms = Vec::new(alloc);
@@ -148,33 +108,9 @@ fn rest_of(alloc: Global, number: usize, edge: &Edge) -> Result<Option<Form>, Al
     Ok(Form::new(Frac::whole(i64::from(edge.cap)), terms))
 }
 
-/// At most nothing.
-fn lacks_nothing(lack: Lack) -> NamedLit {
-    named(lack.nothing.saturating_add(2), true)
-}
-
-/// At least nothing.
-fn lacks_no_less(lack: Lack) -> NamedLit {
-    named(lack.nothing, true)
-}
-
-/// At least the cap less the flow.
-fn lacks_rest(lack: Lack) -> NamedLit {
-    named(lack.rest, true)
-}
-
-/// At most nothing, or at least the cap less the flow.
-fn lacks_at_end(lack: Lack, rest: bool) -> NamedLit {
-    if rest {
-        lacks_rest(lack)
-    } else {
-        lacks_nothing(lack)
-    }
-}
-
-/// At most the cap less the flow.
-fn lacks_no_more(lack: Lack) -> NamedLit {
-    named(lack.rest.saturating_add(2), true)
+/// An edge lacks nothing, or all that its flow leaves of its cap.
+fn lacks_at_end(lack: Counted, rest: bool) -> NamedLit {
+    if rest { lack.is_all() } else { lack.is_none() }
 }
 
 impl<'a> Lacking<'a> {
@@ -198,38 +134,12 @@ impl<'a> Lacking<'a> {
         number: usize,
         edge: &Edge,
     ) -> Result<(), AllocError> {
-        let (Some(none), Some(rest)) = (nothing(alloc), rest_of(alloc, number, edge)?) else {
+        let Some(rest) = rest_of(alloc, number, edge)? else {
             return Ok(());
         };
-        let definition = if self.mirrored {
-            Definition::Cases(number, rest, none)
-        } else {
-            Definition::Cases(number, none, rest)
-        };
-        line.definitions.push(definition)?;
-        self.take_lack()
-    }
-
-    /// Takes in the numbers of what an edge lacks, which was defined.
-    fn take_lack(&mut self) -> Result<(), AllocError> {
-        let next = self.next;
-        let second = next.var.saturating_add(4);
-        let (nothing, rest) = if self.mirrored {
-            (second, next.var)
-        } else {
-            (next.var, second)
-        };
-        self.lacks.push(Lack {
-            column: next.column,
-            nothing,
-            rest,
-            row: next.row,
-        })?;
-        self.next = Next {
-            var: next.var.saturating_add(OF_CASES),
-            column: next.column.saturating_add(1),
-            row: next.row.saturating_add(OF_CASES),
-        };
+        if let Some(lack) = self.next.count(alloc, line, number, self.mirrored, rest)? {
+            self.lacks.push(lack)?;
+        }
         Ok(())
     }
 
@@ -241,33 +151,18 @@ impl<'a> Lacking<'a> {
         splitter: usize,
     ) -> Result<(), AllocError> {
         let terms = self.terms_at(alloc, splitter)?;
-        let Some(form) = Form::new(Frac::whole(0), terms) else {
-            return Ok(());
-        };
-        line.definitions.push(Definition::Comparison(form))?;
-        self.compared.push(Compared {
-            var: self.next.var,
-            row: self.next.row,
-        })?;
-        self.next.var = self.next.var.saturating_add(OF_COMPARISON);
-        self.next.row = self.next.row.saturating_add(OF_COMPARISON);
+        if let Some(compared) = self.next.compare_sum(line, terms)? {
+            self.compared.push(compared)?;
+        }
         Ok(())
     }
 
-    /// The terms of what the ins of a splitter lack less what its outs lack, or with the signs turned.
+    /// The terms of what the edges of a splitter lack with whose marks an argument begins, less what those behind it lack.
     fn terms_at(&self, alloc: Global, splitter: usize) -> Result<Vec<(usize, Frac)>, AllocError> {
-        let into = self.graph.ins(splitter);
-        let out_of = self.graph.outs(splitter);
-        let mut edges = Vec::from_slice(alloc, into)?;
-        edges.extend_from_slice(out_of)?;
-        edges.sort()?;
         let mut terms = Vec::new(alloc);
-        for edge in &edges {
-            let leads_in = into.contains(edge);
-            if leads_in != out_of.contains(edge) {
-                if let Some(lack) = self.lacks.get(*edge) {
-                    terms.push((lack.column, sign(leads_in != self.mirrored)))?;
-                }
+        for (edge, sign) in &apart(alloc, self.before(splitter), self.behind(splitter))? {
+            if let Some(lack) = self.lacks.get(*edge) {
+                terms.push((lack.column(), *sign))?;
             }
         }
         Ok(terms)
@@ -290,13 +185,13 @@ impl<'a> Lacking<'a> {
         alloc: Global,
         line: &mut Line,
         edge: usize,
-        lack: Lack,
+        lack: Counted,
     ) -> Result<(), AllocError> {
         let mut rows = Vec::from_slice(alloc, list_at(&self.alone, edge))?;
-        add_rows(&mut rows, lack.row, OF_CASES)?;
+        lack.add_rows(&mut rows)?;
         let place = add_scope(line, rows)?;
-        add_aim(alloc, &mut line.aims, &[lacks_no_less(lack)], place)?;
-        add_aim(alloc, &mut line.aims, &[lacks_no_more(lack)], place)
+        add_aim(alloc, &mut line.aims, &[lack.is_some()], place)?;
+        add_aim(alloc, &mut line.aims, &[lack.is_no_more()], place)
     }
 
     /// The rows of a splitter and its edges, with what these lack.
@@ -320,7 +215,7 @@ impl<'a> Lacking<'a> {
     /// Adds the rows of what an edge lacks.
     fn add_rows_of(&self, rows: &mut Vec<usize>, edge: usize) -> Result<(), AllocError> {
         match self.lacks.get(edge) {
-            Some(lack) => add_rows(rows, lack.row, OF_CASES),
+            Some(lack) => lack.add_rows(rows),
             None => Ok(()),
         }
     }
@@ -331,12 +226,12 @@ impl<'a> Lacking<'a> {
         alloc: Global,
         line: &mut Line,
         splitter: usize,
-        compared: Compared,
+        compared: Comparison,
     ) -> Result<(), AllocError> {
         let mut rows = self.rows_at(alloc, line, splitter)?;
-        add_rows(&mut rows, compared.row, OF_COMPARISON)?;
+        compared.add_rows(&mut rows)?;
         let place = add_scope(line, rows)?;
-        let compared = named(compared.var, true);
+        let compared = compared.is_some();
         for edge in self.before(splitter) {
             let unmarked = named(*edge, self.mirrored);
             self.argue_behind(alloc, &mut line.aims, splitter, unmarked, place)?;
@@ -356,7 +251,7 @@ impl<'a> Lacking<'a> {
     ) -> Result<(), AllocError> {
         for other in self.behind(splitter) {
             if let Some(lack) = self.lacks.get(*other) {
-                add_both(alloc, aims, unmarked, lacks_nothing(*lack), place)?;
+                add_both(alloc, aims, unmarked, lack.is_none(), place)?;
             }
         }
         Ok(())
@@ -409,7 +304,7 @@ impl<'a> Lacking<'a> {
             return Ok(());
         };
         let mut rows = Vec::from_slice(alloc, list_at(&self.alone, number))?;
-        add_rows(&mut rows, lack.row, OF_CASES)?;
+        lack.add_rows(&mut rows)?;
         let place = add_scope(line, rows)?;
         if Role::FromInput.number_in(edge).is_some() {
             let lit = lacks_at_end(*lack, self.mirrored);
@@ -431,7 +326,7 @@ impl<'a> Lacking<'a> {
             }
         }
         for compared in &self.compared {
-            add_rows(&mut rows, compared.row, OF_COMPARISON)?;
+            compared.add_rows(&mut rows)?;
         }
         Ok(rows)
     }
@@ -450,29 +345,7 @@ impl<'a> Lacking<'a> {
 
     /// Whether all terms of a row are of edges at ends, or it says that a sum is equal and is asked for too.
     fn is_of_ends(&self, columns: &[usize], row: &Row) -> bool {
-        if self.mirrored && row.relation() == Relation::Equal {
-            return true;
-        }
-        row.terms().iter().all(|(column, _)| match columns.get(*column) {
-            Some(edge) => self.is_end(*edge),
-            None => false,
-        })
-    }
-
-    /// Whether the edge with a number is at an end.
-    fn is_end(&self, number: usize) -> bool {
-        match self.graph.net.edges().get(number) {
-            Some(edge) => is_at_end(edge),
-            None => false,
-        }
-    }
-}
-
-/// 1, or its opposite.
-fn sign(positive: bool) -> Frac {
-    if positive {
-        Frac::whole(1)
-    } else {
-        Frac::whole(1).negate()
+        (self.mirrored && row.relation() == Relation::Equal)
+            || is_of_ends(self.graph.net, columns, row)
     }
 }

@@ -11,12 +11,13 @@ use Rattle.bt_same.specs.SameFormula.{same_formula}
 use Rattle.bt_same.specs.declared.pair.Pair.{Pair}
 use Rattle.bt_cnf.specs.declared.limits.Limits.{Limits}
 use Rattle.bt_cnf.specs.Formulas.{FormulaParts}
-use Rattle.bt_log.specs.Logs.{Step}
+use Rattle.bt_log.specs.Logs.{LogParts}
 use Rattle.bt_cert.specs.declared.defining.TheConstants.{MOST_DEFINITIONS}
 use Rattle.bt_extend.specs.Extending.{extended, AreDefinitions}
 use Rattle.bt_extend.specs.declared.definition.Definition.{Definition}
 use Rattle.bt_theory.specs.declared.outcome.GaveUp as cause
 use Rattle.bt_theory.specs.Outcomes.{IsRefutation, IsGivenUpOver}
+use Rattle.bt_trim.specs.Trimming.{IsTight}
 use Rattle.bt_decide.specs.declared.verdict.Verdict.{Verdict}
 use Rattle.bt_decide.specs.declared.verdict.Verdict.TheVariants.{Yes, No, GaveUp}
 use Rattle.bt_decide.specs.declared.verdict.SameVerdict.{SameVerdict}
@@ -29,10 +30,11 @@ pub record AreMade (splitters : ℕ) (f : FormulaParts) (definitions : List Defi
   pub few : length definitions ≤ MOST_DEFINITIONS
   pub are : AreDefinitions f definitions
 
--- the log, which is no longer than the limit, refutes the formula as the definitions, which are made for it, extend it
-abbrev pub IsRefutedBy : ℕ → FormulaParts → Limits → List Definition → List Step → Type 0
-IsRefutedBy splitters f limits definitions steps =
-    AreMade splitters f definitions × IsRefutation (extended f definitions) steps × (length steps ≤ limits.learnt)
+-- the log, which is no longer than the limit and of which each step but the last is needed, refutes the formula as the
+-- definitions, which are made for it, extend it
+abbrev pub IsRefutedBy : ℕ → FormulaParts → Limits → List Definition → LogParts → Type 0
+IsRefutedBy splitters f limits definitions log =
+    AreMade splitters f definitions × IsRefutation (extended f definitions) log.steps × (length log.steps ≤ limits.learnt) × IsTight log
 
 -- deciding the formula as the definitions, which are made for it, extend it is rightly given up
 abbrev pub IsGivenUpBy : ℕ → FormulaParts → Limits → List Definition → cause.GaveUp → Type 0
@@ -49,7 +51,7 @@ IsDifference a b pair = IsTrueOfBoth a b pair.first pair.second (ShowsDifference
 -- what is right to say: the network has the property, and the log refutes its flow formula as the definitions extend it; or the
 -- state, whose fractions are in lowest terms, breaks the property; or deciding the flow formula is rightly given up
 abbrev pub IsVerdict : Network → Property → Limits → Verdict → Type 0
-IsVerdict n p limits (Yes definitions log) = Holds n p × IsRefutedBy n.splitters (flow_formula n p) limits definitions.items log.steps
+IsVerdict n p limits (Yes definitions log) = Holds n p × IsRefutedBy n.splitters (flow_formula n p) limits definitions.items log
 IsVerdict n p limits (No state) = IsTrueOf n state (Breaks n p) × AreLowest state
 IsVerdict n p limits (GaveUp definitions cause) = IsGivenUpBy n.splitters (flow_formula n p) limits definitions.items cause
 
@@ -57,6 +59,6 @@ IsVerdict n p limits (GaveUp definitions cause) = IsGivenUpBy n.splitters (flow_
 -- states shows a difference; or deciding the formula is rightly given up
 abbrev pub IsSameVerdict : Network → Network → Limits → SameVerdict → Type 0
 IsSameVerdict a b limits (of_same.Yes definitions log) =
-    AreSame a b × IsRefutedBy (splitters_of_both a b) (same_formula a b) limits definitions.items log.steps
+    AreSame a b × IsRefutedBy (splitters_of_both a b) (same_formula a b) limits definitions.items log
 IsSameVerdict a b limits (of_same.No pair) = IsDifference a b pair
 IsSameVerdict a b limits (of_same.GaveUp definitions cause) = IsGivenUpBy (splitters_of_both a b) (same_formula a b) limits definitions.items cause

@@ -12,7 +12,6 @@ mod verdict;
 pub use bt_cnf::Limits;
 pub use bt_theory::GaveUp;
 pub use deciding::decide;
-pub use guessing::guesses_of_both;
 pub use law::{same_is_certificate, yes_is_certificate};
 pub use same::decide_same;
 pub use std::alloc::AllocError as Memory;

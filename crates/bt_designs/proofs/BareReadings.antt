@@ -4,7 +4,6 @@ use Rattle.bt_net.specs.declared.network.Admitted.{Admitted}
 use Rattle.bt_net.specs.declared.network.Admitted.TheVariants.{Nothing, All}
 use Rattle.bt_net.specs.declared.network.Block.{Block}
 use Rattle.bt_net.specs.declared.network.Demand.{Demand}
-use Rattle.bt_net.specs.declared.network.Demand.TheVariants as demand
 use Rattle.bt_net.specs.Network.{Network}
 use Rattle.bt_net.specs.PinText.{AreLinesFrom, IsDemandHere, IsBlockHere}
 use Rattle.bt_net.specs.Readings.{Reading, IsNetRead}

@@ -1,11 +1,11 @@
 -- A design behind blanks: it is that of the text, so many bytes later, where that is JSON; and other text is refused there.
-use Rattle.std.proofs.Common.{◌≡◌, ◌⊎◌, ℕ, ◌+◌, ◌<◌, ◌≤◌, true, List, [], ◌∷◌, ◌++◌, length, drop, get_or, Some, Result, Ok, Err, refl, sym, ◌∙◌, ap, subst, inl, inr, arith, append_assoc, length-append}
+use Rattle.std.proofs.Common.{◌≡◌, ◌⊎◌, ℕ, ◌+◌, ◌<◌, ◌≤◌, true, List, [], ◌∷◌, ◌++◌, length, get_or, Some, Result, Ok, Err, refl, sym, ◌∙◌, ap, subst, inl, inr, arith, append_assoc, length-append}
 use Rattle.std.specs.Prelude.{All, slice_get}
 use Rattle.std.proofs.lemmas.List.{length-drop}
 use Rattle.std.proofs.lemmas.List.Elements.{All-head, All-tail, All-append}
 use Rattle.std.proofs.lemmas.Option.{slice_get_within}
 use Rattle.bt_answers.specs.Answers.{seen}
-use Rattle.bt_text.specs.Blanks.{IsBlank, SkipsBlanks}
+use Rattle.bt_text.specs.Blanks.{IsBlank}
 use Rattle.bt_text.specs.Lines.{IsFirstLine}
 use Rattle.bt_text.proofs.FirstLines.{first_line_of}
 use Rattle.bt_parts.specs.declared.part.Part.{Part}
@@ -31,13 +31,12 @@ use Rattle.bt_net.specs.PinRefusals.{RefusesAll}
 use Rattle.bt_net.specs.PriorityRefusals.{Refuses}
 use Rattle.bt_designs.specs.declared.fault.DesignFault.{DesignFault}
 use Rattle.bt_designs.specs.declared.fault.DesignFault.TheVariants as design
-use Rattle.bt_designs.specs.declared.refusal.Refusal.{Refusal}
 use Rattle.bt_designs.specs.declared.refusal.Refusal.TheVariants as refusal
-use Rattle.bt_designs.specs.Designs.{IsJsonText, IsPlacedNet, IsLayoutNet, IsBlueprintNet, IsPlacedWith, IsLayoutWith, IsPreferringNet, IsJsonNet, IsDesign, IsBareText, IsBareDesign}
+use Rattle.bt_designs.specs.Designs.{IsJsonText, IsPlacedNet, IsLayoutNet, IsBlueprintNet, IsPlacedWith, IsLayoutWith, IsPreferringNet, IsJsonNet, IsDesign, IsBareDesign}
 use Rattle.bt_designs.specs.Refusals.{json_told, entity_told, grid_told, layout_told, net_told}
-use Rattle.bt_designs.specs.Requested.{PinnedNet, pinned_net, IsPinnedText, IsPinnedJson, IsPinned}
+use Rattle.bt_designs.specs.Requested.{PinnedNet, pinned_net, IsPinnedJson, IsPinned}
 use Rattle.bt_designs.specs.Steps.{stopped, went_on}
-use Rattle.bt_designs.specs.inner.Moved.{moved_fault, moved_refusal, moved_told, moved, IsFaultWithin}
+use Rattle.bt_designs.specs.inner.Moved.{moved_fault, moved_told, moved, IsFaultWithin}
 use Rattle.bt_designs.proofs.InTurns.{not_both}
 use Rattle.bt_designs.proofs.JsonBehindBlanks.{split, behind_blanks_is_read}
 use Rattle.bt_designs.proofs.LongerDesigns.{same_fault_of}

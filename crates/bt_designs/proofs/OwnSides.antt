@@ -1,5 +1,5 @@
 -- A blueprint's ends stand at one list of sides.
-use Rattle.std.proofs.Common.{◌≡◌, ℕ, ◌+◌, List, [], ◌∷◌, ◌++◌, Ok, sym, subst}
+use Rattle.std.proofs.Common.{◌≡◌, ℕ, List, Ok, sym, subst}
 use Rattle.bt_json.proofs.OneRead.{one_read}
 use Rattle.bt_entities.specs.Answers.{IsPartsOf}
 use Rattle.bt_entities.proofs.OneAnswer.{one_parts}

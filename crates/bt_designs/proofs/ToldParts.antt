@@ -1,7 +1,7 @@
 -- What is told of something that is to stand at the front of an input, by a part of what is held of it.
-use Rattle.std.proofs.Common.{◌≡◌, ◌≢◌, ◌⊎◌, ℕ, ◌+◌, ◌-◌, ◌<◌, ◌≤◌, Bool, true, false, List, [], ◌∷◌, ◌++◌, length, Some, Result, Ok, Err, refl, sym, ◌∙◌, ap, subst, inl, inr, arith, append_assoc, append-nil, length-append}
-use Rattle.std.specs.Prelude.{All}
-use Rattle.bt_answers.specs.Answers.{UnlessMemory}
+use Rattle.std.proofs.Common.{◌≡◌, ◌⊎◌, ℕ, ◌+◌, ◌<◌, ◌≤◌, Bool, true, false, List, [], ◌∷◌, ◌++◌, length, Some, Result, Ok, Err, refl, sym, ◌∙◌, ap, subst, inl, inr, arith, append_assoc, append-nil, length-append}
+use Rattle.std.specs.Prelude.{All, IfErr, IfOk, IfSome, Option, None}
+use Rattle.bt_answers.specs.Answers.{UnlessMemory, seen}
 use Rattle.bt_text.specs.Blanks.{IsBlank, SkipsBlanks}
 use Rattle.bt_text.specs.Lines.{line, line_feeds}
 use Rattle.bt_text.specs.Whole.{EndsLines}
@@ -18,7 +18,7 @@ use Rattle.bt_designs.specs.Designs.{IsJsonText, IsBlueprintNet, IsDesign, IsBar
 use Rattle.bt_designs.specs.Longer.{IsOtherText, IsSettled}
 use Rattle.bt_designs.specs.Requested.{IsPinned}
 use Rattle.bt_designs.specs.Told.{MayFollow, LastsBehind, IsAtHand, TellsFront}
-use Rattle.bt_designs.specs.inner.ToldParts.{IsToldText, IsToldPart, IsTextPart, IsIndented, RestsOnEnd, IsSettledFault, TellsFault}
+use Rattle.bt_designs.specs.inner.ToldParts.{IsToldText, IsToldPart, IsTextPart, IsIndented, RestsOnEnd, IsSettledFault, TellsFault, TellsRead}
 use Rattle.bt_designs.specs.inner.Moved.{moved, moved_told, moved_refusal, IsFaultWithin}
 use Rattle.bt_designs.proofs.Blanks.{nil_of}
 use Rattle.bt_designs.proofs.BlankDesigns.{design_behind, design_indented, design_fault_within, bare_behind, bare_indented, bare_fault_within, pinned_behind, pinned_indented, pinned_fault_within}
@@ -179,6 +179,22 @@ module _ {X : Type 0} (IsFront : List ℕ → Result (X × ℕ) DesignFault → 
         subst (λ (x : DesignFault). TellsFront IsFront of held (Err x)) (sym tells.0)
         (fault_told of fault h (λ goes text r is. settles text r is goes (subst (IsSettledFault part) is (tells.1 goes))))
 
+    -- what a part tells of what was read of it is told of the front
+    pub read_tells : {D : Type 0} (of : D → X × ℕ) (read : Result D DesignFault) (answer : Result (Option D) DesignFault) → UnlessMemory design.Memory (IsFront part) (seen of read)
+        → IfOk read (λ d. (of d).1 ≤ length part) → TellsRead (λ d. (of d).1) held part read answer
+        → (IsToldText part → (r : Refusal) (fault : DesignFault) → fault ≡ design.Refused r → (RestsOnEnd part r → ⊥) → Settled part fault) → TellsFront IsFront of held answer
+    read_tells of (Ok read) (Ok (Some d)) h within tells settles =
+        subst (λ x. TellsFront IsFront of held (Ok (Some x))) (sym tells.0) (
+          at_hand,
+          omega (arith, part_within, within),
+          found_behind (of read).0 (of read).1 h (λ goes. subst (λ x. (of x).1 < length part) tells.0 (tells.1 goes)),
+        )
+    read_tells of (Ok read) (Ok None) h within tells settles = tells
+    read_tells of (Ok read) (Err told_fault) h within tells settles = absurd tells
+    read_tells of (Err fault) (Ok (Some d)) h within tells settles = absurd tells
+    read_tells of (Err fault) (Ok None) h within tells settles = tells
+    read_tells of (Err fault) (Err told_fault) h within tells settles = fault_tells of fault told_fault h tells (λ text r is goes other. settles text r fault is other)
+
 -- ---- designs and requests
 
 design_goes_on : (bytes more : List ℕ) (found : Network × ℕ) → IsDesign bytes (Ok found) → found.1 < length bytes → IsDesign (bytes ++ more) (Ok found)
@@ -262,3 +278,22 @@ module _ (part : List ℕ) (n : ℕ) (few : length part ≤ n) (fault : DesignFa
   pub bare_within : UnlessMemory design.Memory (IsBareDesign part) (Err fault) → IsFaultWithin n fault
   bare_within (inl h) = within_more (length part) n fault few (bare_fault_within part fault h)
   bare_within (inr e) = memory_within e
+
+-- ---- what was read of a part
+
+module _ {X D : Type 0} (IsFront : List ℕ → Result (X × ℕ) DesignFault → Type 0) (of : D → X × ℕ) (part : List ℕ) where
+  -- of a fault an offset is within a limit, where it is of each one that is right
+  pub read_within : (n : ℕ) (read : Result D DesignFault) → ((fault : DesignFault) → UnlessMemory design.Memory (IsFront part) (Err fault) → IsFaultWithin n fault)
+      → UnlessMemory design.Memory (IsFront part) (seen of read) → IfErr read (IsFaultWithin n)
+  read_within n (Ok d) by h = tt
+  read_within n (Err fault) by h = by fault h
+
+  -- what is told has what all that is found there has
+  pub read_has : (P : X → Type 0) (held : Held) (read : Result D DesignFault) (answer : Result (Option D) DesignFault) → UnlessMemory design.Memory (IsFront part) (seen of read)
+      → TellsRead (λ d. (of d).1) held part read answer → ((found : X × ℕ) → IsFront part (Ok found) → P found.0) → IfOk answer (λ o. IfSome o (λ d. P (of d).0))
+  read_has P held (Ok read) (Ok (Some d)) h tells has = subst (λ x. P (of x).0) (sym tells.0) (has (of read) h)
+  read_has P held (Ok read) (Ok None) h tells has = tt
+  read_has P held (Ok read) (Err told) h tells has = absurd tells
+  read_has P held (Err fault) (Ok (Some d)) h tells has = absurd tells
+  read_has P held (Err fault) (Ok None) h tells has = tt
+  read_has P held (Err fault) (Err told) h tells has = tt

@@ -1,7 +1,7 @@
 -- What the front of an input, of which these bytes are held, tells of what is to stand there, whatever may follow.
 use Rattle.std.specs.Prelude.{◌≡◌, ◌⊎◌, ℕ, ◌+◌, ◌<◌, ◌≤◌, Bool, true, false, List, [], ◌++◌, All, Option, Some, None, Result, Ok, Err, length}
 use Rattle.bt_text.specs.Blanks.{IsBlank}
-use Rattle.bt_text.specs.Lines.{line, IsFirstLine, SplitsAt}
+use Rattle.bt_text.specs.Lines.{IsFirstLine, SplitsAt}
 use Rattle.bt_designs.specs.declared.fault.DesignFault.{DesignFault}
 use Rattle.bt_designs.specs.declared.fault.DesignFault.TheVariants as design
 use Rattle.bt_designs.specs.declared.held.Held.{Held}

@@ -16,8 +16,8 @@ mod request;
 mod told;
 mod two_designs;
 
-pub use alone::{read_alone, read_lone_bare};
-pub use design::{Design, is_json, read_bare, read_design};
+pub use alone::read_alone;
+pub use design::{Design, is_json, read_design};
 pub use fault::DesignFault;
 pub use held::{Gathered, Held, MOST_CHECKED, gather_on};
 pub use kept::read_kept_request;

@@ -1,13 +1,13 @@
 //! What the front of an input tells of the design that is to stand there: more has to be read, or it is refused, or it is
 //! found, whatever follows.
-ghost use Rattle.std.specs.Prelude.{◌≡◌, ◌+◌, ◌-◌, ◌<◌, ◌≤◌, IfNone, IfOk, IfSome, false, length, true};
+ghost use Rattle.std.specs.Prelude.{◌≡◌, ◌+◌, ◌-◌, ◌<◌, ◌≤◌, ℕ, IfErr, IfNone, IfOk, IfSome, false, length, true};
 ghost use Rattle.bt_designs.specs.declared.held.TheConstants.{MOST_CHECKED};
 ghost use Rattle.bt_net.specs.Network.{IsNetwork};
 ghost use Rattle.bt_designs.specs.Designs.{IsBareDesign, IsDesign, IsJsonText};
 ghost use Rattle.bt_designs.specs.Requested.{IsPinned};
 ghost use Rattle.bt_designs.specs.Found.{net_and_used, pinned_and_used};
-ghost use Rattle.bt_designs.specs.inner.ToldParts.{IsTextPart, IsToldPart, RestsOnEnd};
-ghost use Rattle.bt_designs.specs.inner.ToldParts.{TellsFault, TellsPart};
+ghost use Rattle.bt_designs.specs.inner.ToldParts.{IsTextPart, RestsOnEnd};
+ghost use Rattle.bt_designs.specs.inner.ToldParts.{TellsFault, TellsPart, TellsRead};
 ghost use Rattle.bt_designs.specs.Told.{TellsFront, TellsLine};
 ghost use Rattle.bt_designs.specs.inner.Moved.{IsFaultWithin, IsOffsetWithin, moved_refusal};
 
@@ -19,6 +19,32 @@ use crate::request::{PinnedDesign, read_pinned};
 use bt_text::{first_line, line_feeds, skip_blanks, split_once, whole_lines};
 use std::alloc::Global;
 
+/// What is read at the front of bytes.
+trait Front: Drop {
+    // How many bytes it has.
+    ghost used_of: { Self → ℕ };
+
+    /// How many bytes it has.
+    fn used(&self) -> usize
+        ensures { result ≡ used_of self.now };
+}
+
+impl Front for Design {
+    ghost used_of = { λ d. d.used };
+
+    fn used(&self) -> usize {
+        self.used
+    }
+}
+
+impl Front for PinnedDesign {
+    ghost used_of = { λ d. d.used };
+
+    fn used(&self) -> usize {
+        self.used
+    }
+}
+
 /// The design at the front of what is held, where it is told.
 pub fn told_design(alloc: Global, held: Held<'_>) -> Result<Option<Design>, DesignFault>
     requires { held.skipped + length held.bytes.now ≤ MOST_CHECKED }
@@ -26,30 +52,9 @@ pub fn told_design(alloc: Global, held: Held<'_>) -> Result<Option<Design>, Desi
     ensures network { IfOk result (λ o. IfSome o (λ design. IsNetwork design.net)) }
 {
     match told_part(held) {
-        Ok(Some(part)) => design_of_part(alloc, held, part),
+        Ok(Some(part)) => told_of(held, part, read_design(alloc, part)),
         Ok(None) => Ok(None),
         Err(fault) => Err(fault),
-    }
-}
-
-/// The design that is told by this part.
-fn design_of_part(alloc: Global, held: Held<'_>, part: &[u8]) -> Result<Option<Design>, DesignFault>
-    requires few { held.skipped + length held.bytes.now ≤ MOST_CHECKED }
-    requires told { IsToldPart held part.now }
-    ensures front { TellsFront IsDesign net_and_used held.entry result }
-    ensures network { IfOk result (λ o. IfSome o (λ design. IsNetwork design.net)) }
-{
-    match read_design(alloc, part) {
-        Ok(design) => {
-            if is_open(held, part, design.used) {
-                return Ok(None);
-            }
-            Ok(Some(design))
-        }
-        Err(fault) => match told_fault(held, part, fault) {
-            Some(told) => Err(told),
-            None => Ok(None),
-        },
     }
 }
 
@@ -59,33 +64,9 @@ pub fn told_pinned(alloc: Global, held: Held<'_>) -> Result<Option<PinnedDesign>
     ensures { TellsFront IsPinned pinned_and_used held.entry result }
 {
     match told_part(held) {
-        Ok(Some(part)) => pinned_of_part(alloc, held, part),
+        Ok(Some(part)) => told_of(held, part, read_pinned(alloc, part)),
         Ok(None) => Ok(None),
         Err(fault) => Err(fault),
-    }
-}
-
-/// The design with its pins and its blocks that is told by this part.
-fn pinned_of_part(
-    alloc: Global,
-    held: Held<'_>,
-    part: &[u8],
-) -> Result<Option<PinnedDesign>, DesignFault>
-    requires few { held.skipped + length held.bytes.now ≤ MOST_CHECKED }
-    requires told { IsToldPart held part.now }
-    ensures { TellsFront IsPinned pinned_and_used held.entry result }
-{
-    match read_pinned(alloc, part) {
-        Ok(design) => {
-            if is_open(held, part, design.used) {
-                return Ok(None);
-            }
-            Ok(Some(design))
-        }
-        Err(fault) => match told_fault(held, part, fault) {
-            Some(told) => Err(told),
-            None => Ok(None),
-        },
     }
 }
 
@@ -95,24 +76,28 @@ pub fn told_bare(alloc: Global, held: Held<'_>) -> Result<Option<Design>, Design
     ensures { TellsFront IsBareDesign net_and_used held.entry result }
 {
     match told_part(held) {
-        Ok(Some(part)) => bare_of_part(alloc, held, part),
+        Ok(Some(part)) => told_of(held, part, read_bare(alloc, part)),
         Ok(None) => Ok(None),
         Err(fault) => Err(fault),
     }
 }
 
-/// The bare design that is told by this part.
-fn bare_of_part(alloc: Global, held: Held<'_>, part: &[u8]) -> Result<Option<Design>, DesignFault>
-    requires few { held.skipped + length held.bytes.now ≤ MOST_CHECKED }
-    requires told { IsToldPart held part.now }
-    ensures { TellsFront IsBareDesign net_and_used held.entry result }
+/// What a part tells of what was read at its front: this, unless more may change it, or the fault that is told.
+fn told_of<D: Front>(
+    held: Held<'_>,
+    part: &[u8],
+    read: Result<D, DesignFault>,
+) -> Result<Option<D>, DesignFault>
+    requires few { held.skipped ≤ MOST_CHECKED }
+    requires within { IfErr read (IsFaultWithin (MOST_CHECKED - held.skipped)) }
+    ensures { TellsRead D.used_of held.entry part.now read result }
 {
-    match read_bare(alloc, part) {
-        Ok(design) => {
-            if is_open(held, part, design.used) {
+    match read {
+        Ok(found) => {
+            if is_open(held, part, found.used()) {
                 return Ok(None);
             }
-            Ok(Some(design))
+            Ok(Some(found))
         }
         Err(fault) => match told_fault(held, part, fault) {
             Some(told) => Err(told),

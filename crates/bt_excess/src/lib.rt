@@ -4,7 +4,6 @@
 
 mod dividing;
 mod looping;
-mod numbers;
 mod pairing;
 
 pub use looping::add_looping;

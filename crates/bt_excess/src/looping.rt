@@ -4,15 +4,14 @@
 //! free, so the sums are those of the flows. The inputs don't fall behind, so no output does, and as all that comes is what
 //! they carry there, none carries more. For `drawn-evenly` it is the other way round.
 use crate::dividing::Dividing;
-use crate::numbers::{Next, Sum, form_of};
 use bt_cnf::{Formula, Lit};
-use bt_extend::{Definition, Form, NamedLit};
+use bt_extend::{Form, NamedLit};
 use bt_frac::{Frac, Relation};
 use bt_graph::{Graph, ends_of, has_no_preference, list_at, loopless, places_of};
 use bt_net::Net;
 use bt_scopes::{
-    Aim, Atoms, Line, add_aim, add_both, add_disjunction, add_rows, add_scope, conclude,
-    equal_rows, named, rows_alone,
+    Aim, Atoms, Comparison, Counted, Line, Next, add_aim, add_both, add_scope, apart, conclude,
+    equal_rows, in_order, named, opposite_of, rows_alone, sum_of,
 };
 use std::alloc::{AllocError, Global};
 
@@ -22,45 +21,28 @@ const LEAST_SPLITTERS: u32 = 16;
 /// By how much an edge falls behind.
 #[derive(Clone, Copy)]
 struct Shortfall {
-    /// The variable that is true where the edge carries as much as in the state.
-    reaches: usize,
-    /// The first of the variables that compare the shortfall.
-    first: usize,
-    column: usize,
-    /// The place of the first of its rows.
-    row: usize,
+    /// Of what the edge carries less what it does in the state.
+    reached: Comparison,
+    /// What it is behind, where that counts.
+    behind: Counted,
 }
 
 impl Shortfall {
-    /// How many rows it adds: two that compare the flow, and eight that compare the shortfall.
-    const ROWS: usize = 10;
-
-    /// How many variables it adds.
-    const VARS: usize = 11;
-
     /// The edge carries as much as in the state.
-    fn reaches(self, positive: bool) -> NamedLit {
-        named(self.reaches, positive)
+    fn reaches(self) -> NamedLit {
+        self.reached.is_some()
     }
 
-    /// The shortfall is at least nothing.
-    fn is_some(self) -> NamedLit {
-        named(self.first, true)
+    /// The edge doesn't.
+    fn falls_short(self) -> NamedLit {
+        let reaches = self.reaches();
+        named(reaches.var, !reaches.positive)
     }
 
-    /// The shortfall is at most nothing.
-    fn is_none(self) -> NamedLit {
-        named(self.first.saturating_add(2), true)
-    }
-
-    /// The shortfall is at least what the flow is behind.
-    fn is_all(self) -> NamedLit {
-        named(self.first.saturating_add(4), true)
-    }
-
-    /// The shortfall is at most what the flow is behind.
-    fn is_no_more(self) -> NamedLit {
-        named(self.first.saturating_add(6), true)
+    /// Adds the rows of what is defined.
+    fn add_rows(self, rows: &mut Vec<usize>) -> Result<(), AllocError> {
+        self.reached.add_rows(rows)?;
+        self.behind.add_rows(rows)
     }
 }
 
@@ -73,7 +55,7 @@ struct Looping<'a> {
     next: Next,
     shortfalls: Vec<Shortfall>,
     /// For each splitter the comparison of both its sides.
-    sums: Vec<Sum>,
+    sums: Vec<Comparison>,
     /// The edges at which the argument begins, and those at which it ends.
     first: Vec<usize>,
     last: Vec<usize>,
@@ -129,26 +111,6 @@ fn has_loops(alloc: Global, net: &Net) -> Result<bool, AllocError> {
     Ok(order.len() < net.splitters() as usize)
 }
 
-/// What defines a shortfall: the flow less what it is in the state, and the other way round, and nothing.
-#[derive(Drop)]
-struct Forms {
-    over: Form,
-    under: Form,
-    none: Form,
-}
-
-impl Forms {
-    /// The forms of an edge whose flow is a sum in the state.
-    fn of(alloc: Global, edge: usize, sum: &[(usize, Frac)]) -> Result<Option<Forms>, AllocError> {
-        let over = form_of(with_column(alloc, edge, Frac::whole(1), sum, true)?);
-        let under = form_of(with_column(alloc, edge, Frac::whole(-1), sum, false)?);
-        match (over, under, form_of(Vec::new(alloc))) {
-            (Some(over), Some(under), Some(none)) => Ok(Some(Forms { over, under, none })),
-            _ => Ok(None),
-        }
-    }
-}
-
 /// Adds that an edge is full just where it carries as much as in the state, where there is a literal for that.
 fn add_full(
     alloc: Global,
@@ -158,10 +120,7 @@ fn add_full(
     place: usize,
 ) -> Result<(), AllocError> {
     match full {
-        Some(full) => {
-            let not_full = named(full.var.place(), !full.positive);
-            add_both(alloc, aims, not_full, shortfall.reaches(true), place)
-        }
+        Some(full) => add_both(alloc, aims, opposite_of(full), shortfall.reaches(), place),
         None => Ok(()),
     }
 }
@@ -250,7 +209,7 @@ impl<'a> Looping<'a> {
         self.define_sum(line, terms)
     }
 
-    /// Defines the shortfall of an edge.
+    /// Defines the shortfall of an edge, by its flow less what it is in the state, and the other way round.
     fn define_shortfall(
         &mut self,
         alloc: Global,
@@ -258,9 +217,12 @@ impl<'a> Looping<'a> {
         state: &Dividing,
         edge: usize,
     ) -> Result<(), AllocError> {
-        match Forms::of(alloc, edge, state.sum(edge))? {
-            Some(forms) => self.define_forms(alloc, line, edge, forms),
-            None => Ok(()),
+        let sum = state.sum(edge);
+        let over = sum_of(with_column(alloc, edge, Frac::whole(1), sum, true)?);
+        let under = sum_of(with_column(alloc, edge, Frac::whole(-1), sum, false)?);
+        match (over, under) {
+            (Some(over), Some(under)) => self.define_forms(alloc, line, edge, over, under),
+            _ => Ok(()),
         }
     }
 
@@ -270,39 +232,21 @@ impl<'a> Looping<'a> {
         alloc: Global,
         line: &mut Line,
         edge: usize,
-        forms: Forms,
+        over: Form,
+        under: Form,
     ) -> Result<(), AllocError> {
-        let Forms { over, under, none } = forms;
-        let reaches = self.next.var;
-        let counts = reaches.saturating_add(2);
-        let lits = [self.is_out(edge), named(reaches, true)];
-        line.definitions.push(Definition::Comparison(over))?;
-        add_disjunction(alloc, line, &lits)?;
-        line.definitions
-            .push(Definition::Cases(counts, none, under))?;
-        self.take_shortfall()
-    }
-
-    /// Takes in the numbers of a shortfall that was defined.
-    fn take_shortfall(&mut self) -> Result<(), AllocError> {
-        let next = self.next;
-        self.shortfalls.push(Shortfall {
-            reaches: next.var,
-            first: next.var.saturating_add(3),
-            column: next.column,
-            row: next.row,
-        })?;
-        self.next = Next {
-            var: next.var.saturating_add(Shortfall::VARS),
-            column: next.column.saturating_add(1),
-            row: next.row.saturating_add(Shortfall::ROWS),
-        };
+        let reached = self.next.compare(line, over)?;
+        let lits = [self.is_out(edge), reached.is_some()];
+        let none = self.next.disjoin(alloc, line, &lits)?;
+        if let Some(behind) = self.next.count(alloc, line, none, false, under)? {
+            self.shortfalls.push(Shortfall { reached, behind })?;
+        }
         Ok(())
     }
 
     /// Defines the comparison of a sum with nothing.
     fn define_sum(&mut self, line: &mut Line, terms: Vec<(usize, Frac)>) -> Result<(), AllocError> {
-        if let Some(sum) = self.next.define_sum(line, terms)? {
+        if let Some(sum) = self.next.compare_sum(line, terms)? {
             self.sums.push(sum)?;
         }
         Ok(())
@@ -315,23 +259,10 @@ impl<'a> Looping<'a> {
         plus: &[usize],
         minus: &[usize],
     ) -> Result<Vec<(usize, Frac)>, AllocError> {
-        let mut edges = Vec::from_slice(alloc, plus)?;
-        edges.extend_from_slice(minus)?;
-        edges.sort()?;
         let mut terms = Vec::new(alloc);
-        for edge in &edges {
-            let adds = plus.contains(edge);
-            if adds != minus.contains(edge) {
-                if let Some(shortfall) = self.shortfall(*edge) {
-                    terms.push((
-                        shortfall.column,
-                        if adds {
-                            Frac::whole(1)
-                        } else {
-                            Frac::whole(-1)
-                        },
-                    ))?;
-                }
+        for (edge, sign) in &apart(alloc, plus, minus)? {
+            if let Some(shortfall) = self.shortfall(*edge) {
+                terms.push((shortfall.behind.column(), *sign))?;
             }
         }
         Ok(terms)
@@ -416,13 +347,12 @@ impl<'a> Looping<'a> {
     ) -> Result<Vec<usize>, AllocError> {
         let mut rows = Vec::from_slice(alloc, list_at(alone, edge))?;
         if let Some(shortfall) = self.shortfall(edge) {
-            add_rows(&mut rows, shortfall.row, Shortfall::ROWS)?;
+            shortfall.add_rows(&mut rows)?;
         }
         for (column, _) in state.sum(edge) {
             rows.extend_from_slice(list_at(caps, *column))?;
         }
-        rows.sort()?;
-        rows.dedup();
+        in_order(&mut rows)?;
         Ok(rows)
     }
 
@@ -439,15 +369,10 @@ impl<'a> Looping<'a> {
             return Ok(());
         };
         let aims = &mut line.aims;
-        add_aim(alloc, aims, &[shortfall.is_some()], place)?;
-        add_both(alloc, aims, self.is_out(edge), shortfall.is_all(), place)?;
-        add_both(
-            alloc,
-            aims,
-            shortfall.reaches(true),
-            shortfall.is_no_more(),
-            place,
-        )?;
+        let behind = shortfall.behind;
+        add_aim(alloc, aims, &[behind.is_some()], place)?;
+        add_both(alloc, aims, self.is_out(edge), behind.is_all(), place)?;
+        add_both(alloc, aims, shortfall.reaches(), behind.is_no_more(), place)?;
         add_full(alloc, aims, atoms.full(edge), shortfall, place)
     }
 
@@ -462,8 +387,7 @@ impl<'a> Looping<'a> {
         let place = places.get(splitter).copied().unwrap_or(0);
         let mut rows = Vec::from_slice(alloc, list_at(&line.scopes, place))?;
         self.add_rows_at(&mut rows, splitter)?;
-        rows.sort()?;
-        rows.dedup();
+        in_order(&mut rows)?;
         Ok(rows)
     }
 
@@ -483,7 +407,7 @@ impl<'a> Looping<'a> {
 
     fn add_rows_of(&self, rows: &mut Vec<usize>, edge: usize) -> Result<(), AllocError> {
         match self.shortfall(edge) {
-            Some(shortfall) => add_rows(rows, shortfall.row, Shortfall::ROWS),
+            Some(shortfall) => shortfall.add_rows(rows),
             None => Ok(()),
         }
     }
@@ -502,9 +426,9 @@ impl<'a> Looping<'a> {
                 if let Some(shortfall) = self.shortfall(*other) {
                     let place = at_edges.get(*other).copied().unwrap_or(usize::MAX);
                     let lit = if self.backed {
-                        shortfall.is_all()
+                        shortfall.behind.is_all()
                     } else {
-                        shortfall.is_none()
+                        shortfall.behind.is_none()
                     };
                     add_both(alloc, &mut line.aims, named(*edge, false), lit, place)?;
                 }
@@ -527,7 +451,7 @@ impl<'a> Looping<'a> {
         let no_more = sum.is_some();
         for edge in self.near(splitter) {
             if let Some(shortfall) = self.shortfall(*edge) {
-                let none = shortfall.is_none();
+                let none = shortfall.behind.is_none();
                 self.argue_beside(alloc, &mut line.aims, splitter, *edge, none, place)?;
                 add_both(alloc, &mut line.aims, none, no_more, place)?;
             }
@@ -548,7 +472,7 @@ impl<'a> Looping<'a> {
         for other in self.near(splitter) {
             if let Some(beside) = self.shortfall(*other) {
                 if edge != *other {
-                    add_both(alloc, aims, none, beside.reaches(false), place)?;
+                    add_both(alloc, aims, none, beside.falls_short(), place)?;
                 }
             }
         }
@@ -567,7 +491,7 @@ impl<'a> Looping<'a> {
         for edge in &self.first {
             if let Some(shortfall) = self.shortfall(*edge) {
                 let place = at_edges.get(*edge).copied().unwrap_or(usize::MAX);
-                add_aim(alloc, &mut line.aims, &[shortfall.is_none()], place)?;
+                add_aim(alloc, &mut line.aims, &[shortfall.behind.is_none()], place)?;
             }
         }
         self.argue_sum(alloc, line)?;
@@ -591,12 +515,17 @@ impl<'a> Looping<'a> {
     }
 
     /// Adds that the last edges have no shortfall, by the comparison of all ends.
-    fn argue_none(&self, alloc: Global, line: &mut Line, sum: Sum) -> Result<(), AllocError> {
+    fn argue_none(
+        &self,
+        alloc: Global,
+        line: &mut Line,
+        sum: Comparison,
+    ) -> Result<(), AllocError> {
         let rows = self.end_rows(alloc, sum)?;
         let place = add_scope(line, rows)?;
         for edge in &self.last {
             if let Some(shortfall) = self.shortfall(*edge) {
-                add_aim(alloc, &mut line.aims, &[shortfall.is_none()], place)?;
+                add_aim(alloc, &mut line.aims, &[shortfall.behind.is_none()], place)?;
             }
         }
         Ok(())
@@ -612,7 +541,7 @@ impl<'a> Looping<'a> {
     }
 
     /// The rows of the shortfalls of all ends, and of their comparison.
-    fn end_rows(&self, alloc: Global, sum: Sum) -> Result<Vec<usize>, AllocError> {
+    fn end_rows(&self, alloc: Global, sum: Comparison) -> Result<Vec<usize>, AllocError> {
         let mut rows = Vec::new(alloc);
         sum.add_rows(&mut rows)?;
         for edge in &self.first {
@@ -634,14 +563,9 @@ impl<'a> Looping<'a> {
     ) -> Result<(), AllocError> {
         if let Some(shortfall) = self.shortfall(edge) {
             let counts = named(edge, self.backed);
-            add_both(
-                alloc,
-                &mut line.aims,
-                counts,
-                shortfall.reaches(true),
-                place,
-            )?;
-            add_aim(alloc, &mut line.aims, &[shortfall.reaches(true)], place)?;
+            let reaches = shortfall.reaches();
+            add_both(alloc, &mut line.aims, counts, reaches, place)?;
+            add_aim(alloc, &mut line.aims, &[reaches], place)?;
         }
         Ok(())
     }
@@ -682,7 +606,7 @@ impl<'a> Looping<'a> {
         let mut rows = Vec::new(alloc);
         for edge in &self.last {
             if let Some(shortfall) = self.shortfall(*edge) {
-                add_rows(&mut rows, shortfall.row, 2)?;
+                shortfall.reached.add_rows(&mut rows)?;
             }
         }
         if let Some(sum) = self.sums.last() {

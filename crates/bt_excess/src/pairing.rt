@@ -2,81 +2,40 @@
 //! beside it counts where it carries more and the other one is backed, or where it carries less and is free: its excess. The
 //! excesses of the edges into a splitter are together at most those of the edges out of it. At inputs there is none below
 //! nothing, and at outputs none above it, so at all ends there is none, and then no output carries more or less.
-use crate::numbers::{Next, Sum, form_of};
 use bt_cnf::Formula;
-use bt_extend::{Definition, Form, NamedLit};
+use bt_extend::{Form, NamedLit};
 use bt_frac::Frac;
 use bt_graph::{Graph, edges_beside, ends_of, has_no_preference, splitters_beside};
 use bt_net::Net;
 use bt_scopes::{
-    Aim, Couple, Line, add_aim, add_both, add_disjunction, add_rows, add_scope, conclude,
-    equal_rows, named, scopes_of_couples,
+    Aim, Comparison, Counted, Couple, Line, Next, add_aim, add_both, add_scope, apart, conclude,
+    equal_rows, in_order, named, scopes_of_couples, sum_of,
 };
 use std::alloc::{AllocError, Global};
 
 /// Of fewer splitters than this nothing is defined: the logs are shorter so.
 const LEAST_SPLITTERS: u32 = 3;
 
-/// Two edges beside each other, with the numbers of what is defined of them.
+/// Two edges beside each other, with what is defined of them.
 #[derive(Clone, Copy)]
 struct Pair {
     first: usize,
     /// The column of the second one's flow.
     second: usize,
-    var: usize,
-    column: usize,
-    row: usize,
+    /// Of the first flow less the second.
+    over: Comparison,
+    /// Of the second flow less the first.
+    under: Comparison,
+    /// The difference, where it counts.
+    excess: Counted,
 }
 
 impl Pair {
-    /// How many rows are defined.
-    const ROWS: usize = 12;
-
-    /// How many variables are defined.
-    const VARS: usize = 15;
-
-    fn lit(self, place: usize) -> NamedLit {
-        named(self.var.saturating_add(place), true)
-    }
-
-    /// The first carries at least as much as the second.
-    fn is_not_below(self) -> NamedLit {
-        self.lit(0)
-    }
-
-    /// The first carries less.
-    fn is_below(self) -> NamedLit {
-        self.lit(1)
-    }
-
-    /// The first carries at most as much as the second.
-    fn is_not_above(self) -> NamedLit {
-        self.lit(2)
-    }
-
-    /// The first carries more.
-    fn is_above(self) -> NamedLit {
-        self.lit(3)
-    }
-
-    /// The excess is at least the difference.
-    fn is_all(self) -> NamedLit {
-        self.lit(7)
-    }
-
-    /// The excess is at most the difference.
-    fn is_no_more(self) -> NamedLit {
-        self.lit(9)
-    }
-
-    /// The excess is at least nothing.
-    fn is_some(self) -> NamedLit {
-        self.lit(11)
-    }
-
-    /// The excess is at most nothing.
-    fn is_none(self) -> NamedLit {
-        self.lit(13)
+    /// Adds the rows of what is defined.
+    fn add_rows(self, rows: &mut Vec<usize>) -> Result<(), AllocError> {
+        self.over.add_rows(rows)?;
+        self.under.add_rows(rows)?;
+        self.excess.add_rows(rows)
     }
 }
 
@@ -88,7 +47,7 @@ struct Pairing<'a> {
     /// For each edge of the first network.
     pairs: Vec<Pair>,
     /// For each splitter the comparison of both its sides, then that of all ends, then that of all that flows.
-    sums: Vec<Sum>,
+    sums: Vec<Comparison>,
     inputs: Vec<usize>,
     outputs: Vec<usize>,
 }
@@ -176,11 +135,11 @@ fn add_none(
     pair: Pair,
     place: usize,
 ) -> Result<(), AllocError> {
-    let none = pair.is_none();
-    add_both(alloc, aims, none, pair.is_not_below(), place)?;
-    add_both(alloc, aims, none, pair.is_above(), place)?;
+    let none = pair.excess.is_none();
+    add_both(alloc, aims, none, pair.over.is_some(), place)?;
+    add_both(alloc, aims, none, pair.under.is_less(), place)?;
     add_both(alloc, aims, none, named(pair.second, true), place)?;
-    add_both(alloc, aims, none, pair.is_no_more(), place)
+    add_both(alloc, aims, none, pair.excess.is_no_more(), place)
 }
 
 /// Adds where the excess of two edges is at least nothing: where the first carries no more or less, where it is free, and where
@@ -191,28 +150,26 @@ fn add_some(
     pair: Pair,
     place: usize,
 ) -> Result<(), AllocError> {
-    let some = pair.is_some();
-    add_both(alloc, aims, some, pair.is_not_above(), place)?;
-    add_both(alloc, aims, some, pair.is_below(), place)?;
+    let some = pair.excess.is_some();
+    add_both(alloc, aims, some, pair.under.is_some(), place)?;
+    add_both(alloc, aims, some, pair.over.is_less(), place)?;
     add_both(alloc, aims, some, named(pair.first, false), place)?;
-    add_both(alloc, aims, some, pair.is_all(), place)
+    add_both(alloc, aims, some, pair.excess.is_all(), place)
 }
 
 /// Adds rows to a list in which each stands once, in order.
 fn merge(rows: &mut Vec<usize>, more: &[usize]) -> Result<(), AllocError> {
     rows.extend_from_slice(more)?;
-    rows.sort()?;
-    rows.dedup();
-    Ok(())
+    in_order(rows)
 }
 
-/// What defines an excess: how much more the first of two edges carries than the second, how much less, and nothing.
+/// What defines an excess: how much more the first of two edges carries than the second, how much less, and the excess
+/// where it counts.
 #[derive(Drop)]
 struct Forms {
     over: Form,
     under: Form,
     excess: Form,
-    none: Form,
 }
 
 impl Forms {
@@ -221,15 +178,12 @@ impl Forms {
         let over = difference(alloc, first, second, 1)?;
         let under = difference(alloc, first, second, -1)?;
         let excess = difference(alloc, first, second, 1)?;
-        match (over, under, excess, form_of(Vec::new(alloc))) {
-            (Some(over), Some(under), Some(excess), Some(none)) => {
-                Ok(Some(Forms {
-                    over,
-                    under,
-                    excess,
-                    none,
-                }))
-            }
+        match (over, under, excess) {
+            (Some(over), Some(under), Some(excess)) => Ok(Some(Forms {
+                over,
+                under,
+                excess,
+            })),
             _ => Ok(None),
         }
     }
@@ -245,7 +199,7 @@ fn difference(
     let mut terms = Vec::new(alloc);
     terms.push((first, Frac::whole(one)))?;
     terms.push((second, Frac::whole(one).negate()))?;
-    Ok(form_of(terms))
+    Ok(sum_of(terms))
 }
 
 impl<'a> Pairing<'a> {
@@ -297,56 +251,48 @@ impl<'a> Pairing<'a> {
             over,
             under,
             excess,
-            none,
         } = forms;
-        let counts = self.next.var.saturating_add(6);
-        line.definitions.push(Definition::Comparison(over))?;
-        line.definitions.push(Definition::Comparison(under))?;
-        self.define_counts(alloc, line, first, second)?;
-        line.definitions
-            .push(Definition::Cases(counts, excess, none))?;
-        self.take_pair(first, second)
+        let over = self.next.compare(line, over)?;
+        let under = self.next.compare(line, under)?;
+        let not_more = named(second, false);
+        let not_less = named(first, true);
+        let counts = self.define_counts(
+            alloc,
+            line,
+            &[not_more, under.is_some()],
+            &[not_less, over.is_some()],
+        )?;
+        if let Some(excess) = self.next.count(alloc, line, counts, true, excess)? {
+            self.pairs.push(Pair {
+                first,
+                second,
+                over,
+                under,
+                excess,
+            })?;
+        }
+        Ok(())
     }
 
-    /// Defines the literals of which one says that the excess counts. The mark of an edge and that of the one beside it are the
-    /// variables with the places of their flows' columns.
+    /// Defines the variable that says that the excess counts, and tells its place: of the literals that say that it doesn't
+    /// as more, or as less, none is true. The mark of an edge and that of the one beside it are the variables with the places
+    /// of their flows' columns.
     fn define_counts(
-        &self,
+        &mut self,
         alloc: Global,
         line: &mut Line,
-        first: usize,
-        second: usize,
-    ) -> Result<(), AllocError> {
-        let var = self.next.var;
-        let not_above = named(var.saturating_add(2), true);
-        let more = named(var.saturating_add(4), false);
-        let less = named(var.saturating_add(5), false);
-        add_disjunction(alloc, line, &[named(second, false), not_above])?;
-        add_disjunction(alloc, line, &[named(first, true), named(var, true)])?;
-        add_disjunction(alloc, line, &[more, less])
-    }
-
-    /// Takes in the numbers of a pair whose excess was defined.
-    fn take_pair(&mut self, first: usize, second: usize) -> Result<(), AllocError> {
-        let next = self.next;
-        self.pairs.push(Pair {
-            first,
-            second,
-            var: next.var,
-            column: next.column,
-            row: next.row,
-        })?;
-        self.next = Next {
-            var: next.var.saturating_add(Pair::VARS),
-            column: next.column.saturating_add(1),
-            row: next.row.saturating_add(Pair::ROWS),
-        };
-        Ok(())
+        not_more: &[NamedLit],
+        not_less: &[NamedLit],
+    ) -> Result<usize, AllocError> {
+        let more = self.next.disjoin(alloc, line, not_more)?;
+        let less = self.next.disjoin(alloc, line, not_less)?;
+        let counts = [named(more, false), named(less, false)];
+        self.next.disjoin(alloc, line, &counts)
     }
 
     /// Defines the comparison of a sum with nothing.
     fn define_sum(&mut self, line: &mut Line, terms: Vec<(usize, Frac)>) -> Result<(), AllocError> {
-        if let Some(sum) = self.next.define_sum(line, terms)? {
+        if let Some(sum) = self.next.compare_sum(line, terms)? {
             self.sums.push(sum)?;
         }
         Ok(())
@@ -356,6 +302,19 @@ impl<'a> Pairing<'a> {
         self.pairs.get(edge).copied()
     }
 
+    fn excess(&self, edge: usize) -> Option<Counted> {
+        Some(self.pair(edge)?.excess)
+    }
+
+    /// The excess of another edge of a splitter.
+    fn excess_beside(&self, edge: usize, other: usize) -> Option<Counted> {
+        if edge == other {
+            None
+        } else {
+            self.excess(other)
+        }
+    }
+
     /// The excesses of some edges less those of others.
     fn excesses(
         &self,
@@ -363,17 +322,10 @@ impl<'a> Pairing<'a> {
         plus: &[usize],
         minus: &[usize],
     ) -> Result<Vec<(usize, Frac)>, AllocError> {
-        let mut edges = Vec::from_slice(alloc, plus)?;
-        edges.extend_from_slice(minus)?;
-        edges.sort()?;
         let mut terms = Vec::new(alloc);
-        for edge in &edges {
-            let adds = plus.contains(edge);
-            if adds != minus.contains(edge) {
-                if let Some(pair) = self.pair(*edge) {
-                    let one = if adds { 1 } else { -1 };
-                    terms.push((pair.column, Frac::whole(one)))?;
-                }
+        for (edge, sign) in &apart(alloc, plus, minus)? {
+            if let Some(pair) = self.pair(*edge) {
+                terms.push((pair.excess.column(), *sign))?;
             }
         }
         Ok(terms)
@@ -473,7 +425,7 @@ impl<'a> Pairing<'a> {
 
     fn add_rows_of(&self, rows: &mut Vec<usize>, edge: usize) -> Result<(), AllocError> {
         match self.pair(edge) {
-            Some(pair) => add_rows(rows, pair.row, Pair::ROWS),
+            Some(pair) => pair.add_rows(rows),
             None => Ok(()),
         }
     }
@@ -492,9 +444,10 @@ impl<'a> Pairing<'a> {
         let aims = &mut line.aims;
         add_none(alloc, aims, pair, place)?;
         add_some(alloc, aims, pair, place)?;
-        add_both(alloc, aims, pair.is_above(), pair.is_all(), place)?;
-        add_both(alloc, aims, pair.is_below(), pair.is_no_more(), place)?;
-        self.argue_end(alloc, aims, pair, edge, place)
+        let excess = pair.excess;
+        add_both(alloc, aims, pair.under.is_less(), excess.is_all(), place)?;
+        add_both(alloc, aims, pair.over.is_less(), excess.is_no_more(), place)?;
+        self.argue_end(alloc, aims, excess, edge, place)
     }
 
     /// Adds what holds of two edges at an end.
@@ -502,17 +455,17 @@ impl<'a> Pairing<'a> {
         &self,
         alloc: Global,
         aims: &mut Vec<Aim>,
-        pair: Pair,
+        excess: Counted,
         edge: usize,
         place: usize,
     ) -> Result<(), AllocError> {
         if self.graph.start(edge).is_none() {
-            add_aim(alloc, aims, &[pair.is_some()], place)?;
-            add_aim(alloc, aims, &[pair.is_all()], place)?;
+            add_aim(alloc, aims, &[excess.is_some()], place)?;
+            add_aim(alloc, aims, &[excess.is_all()], place)?;
         }
         if self.graph.target(edge).is_none() {
-            add_aim(alloc, aims, &[pair.is_none()], place)?;
-            add_aim(alloc, aims, &[pair.is_no_more()], place)?;
+            add_aim(alloc, aims, &[excess.is_none()], place)?;
+            add_aim(alloc, aims, &[excess.is_no_more()], place)?;
         }
         Ok(())
     }
@@ -546,23 +499,22 @@ impl<'a> Pairing<'a> {
         edge: usize,
         no_more: NamedLit,
     ) -> Result<(), AllocError> {
-        let Some(pair) = self.pair(edge) else {
+        let Some(excess) = self.excess(edge) else {
             return Ok(());
         };
+        let none = excess.is_none();
         let aims = &mut line.aims;
         for other in self.graph.outs(splitter) {
-            if let Some(beyond) = self.pair(*other) {
-                add_both(alloc, aims, pair.is_none(), beyond.is_all(), splitter)?;
+            if let Some(beyond) = self.excess(*other) {
+                add_both(alloc, aims, none, beyond.is_all(), splitter)?;
             }
         }
         for other in self.graph.ins(splitter) {
-            if let Some(beside) = self.pair(*other) {
-                if edge != *other {
-                    add_both(alloc, aims, pair.is_none(), beside.is_no_more(), splitter)?;
-                }
+            if let Some(beside) = self.excess_beside(edge, *other) {
+                add_both(alloc, aims, none, beside.is_no_more(), splitter)?;
             }
         }
-        add_both(alloc, aims, pair.is_none(), no_more, splitter)
+        add_both(alloc, aims, none, no_more, splitter)
     }
 
     /// Adds what follows where an edge out of a splitter has an excess below nothing.
@@ -574,23 +526,22 @@ impl<'a> Pairing<'a> {
         edge: usize,
         no_more: NamedLit,
     ) -> Result<(), AllocError> {
-        let Some(pair) = self.pair(edge) else {
+        let Some(excess) = self.excess(edge) else {
             return Ok(());
         };
+        let some = excess.is_some();
         let aims = &mut line.aims;
         for other in self.graph.ins(splitter) {
-            if let Some(before) = self.pair(*other) {
-                add_both(alloc, aims, pair.is_some(), before.is_no_more(), splitter)?;
+            if let Some(before) = self.excess(*other) {
+                add_both(alloc, aims, some, before.is_no_more(), splitter)?;
             }
         }
         for other in self.graph.outs(splitter) {
-            if let Some(beside) = self.pair(*other) {
-                if edge != *other {
-                    add_both(alloc, aims, pair.is_some(), beside.is_all(), splitter)?;
-                }
+            if let Some(beside) = self.excess_beside(edge, *other) {
+                add_both(alloc, aims, some, beside.is_all(), splitter)?;
             }
         }
-        add_both(alloc, aims, pair.is_some(), no_more, splitter)
+        add_both(alloc, aims, some, no_more, splitter)
     }
 
     /// Adds that the excesses of the inputs are at most those of the outputs, so that there are none.
@@ -648,8 +599,7 @@ impl<'a> Pairing<'a> {
                 sum.add_rows(&mut rows)?;
             }
         }
-        rows.sort()?;
-        rows.dedup();
+        in_order(&mut rows)?;
         Ok(rows)
     }
 }

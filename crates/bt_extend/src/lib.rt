@@ -5,6 +5,7 @@ mod definition;
 mod extending;
 mod extension;
 mod form;
+mod goal;
 mod item;
 mod items;
 mod law;
@@ -16,6 +17,7 @@ pub use definition::{Definition, Literals, NamedLit, is_definition};
 pub use extending::extend_all;
 pub use extension::extend;
 pub use form::Form;
+pub use goal::Goal;
 pub use item::Item;
 pub use items::{next_item, read_items};
 pub use law::{

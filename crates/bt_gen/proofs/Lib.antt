@@ -1,3 +1,4 @@
+mod Halves
 pub mod Lines
 pub mod Made
 pub mod Rows

@@ -1,4 +1,5 @@
 pub mod Few
+pub mod LeftOut
 pub mod Formulas
 pub mod Refuted
 pub mod Written

@@ -68,7 +68,7 @@ module _ (r : LayoutRequest) (learnt : ℕ) (grids : List Rect) where
         record {
           first = map-append (λ (x : RuledOut). x.grid) earlier (one ∷ []) ∙ ap (λ gs. gs ++ grid ∷ []) are.first
               ∙ ap (λ g. take place grids ++ g ∷ []) at ∙ sym (take_more grids place grid within);
-          ruled_out = All-push (IsRuledOut r learnt) earlier one are.ruled_out (record { none = is.0; refuted = is.1; few = is.2 });
+          ruled_out = All-push (IsRuledOut r learnt) earlier one are.ruled_out (record { none = is.0; refuted = is.1; few = is.2; tight = is.3 });
         }
 
     -- the grids before this one are ruled out

@@ -1,10 +1,10 @@
 -- Small grids on which parts that show a network are looked for.
-use Rattle.std.proofs.Common.{◌≡◌, ◌⊎◌, ℕ, ◌+◌, ◌<◌, ◌≤◌, inl, inr, List, [], ◌∷◌, ◌++◌, length, get_or, map, None, Some, refl, sym, subst, ◌∙◌, ap, arith}
-use Rattle.std.specs.Prelude.{All, AllPairs, Contains, Option, Vec, min, option_map, slice_get, take}
+use Rattle.std.proofs.Common.{◌≡◌, ◌⊎◌, ℕ, ◌<◌, inl, inr, List, [], ◌∷◌, ◌++◌, length, get_or, map, None, Some, refl, sym, subst, ◌∙◌, ap, arith}
+use Rattle.std.specs.Prelude.{All, AllPairs, Contains, Option, Vec, option_map, slice_get, take}
 use Rattle.std.specs.declared.alloc.Global.{Global}
 use Rattle.std.proofs.lemmas.Bool.{cases_lt}
-use Rattle.std.proofs.lemmas.List.{get_or-take, get_or_default, length-map, length-take, map-append, take-map, take_more}
-use Rattle.std.proofs.lemmas.List.Elements.{All-get_or, All-nil, All-push, All-weaker, Contains-append_left, Contains-push, Contains-push_cases}
+use Rattle.std.proofs.lemmas.List.{get_or-take, get_or_default, length-take, map-append, take-map}
+use Rattle.std.proofs.lemmas.List.Elements.{All-nil, All-push, All-weaker, Contains-append_left, Contains-push, Contains-push_cases}
 use Rattle.std.proofs.lemmas.List.Quantifiers.{all_pairs_push}
 use Rattle.std.proofs.lemmas.Option.{get_or_from_slice_get, slice_get-get_or, slice_get-map, slice_get_within}
 use Rattle.bt_parts.specs.declared.part.Part.{Part}
@@ -14,8 +14,8 @@ use Rattle.bt_model.specs.Requests.{LayoutRequest}
 use Rattle.bt_layout.specs.declared.outcome.Small.TheVariants.{Found, Spent}
 use Rattle.bt_layout.specs.declared.outcome.Early.TheVariants as early
 use Rattle.bt_layout.specs.Early.{AreRefuted, AreThrough, IsEarly, IsLaid}
-use Rattle.bt_layout.specs.Grids.{area_of, AreGrids, ComesBefore, IsWithin}
-use Rattle.bt_layout.specs.Small.{AreRuledOut, AsksSmall, HasFewer, IsSmall, IsThrough, MayBeAsked}
+use Rattle.bt_layout.specs.Grids.{area_of, AreGrids, ComesBefore}
+use Rattle.bt_layout.specs.Small.{AsksSmall, HasFewer, IsSmall, IsThrough, MayBeAsked}
 use Rattle.bt_layout.specs.Smallest.{request_on}
 use Rattle.bt_layout.specs.inner.Progressing.{AskEach, AskSmall}
 use Rattle.bt_layout.proofs.Taken.{taken_weaker}

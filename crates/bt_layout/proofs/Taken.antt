@@ -1,13 +1,11 @@
 -- Steps that searches took.
-use Rattle.std.proofs.Common.{◌≡◌, ℕ, ◌+◌, ◌<◌, ◌≤◌, ◌^◌, List, [], ◌∷◌, length, map, sym, ap, subst, ◌∙◌, refl, arith}
-use Rattle.std.specs.Prelude.{All, Contains, min}
-use Rattle.std.specs.List.{sum}
+use Rattle.std.proofs.Common.{◌≡◌, ℕ, ◌+◌, ◌≤◌, ◌^◌, List, [], ◌∷◌, length, map, sym, ap, subst, ◌∙◌, refl, arith}
+use Rattle.std.specs.Prelude.{Contains, min}
 use Rattle.std.proofs.lemmas.List.Elements.{All-cons, All-nil, All-weaker}
 use Rattle.std.proofs.lemmas.List.Sums.{sum_by-cons}
 use Rattle.bt_log.specs.Logs.{Step}
 use Rattle.bt_model.specs.Requests.{LayoutRequest}
 use Rattle.bt_layout.specs.Early.{AreSought, AreTaken, Search}
-use Rattle.bt_layout.specs.inner.Likely.{IsSought}
 use Rattle.bt_layout.specs.inner.Progressing.{ArePaid}
 
 -- no searches took no steps

@@ -1,24 +1,21 @@
 -- What is told of what was found, and of how many steps were taken.
 use Rattle.std.proofs.Common.{◌≡◌, ◌⊎◌, inl, inr, ℕ, ◌+◌, ◌-◌, ◌^◌, ◌<◌, ◌≤◌, List, get_or, length, Option, Some, None, sym, ap, subst, ◌∙◌, arith}
-use Rattle.std.specs.Prelude.{Contains, IfSome, Vec, slice_get}
+use Rattle.std.specs.Prelude.{Contains, IfSome, Vec}
 use Rattle.std.specs.declared.alloc.Global.{Global}
 use Rattle.std.proofs.lemmas.List.Elements.{Contains-get_or}
 use Rattle.std.proofs.lemmas.Option.{get_or_from_slice_get, slice_get-get_or, slice_get_within}
-use Rattle.bt_log.specs.Logs.{Step, LogParts}
+use Rattle.bt_log.specs.Logs.{LogParts}
 use Rattle.bt_parts.specs.declared.part.Part.{Part}
 use Rattle.bt_model.specs.Requests.{LayoutRequest}
-use Rattle.bt_place.specs.PlaceFormula.{place_formula}
-use Rattle.bt_theory.specs.Outcomes.{IsRefutation, IsUsedUp}
 use Rattle.bt_layout.specs.declared.outcome.Early.TheVariants as early
-use Rattle.bt_layout.specs.declared.outcome.Layout.{Layout}
 use Rattle.bt_layout.specs.declared.outcome.Layout.TheVariants.{Found, Nowhere, Spent}
 use Rattle.bt_layout.specs.declared.progress.Laid.{Laid}
 use Rattle.bt_layout.specs.declared.progress.Progress.{Progress}
 use Rattle.bt_layout.specs.declared.searching.Searched.{Searched}
-use Rattle.bt_layout.specs.Early.{AreRefuted, AreThrough, IsEarly, IsLaid, IsRefuted}
+use Rattle.bt_layout.specs.Early.{AreRefuted, IsEarly, IsLaid, IsRefuted}
 use Rattle.bt_layout.specs.Layouts.{IsLayout}
 use Rattle.bt_layout.specs.inner.Progressing.{ArePaid, ArePassed, HasLog, IsEnded, IsProgress, IsWhole, lesser_from, lesser_of}
-use Rattle.bt_layout.proofs.Through.{all_left, ended, refuted_at}
+use Rattle.bt_layout.proofs.Through.{all_left, ended, refuted_at, refuted_by_more}
 
 -- a layout that was found is told
 pub told_laid : (requests : List LayoutRequest) (learnt : ℕ) (progress : Progress) (laid : Laid) → progress.found ≡ Some laid → IsProgress requests learnt progress
@@ -79,14 +76,14 @@ module _ (requests : List LayoutRequest) (learnt : ℕ) (progress : Progress) (p
     pub passed_by_log : (log : LogParts) → searched.layout ≡ Nowhere log → ArePassed requests learnt place new
     passed_by_log log nowhere =
         let layout : IsLayout is.request is.most (Nowhere log) = subst (IsLayout is.request is.most) nowhere is.whole.layout in
-        let same : log.steps ≡ is.whole.log = subst (λ l. HasLog l is.whole.log) nowhere is.whole.is_log in
+        let few : length log.steps ≤ length is.whole.log = subst (λ l. HasLog l is.whole.log) nowhere is.whole.is_log in
         let refuted : IsRefuted is.request log.steps = record { none = layout.0; refuted = layout.1 } in
-        let size : progress.steps + length log.steps ≡ new.steps = ap (λ n. progress.steps + n) (ap length same ∙ is.whole.size) ∙ sym more in
-        let few = ended_paid.few in
+        let size : progress.steps + length log.steps ≤ new.steps = omega (arith, few, is.whole.size, more) in
+        let paid = ended_paid.few in
         elim passed [
-          | inl every ↦ inl (omega (arith, every, more, few))
+          | inl every ↦ inl (omega (arith, every, more, paid))
           | inr are ↦ inr (subst (λ one. AreRefuted (lesser_from requests place one) new.steps) (sym found)
-              (subst (AreRefuted (lesser_from requests place progress.found)) size
+              (refuted_by_more (lesser_from requests place progress.found) (progress.steps + length log.steps) new.steps size
               (refuted_at requests (lesser_of (length requests) progress.found) place progress.steps is.request log.steps before is.is refuted are)))
         ]
 

@@ -8,6 +8,7 @@ use Rattle.bt_model.specs.Requests.{LayoutRequest, request_of}
 use Rattle.bt_place.specs.PlaceFormula.{place_formula}
 use Rattle.bt_place.specs.Solutions.{ComesAbove}
 use Rattle.bt_theory.specs.Outcomes.{IsRefutation, IsUsedUp}
+use Rattle.bt_trim.specs.Trimming.{IsTight}
 use Rattle.bt_layout.specs.Layouts.{HasNoLayout}
 use Rattle.bt_layout.specs.declared.outcome.RuledOut.{RuledOut}
 use Rattle.bt_layout.specs.declared.outcome.Smallest.{Smallest}
@@ -28,11 +29,13 @@ pub record NamesNoCells (r : LayoutRequest) : Type 0 where
 abbrev pub request_on : LayoutRequest → Rect → LayoutRequest
 request_on r grid = request_of r.net grid r.tier r.demands r.blocks
 
--- no parts lay the request on the grid: the log, which has at most so many steps, refutes the placement formula
+-- no parts lay the request on the grid: the log, which has at most so many steps, each but the last needed, refutes the
+-- placement formula
 pub record IsRuledOut (r : LayoutRequest) (learnt : ℕ) (one : RuledOut) : Type 0 where
   pub none : HasNoLayout (request_on r one.grid)
   pub refuted : IsRefutation (place_formula (request_on r one.grid)) one.log.steps
   pub few : length one.log.steps ≤ learnt
+  pub tight : IsTight one.log
 
 -- the grids that are ruled out
 abbrev pub grids_of : List RuledOut → List Rect

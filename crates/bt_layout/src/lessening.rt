@@ -4,8 +4,8 @@ use crate::seeking::{Ground, great_rect, ground_in};
 use bt_model::{MOST_ACROSS, Request};
 use bt_net::Demand;
 use bt_parts::{Part, Rect};
-use bt_route::{Sketch, find_sketch};
 use bt_shrink::{Goal, Shrunk, find_turned, shrink};
+use bt_sketch::{Sketch, find_sketch};
 use std::alloc::{AllocError, Global};
 
 /// The greatest rectangle.
@@ -17,11 +17,35 @@ const GREATEST: Rect = Rect {
 /// Layouts are made smaller only to rectangles that have so many cells for each splitter.
 const LEAST_ROOM: u64 = 9;
 
-/// For each cell a layout is made smaller for about as long as so many conflicts take.
-const CELL_EFFORT: u64 = 200;
+/// Layouts begin in rectangles that are a column or a row greater only where these have so many cells for each splitter: in
+/// lesser ones sketches find hardly any.
+const SKETCH_ROOM: u64 = 15;
 
-/// How often that is tried.
-const RUNS: u64 = 3;
+/// How often a layout is made smaller, and for about as long as how many conflicts take for each cell.
+#[derive(Clone, Copy)]
+struct Runs {
+    count: u64,
+    effort: u64,
+}
+
+/// From a rectangle that is a column or a row greater: that is found soon or hardly ever.
+const NEAR: Runs = Runs {
+    count: 2,
+    effort: 75,
+};
+
+/// From the greatest rectangle.
+const FAR: Runs = Runs {
+    count: 3,
+    effort: 200,
+};
+
+/// A rectangle in which a layout begins.
+#[derive(Clone, Copy)]
+struct Beginning {
+    rect: Rect,
+    runs: Runs,
+}
 
 /// For about so many conflicts of a light search a layout is looked for that half a turn maps onto itself: it takes few or
 /// very many.
@@ -39,11 +63,14 @@ fn parts_of(alloc: Global, sketch: &Sketch) -> Result<Vec<Part>, AllocError> {
     Ok(parts)
 }
 
-/// Whether there are so many cells for each splitter that a layout may lie in them.
-fn has_room(request: &Request) -> bool {
-    let rect = request.rect();
-    let cells = u64::from(rect.width).saturating_mul(u64::from(rect.height));
-    cells >= u64::from(request.net().splitters()).saturating_mul(LEAST_ROOM)
+/// The number of cells of a rectangle.
+fn cells_in(rect: Rect) -> u64 {
+    u64::from(rect.width).saturating_mul(u64::from(rect.height))
+}
+
+/// Whether a rectangle has so many cells for each splitter of a request.
+fn has_room(request: &Request, rect: Rect, room: u64) -> bool {
+    cells_in(rect) >= u64::from(request.net().splitters()).saturating_mul(room)
 }
 
 /// Whether a request names cells.
@@ -56,38 +83,18 @@ fn names_cells(request: &Request) -> bool {
     !request.blocks().is_empty()
 }
 
-/// A plan that is made smaller.
-fn lessened(
-    alloc: Global,
-    request: &Request,
-    goal: Goal,
-    effort: u64,
-    number: u64,
-) -> Result<Option<Shrunk>, AllocError> {
-    let Some(sketch) = find_sketch(alloc, request)? else {
-        return Ok(None);
-    };
-    let parts = parts_of(alloc, &sketch)?;
-    shrink(alloc, request, request.rect(), &parts, goal, effort, number)
-}
-
-/// For so many conflicts of a light search for each cell of the rectangle at hand a layout is made smaller.
-fn effort_of(rect: Rect) -> u64 {
-    u64::from(rect.width)
-        .saturating_mul(u64::from(rect.height))
-        .saturating_mul(CELL_EFFORT)
-}
-
-/// A plan of a layout that lies in the rectangle of a request, from one in the greatest rectangle that is made smaller.
+/// A plan of a layout that lies in the rectangle of a request, from the parts of one in a greater rectangle that is made
+/// smaller.
 fn lessened_into(
     alloc: Global,
     request: &Request,
-    great: &Ground,
+    great: &Request,
+    parts: &[Part],
+    effort: u64,
     number: u64,
 ) -> Result<Option<Sketch>, AllocError> {
-    let most = great_rect(request);
-    let goal = Goal::Within(most);
-    match lessened(alloc, great.request(), goal, effort_of(most), number)? {
+    let goal = Goal::Within(great_rect(request));
+    match shrink(alloc, great, great.rect(), parts, goal, effort, number)? {
         Some(shrunk) if goal.is_met(shrunk.rect) => match ground_in(alloc, request, shrunk.rect)? {
             Some(ground) => ground.show(alloc, &shrunk.sketch),
             None => Ok(None),
@@ -96,22 +103,73 @@ fn lessened_into(
     }
 }
 
-/// Searches for a layout of a request by making one smaller that lies in the greatest rectangle, more than once. Other
+/// A layout in the rectangle of a request from a sketch in a greater rectangle, which is made smaller more than once. Other
 /// places begin other searches.
+fn seek_from(
+    alloc: Global,
+    request: &Request,
+    beginning: Beginning,
+    place: usize,
+) -> Result<Option<Sketch>, AllocError> {
+    let Beginning { rect, runs } = beginning;
+    let Some(great) = ground_in(alloc, request, rect)? else {
+        return Ok(None);
+    };
+    let Some(sketch) = find_sketch(alloc, great.request())? else {
+        return Ok(None);
+    };
+    let parts = parts_of(alloc, &sketch)?;
+    let effort = cells_in(great_rect(request)).saturating_mul(runs.effort);
+    let first = (place as u64).saturating_mul(runs.count);
+    for run in 0..runs.count {
+        let number = first.saturating_add(run);
+        let found = lessened_into(alloc, request, great.request(), &parts, effort, number)?;
+        if found.is_some() {
+            return Ok(found);
+        }
+    }
+    Ok(None)
+}
+
+/// A rectangle that is so much wider and so much higher, and no greater than the greatest.
+fn grown(rect: Rect, columns: u32, rows: u32) -> Rect {
+    Rect {
+        width: rect.width.saturating_add(columns).min(GREATEST.width),
+        height: rect.height.saturating_add(rows).min(GREATEST.height),
+    }
+}
+
+/// Where a layout begins that is made smaller to the rectangle of a request: in those that are a column or a row greater,
+/// where there is room, and in the greatest.
+fn beginnings(alloc: Global, request: &Request) -> Result<Vec<Beginning>, AllocError> {
+    let first = great_rect(request);
+    let mut beginnings = Vec::new(alloc);
+    for (columns, rows) in &[(1, 0), (0, 1)] {
+        let rect = grown(first, *columns, *rows);
+        if rect != first && rect != GREATEST && has_room(request, rect, SKETCH_ROOM) {
+            beginnings.push(Beginning { rect, runs: NEAR })?;
+        }
+    }
+    beginnings.push(Beginning {
+        rect: GREATEST,
+        runs: FAR,
+    })?;
+    Ok(beginnings)
+}
+
+/// Searches for a layout of a request by making one smaller that lies in a greater rectangle, more than once. Other places
+/// begin other searches.
 pub fn seek_by_lessening(
     alloc: Global,
     request: &Request,
     place: usize,
 ) -> Result<Option<Sketch>, AllocError> {
-    if names_cells(request) || great_rect(request) == GREATEST || !has_room(request) {
+    let rect = great_rect(request);
+    if names_cells(request) || rect == GREATEST || !has_room(request, rect, LEAST_ROOM) {
         return Ok(None);
     }
-    let Some(great) = ground_in(alloc, request, GREATEST)? else {
-        return Ok(None);
-    };
-    for run in 0..RUNS {
-        let number = (place as u64).saturating_mul(RUNS).saturating_add(run);
-        let found = lessened_into(alloc, request, &great, number)?;
+    for beginning in &beginnings(alloc, request)? {
+        let found = seek_from(alloc, request, *beginning, place)?;
         if found.is_some() {
             return Ok(found);
         }
@@ -127,11 +185,10 @@ fn is_squarish(request: &Request) -> bool {
 
 /// Whether halves of splitters and ends take at most half of the cells of a request's rectangle.
 fn is_wide(request: &Request) -> bool {
-    let (net, rect) = (request.net(), request.rect());
+    let net = request.net();
     let halves = u64::from(net.splitters()).saturating_mul(2);
     let ends = u64::from(net.inputs()).saturating_add(u64::from(net.outputs()));
-    let cells = u64::from(rect.width).saturating_mul(u64::from(rect.height));
-    halves.saturating_add(ends).saturating_mul(2) <= cells
+    halves.saturating_add(ends).saturating_mul(2) <= cells_in(request.rect())
 }
 
 /// Of the first requests, of those whose rectangles are squarish, by turns one of the least that are wide; or the last one,
@@ -162,7 +219,10 @@ fn seek_turned_below(
     number: u64,
 ) -> Result<Option<Shrunk>, AllocError> {
     match to_turn(requests, end, number) {
-        Some(request) => find_turned(alloc, request, request.rect(), TURN_EFFORT, number),
+        Some(request) => {
+            let rect = request.rect();
+            find_turned(alloc, request, rect, TURN_EFFORT, number / TURNS)
+        }
         None => Ok(None),
     }
 }
@@ -177,7 +237,12 @@ fn seek_from_greatest(
     let Some(great) = ground_in(alloc, request, GREATEST)? else {
         return Ok(None);
     };
-    match lessened(alloc, great.request(), Goal::Least, effort, number)? {
+    let request = great.request();
+    let Some(sketch) = find_sketch(alloc, request)? else {
+        return Ok(None);
+    };
+    let (rect, parts) = (request.rect(), parts_of(alloc, &sketch)?);
+    match shrink(alloc, request, rect, &parts, Goal::Least, effort, number)? {
         Some(shrunk) => Ok(Some(Shrunk {
             sketch: great.told(alloc, &shrunk.sketch)?,
             ..shrunk

@@ -143,7 +143,7 @@ fn looped(
 }
 
 /// The plan of an attempt.
-pub fn likely(
+fn likely(
     alloc: Global,
     formula: &Formula,
     numbers: &Numbers,
@@ -157,7 +157,7 @@ pub fn likely(
 }
 
 /// The placement formula with more clauses, which not every layout meets.
-pub fn narrowed(alloc: Global, request: &Request, numbers: &Numbers) -> Result<Formula, AllocError>
+fn narrowed(alloc: Global, request: &Request, numbers: &Numbers) -> Result<Formula, AllocError>
     ensures { IfOk result (IsNarrowed (place_formula request.now)) }
 {
     let mut formula = encode_place(alloc, request)?;
@@ -192,7 +192,7 @@ pub fn planned(
 }
 
 /// The search of an attempt, where the facts have these numbers.
-fn solver_by(
+pub fn solver_by(
     alloc: Global,
     request: &Request,
     numbers: &Numbers,

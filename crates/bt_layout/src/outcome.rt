@@ -7,7 +7,8 @@ use bt_parts::{Part, Rect};
 pub enum Layout {
     /// The parts lay the request. They come in ascending order of y and then x of their cells.
     Found(Vec<Part>),
-    /// No parts lay the request: the log refutes its placement formula.
+    /// No parts lay the request: the log refutes its placement formula, and each of its steps but the last is a hint of a
+    /// later one.
     Nowhere(Log),
     /// The log has as many steps as it may, and one more is needed.
     Spent(Log),

@@ -1,7 +1,7 @@
 //! Searching for a layout of a request by its placement formula.
 ghost use Rattle.std.specs.Prelude.{IfOk, IfSome, ℕ};
 ghost use Rattle.bt_layout.specs.Layouts.{IsLayout};
-ghost use Rattle.bt_layout.specs.inner.Ends.{EndsSought, EndsWith};
+ghost use Rattle.bt_layout.specs.inner.Ends.{EndsSought, EndsWith, IsOver, IsTrimmedTo};
 ghost use Rattle.bt_layout.specs.inner.Likely.{IsLaidOut};
 ghost use Rattle.bt_layout.specs.inner.Progressing.{HasLog, IsWhole};
 
@@ -15,6 +15,7 @@ use bt_model::Request;
 use bt_parts::Part;
 use bt_place::{decode, encode_place};
 use bt_sat::{Answer, Solver};
+use bt_trim::trimmed;
 use std::alloc::{AllocError, Global};
 
 /// What a search of a placement formula comes to, and how many steps it took.
@@ -29,7 +30,8 @@ pub struct Searched {
 ///
 /// At first a sketch of a layout is made, which may show one; then a layout is searched where one is likely, by at most
 /// as many steps; where none is found, the log of that search is dropped, and the placement formula is searched from the
-/// start. It has no atoms, so a model of its clauses meets it.
+/// start. It has no atoms, so a model of its clauses meets it. Of a log that refutes it the steps that the last one
+/// doesn't need are left out.
 pub fn layout<C: Chooser>(
     alloc: Global,
     request: &Request,
@@ -68,7 +70,8 @@ fn searched_of(
     answer: Answer,
     log: Log,
 ) -> Result<Searched, AllocError>
-    requires { (learnt : ℕ) × EndsSought request.now learnt log.steps answer }
+    requires over { IsOver request.now log }
+    requires ends { (learnt : ℕ) × EndsSought request.now learnt log.steps answer }
     ensures { (learnt : ℕ) → EndsSought request.now learnt log.steps answer
         → IfOk result (IsWhole request.now learnt) }
 {
@@ -116,14 +119,22 @@ fn layout_of(
     answer: Answer,
     log: Log,
 ) -> Result<Layout, AllocError>
-    requires { (learnt : ℕ) × EndsWith request.now learnt log.steps answer }
+    requires over { IsOver request.now log }
+    requires ends { (learnt : ℕ) × EndsWith request.now learnt log.steps answer }
     ensures layout { (learnt : ℕ) → EndsWith request.now learnt log.steps answer
         → IfOk result (IsLayout request.now learnt) }
     ensures log { IfOk result (λ layout. HasLog layout log.steps) }
 {
     match answer {
         Answer::Model(model) => Ok(Layout::Found(decode(alloc, request, &model)?)),
-        Answer::Refuted => Ok(Layout::Nowhere(log)),
+        Answer::Refuted => nowhere(alloc, &log),
         Answer::Spent => Ok(Layout::Spent(log)),
     }
+}
+
+/// What a search comes to whose log refutes the formula. The steps that the last one doesn't need are left out.
+fn nowhere(alloc: Global, log: &Log) -> Result<Layout, AllocError>
+    ensures { IfOk result (IsTrimmedTo log.now) }
+{
+    Ok(Layout::Nowhere(trimmed(alloc, log)?))
 }

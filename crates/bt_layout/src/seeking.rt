@@ -2,7 +2,7 @@
 //! What is found is told as a sketch of the first request, so nothing is claimed of it.
 
 use crate::lessening::seek_by_lessening;
-use crate::likely::{likely, narrowed, planned};
+use crate::likely::solver_by;
 use crate::sketched::{SKETCHED_STEPS, solver_with};
 use crate::turning::{add_stretched, turned_part, turned_rect};
 use bt_choosers::Active;
@@ -10,10 +10,11 @@ use bt_cnf::Formula;
 use bt_facts::{Fact, Shape, cells_of, holds};
 use bt_model::Request;
 use bt_narrow::{Attempt, attempts};
+use bt_number::{Named, name_by_structure};
 use bt_parts::{Cell, DIRS, Dir, Kind, Part, Rect};
 use bt_place::{Numbers, literal_of};
-use bt_route::{Named, Sketch, find_sketch, name_by_structure};
 use bt_sat::{Answer, Solver};
+use bt_sketch::{Sketch, find_sketch};
 use std::alloc::{AllocError, Global};
 
 /// Before each search of more steps than these a greater layout is made smaller.
@@ -184,12 +185,19 @@ impl Ground {
 
     /// A search for a layout where one is likely.
     fn seek(&self, alloc: Global, attempt: Attempt) -> Result<Sought, AllocError> {
-        let request = &self.named.request;
-        let numbers = Numbers::new(alloc, request)?;
-        let formula = narrowed(alloc, request, &numbers)?;
-        let plan = likely(alloc, &formula, &numbers, request, attempt)?;
-        let mut solver = planned(alloc, formula, plan, attempt.steps)?;
-        self.outcome(alloc, &numbers, &mut solver)
+        let numbers = Numbers::new(alloc, &self.named.request)?;
+        self.sought_by(alloc, &numbers, attempt)
+    }
+
+    /// What the search of an attempt comes to.
+    fn sought_by(
+        &self,
+        alloc: Global,
+        numbers: &Numbers,
+        attempt: Attempt,
+    ) -> Result<Sought, AllocError> {
+        let mut solver = solver_by(alloc, &self.named.request, numbers, attempt)?;
+        self.outcome(alloc, numbers, &mut solver)
     }
 
     /// Its request.
@@ -199,10 +207,20 @@ impl Ground {
 
     /// A sketch of its request as one of the first.
     pub fn show(&self, alloc: Global, sketch: &Sketch) -> Result<Option<Sketch>, AllocError> {
-        let request = &self.named.request;
-        let numbers = Numbers::new(alloc, request)?;
-        let mut solver = solver_with(alloc, request, sketch, SKETCHED_STEPS)?;
-        Ok(self.outcome(alloc, &numbers, &mut solver)?.sketch)
+        let numbers = Numbers::new(alloc, &self.named.request)?;
+        let shown = self.shown_by(alloc, &numbers, sketch)?;
+        Ok(shown.sketch)
+    }
+
+    /// What the search with a sketch comes to.
+    fn shown_by(
+        &self,
+        alloc: Global,
+        numbers: &Numbers,
+        sketch: &Sketch,
+    ) -> Result<Sought, AllocError> {
+        let mut solver = solver_with(alloc, &self.named.request, sketch, SKETCHED_STEPS)?;
+        self.outcome(alloc, numbers, &mut solver)
     }
 
     /// A sketch of a layout.

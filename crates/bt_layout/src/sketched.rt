@@ -13,8 +13,8 @@ use bt_model::Request;
 use bt_narrow::Choice;
 use bt_parts::{Kind, Part};
 use bt_place::{Numbers, encode_place};
-use bt_route::Sketch;
 use bt_sat::Solver;
+use bt_sketch::Sketch;
 use std::alloc::{AllocError, Global};
 
 /// The most steps of a search with a sketch. One that shows a layout takes none.

@@ -11,7 +11,7 @@ use crate::sketched::{look_at_sketch, look_by_sketch};
 use bt_model::Request;
 use bt_narrow::{Attempt, whole};
 use bt_parts::Part;
-use bt_route::Sketch;
+use bt_sketch::Sketch;
 use std::alloc::{AllocError, Global};
 
 /// How a layout of a request is looked for.

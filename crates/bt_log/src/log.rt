@@ -57,17 +57,19 @@ impl Log {
         })
     }
 
+    /// The number of clauses before the first step.
+    pub fn first(&self) -> usize
+        ensures { result ≡ self.now.first }
+    {
+        self.first
+    }
+
     /// Appends a lemma: a clause, and a weight for each of its literals.
     pub fn add_lemma(&mut self, lits: &[Lit], weights: &[Frac]) -> Result<(), AllocError>
         ensures { AddsStep self.old (Lemma lits.now weights.now) self.new result }
     {
         let packed = pack_all(self.steps.allocator().clone()?, lits)?;
-        let ids = keep_both(&mut self.lits, &mut self.weights, &packed, weights)?;
-        self.steps.push(PooledStep::Lemma {
-            lits: ids.0,
-            weights: ids.1,
-        })?;
-        Ok(())
+        self.add_packed_lemma(&packed, weights)
     }
 
     /// Appends a learnt clause, and the numbers of the clauses from which it follows.
@@ -76,7 +78,26 @@ impl Log {
     {
         let packed = pack_all(self.steps.allocator().clone()?, lits)?;
         let narrow = narrow_all(self.steps.allocator().clone()?, hints)?;
-        let ids = keep_both(&mut self.lits, &mut self.hints, &packed, &narrow)?;
+        self.add_packed_learnt(&packed, &narrow)
+    }
+
+    /// Appends a lemma whose literals are packed, as those of another log's step are.
+    pub fn add_packed_lemma(&mut self, lits: &[Packed], weights: &[Frac]) -> Result<(), AllocError>
+        ensures { AddsStep self.old (Lemma lits.now weights.now) self.new result }
+    {
+        let ids = keep_both(&mut self.lits, &mut self.weights, lits, weights)?;
+        self.steps.push(PooledStep::Lemma {
+            lits: ids.0,
+            weights: ids.1,
+        })?;
+        Ok(())
+    }
+
+    /// Appends a learnt clause whose literals and hints are packed, as those of another log's step are.
+    pub fn add_packed_learnt(&mut self, lits: &[Packed], hints: &[u32]) -> Result<(), AllocError>
+        ensures { AddsStep self.old (Learnt lits.now hints.now) self.new result }
+    {
+        let ids = keep_both(&mut self.lits, &mut self.hints, lits, hints)?;
         self.steps.push(PooledStep::Learnt {
             lits: ids.0,
             hints: ids.1,

@@ -1,109 +1,72 @@
-//! Making definitions: comparisons of sums, with the numbers of what they add.
+//! Comparisons of two sums, one way or both.
 use crate::means::{Term, difference};
-use bt_cnf::Formula;
-use bt_extend::{Definition, Form, NamedLit};
-use bt_scopes::Line;
+use bt_extend::NamedLit;
+use bt_scopes::{Comparison, Line, Next};
 use std::alloc::{AllocError, Global};
 
-/// A comparison of two sums: the first of its variables and the place of the first of its rows.
+/// A comparison of two sums.
 #[derive(Clone, Copy)]
 pub struct Compared {
-    var: usize,
-    row: usize,
-    /// Whether they are compared both ways.
-    both: bool,
+    /// Of the first sum less the second.
+    first: Comparison,
+    /// Of the second less the first, where they are compared both ways.
+    second: Option<Comparison>,
 }
 
 impl Compared {
     /// The first sum is at least the second.
     pub fn at_least(self) -> NamedLit {
-        NamedLit {
-            var: self.var,
-            positive: true,
-        }
+        self.first.is_some()
     }
 
     /// The first sum is at most the second, where they are compared so.
     pub fn at_most(self) -> Option<NamedLit> {
-        if self.both {
-            Some(NamedLit {
-                var: self.var.saturating_add(2),
-                positive: true,
-            })
-        } else {
-            None
-        }
-    }
-
-    /// How many rows and variables it has.
-    fn count(self) -> usize {
-        if self.both { 4 } else { 2 }
+        Some(self.second?.is_some())
     }
 
     /// Adds its rows.
     pub fn add_rows(self, rows: &mut Vec<usize>) -> Result<(), AllocError> {
-        for step in 0..self.count() {
-            rows.push(self.row.saturating_add(step))?;
+        self.first.add_rows(rows)?;
+        match self.second {
+            Some(second) => second.add_rows(rows),
+            None => Ok(()),
         }
-        Ok(())
     }
 }
 
-/// The numbers of what is defined next.
-#[derive(Clone, Copy)]
-pub struct Next {
-    var: usize,
-    row: usize,
+/// Defines the comparison of two sums, both ways or that the first is at least the second.
+pub fn compare(
+    alloc: Global,
+    line: &mut Line,
+    next: &mut Next,
+    first: &[Term],
+    second: &[Term],
+    both: bool,
+) -> Result<Option<Compared>, AllocError> {
+    let Some(one) = compare_way(alloc, line, next, first, second)? else {
+        return Ok(None);
+    };
+    let other = if both {
+        compare_way(alloc, line, next, second, first)?
+    } else {
+        None
+    };
+    Ok(Some(Compared {
+        first: one,
+        second: other,
+    }))
 }
 
-impl Next {
-    /// The numbers behind a formula.
-    pub fn behind(formula: &Formula) -> Next {
-        Next {
-            var: formula.vars(),
-            row: formula.rows().len(),
-        }
-    }
-
-    /// Defines the comparison of two sums, both ways or that the first is at least the second.
-    pub fn compare(
-        &mut self,
-        alloc: Global,
-        line: &mut Line,
-        first: &[Term],
-        second: &[Term],
-        both: bool,
-    ) -> Result<Option<Compared>, AllocError> {
-        let one = difference(alloc, first, second)?;
-        let other = if both {
-            difference(alloc, second, first)?
-        } else {
-            None
-        };
-        match one {
-            Some(one) => self.define(line, one, other),
-            None => Ok(None),
-        }
-    }
-
-    /// Defines a comparison by its forms.
-    fn define(
-        &mut self,
-        line: &mut Line,
-        one: Form,
-        other: Option<Form>,
-    ) -> Result<Option<Compared>, AllocError> {
-        let compared = Compared {
-            var: self.var,
-            row: self.row,
-            both: other.is_some(),
-        };
-        line.definitions.push(Definition::Comparison(one))?;
-        if let Some(other) = other {
-            line.definitions.push(Definition::Comparison(other))?;
-        }
-        self.var = self.var.saturating_add(compared.count());
-        self.row = self.row.saturating_add(compared.count());
-        Ok(Some(compared))
+/// Defines the comparison of a sum less another.
+fn compare_way(
+    alloc: Global,
+    line: &mut Line,
+    next: &mut Next,
+    plus: &[Term],
+    minus: &[Term],
+) -> Result<Option<Comparison>, AllocError> {
+    match difference(alloc, plus, minus)? {
+        Some(form) => Ok(Some(next.compare(line, form)?)),
+        None => Ok(None),
     }
 }

@@ -7,7 +7,10 @@ use bt_extend::NamedLit;
 use bt_frac::{Relation, Row};
 use bt_graph::{Flow, is_set, mark};
 use bt_net::Net;
-use bt_scopes::{Atoms, Line, add_aim, add_both, add_scope, edges_of_columns, is_at_end, named};
+use bt_scopes::{
+    Atoms, Line, add_aim, add_both, add_scope, edges_of_columns, equal_rows, is_of_ends, named,
+    opposite_of,
+};
 use std::alloc::{AllocError, Global};
 
 /// What aims are made of.
@@ -16,7 +19,7 @@ struct Sources<'a> {
     flow: &'a Flow<'a>,
     below: &'a Side,
     above: &'a Side,
-    literals: Literals,
+    literals: FormulaLits,
     totals: Totals,
     /// The place of the scope of the ends.
     at_ends: usize,
@@ -24,15 +27,15 @@ struct Sources<'a> {
 
 /// The literals of a formula that aims speak of.
 #[derive(Drop)]
-struct Literals {
+struct FormulaLits {
     atoms: Atoms,
     /// For each edge the literal that says that the flow at an end reaches its load or its room.
     meets: Vec<Option<NamedLit>>,
 }
 
-impl Literals {
-    fn of(alloc: Global, net: &Net, formula: &Formula) -> Result<Literals, AllocError> {
-        let mut literals = Literals {
+impl FormulaLits {
+    fn of(alloc: Global, net: &Net, formula: &Formula) -> Result<FormulaLits, AllocError> {
+        let mut literals = FormulaLits {
             atoms: Atoms::of(alloc, net, formula)?,
             meets: vec![in alloc; None; net.edges().len()]?,
         };
@@ -53,8 +56,7 @@ impl Literals {
 
     /// The edge isn't full, where there is such a literal.
     fn not_full(&self, edge: usize) -> Option<NamedLit> {
-        let full = self.atoms.full(edge)?;
-        Some(named(full.var.place(), !full.positive))
+        Some(opposite_of(self.atoms.full(edge)?))
     }
 
     /// The flow at an end reaches its load or its room.
@@ -95,7 +97,7 @@ pub fn argue(
         flow,
         below,
         above,
-        literals: Literals::of(alloc, net, formula)?,
+        literals: FormulaLits::of(alloc, net, formula)?,
         totals,
         at_ends: add_ends_scope(alloc, formula, line, net, totals)?,
     };
@@ -121,22 +123,6 @@ fn add_ends_scope(
     add_scope(line, rows)
 }
 
-/// Whether all terms of a row are of edges at ends.
-fn is_of_ends(net: &Net, columns: &[usize], row: &Row) -> bool {
-    row.terms().iter().all(|(column, _)| match columns.get(*column) {
-        Some(edge) => is_end(net, *edge),
-        None => false,
-    })
-}
-
-/// Whether the edge with a number is at an end.
-fn is_end(net: &Net, number: usize) -> bool {
-    match net.edges().get(number) {
-        Some(edge) => is_at_end(edge),
-        None => false,
-    }
-}
-
 /// Adds a scope of the rows that say that sums are equal, with comparisons.
 fn add_sums_scope(
     alloc: Global,
@@ -144,12 +130,7 @@ fn add_sums_scope(
     line: &mut Line,
     totals: Totals,
 ) -> Result<usize, AllocError> {
-    let mut rows = Vec::new(alloc);
-    for (place, row) in formula.rows().iter().enumerate() {
-        if row.relation() == Relation::Equal {
-            rows.push(place)?;
-        }
-    }
+    let mut rows = equal_rows(alloc, formula)?;
     add_rows(&mut rows, totals.ends)?;
     add_rows(&mut rows, totals.centres)?;
     add_scope(line, rows)

@@ -5,14 +5,14 @@
 //! one at least that of the inputs that reach it. So each centre carries at least its share of all that flows, and no more.
 //! Where an edge into a centre is backed, each edge below carries the mean, so each is full or backed, and the outputs get all
 //! that they have room for. Where none is, the inputs give all that they have.
-use crate::defining::{Compared, Next};
+use crate::defining::{Compared, compare};
 use crate::delivering::argue;
 use crate::means::{Term, single};
 use crate::side::Side;
 use bt_cnf::Formula;
 use bt_graph::{Flow, has_no_preference, list_at, places_of};
 use bt_net::Net;
-use bt_scopes::{Line, add_scope, rows_alone};
+use bt_scopes::{Line, Next, add_scope, in_order, rows_alone};
 use std::alloc::{AllocError, Global};
 
 /// Of fewer splitters than this nothing is defined: the logs are shorter so.
@@ -139,7 +139,7 @@ fn define_edge(
 ) -> Result<(), AllocError> {
     if let Some(beyond) = side.beyond(flow, edge) {
         let both = side.is_chosen(splitter);
-        let compared = next.compare(alloc, line, &[single(edge)], side.mean(beyond), both)?;
+        let compared = compare(alloc, line, next, &[single(edge)], side.mean(beyond), both)?;
         side.compare(edge, compared);
     }
     Ok(())
@@ -160,7 +160,7 @@ fn define_sum(
     }
     let ends = side.sum_at(alloc, flow, centre)?;
     let both = centre == flow.centre();
-    let compared = next.compare(alloc, line, &flows, &ends, both)?;
+    let compared = compare(alloc, line, next, &flows, &ends, both)?;
     side.compare_sum(centre, compared);
     Ok(())
 }
@@ -176,8 +176,8 @@ fn define_totals(
     let end = end_terms(alloc, flow)?;
     let through = through_terms(alloc, flow)?;
     Ok(Totals {
-        ends: next.compare(alloc, line, &begin, &end, true)?,
-        centres: next.compare(alloc, line, &begin, &through, false)?,
+        ends: compare(alloc, line, next, &begin, &end, true)?,
+        centres: compare(alloc, line, next, &begin, &through, false)?,
     })
 }
 
@@ -283,8 +283,7 @@ impl Rows {
                 self.add_upper(&mut rows, side.mean(beyond))?;
             }
         }
-        rows.sort()?;
-        rows.dedup();
+        in_order(&mut rows)?;
         Ok(rows)
     }
 

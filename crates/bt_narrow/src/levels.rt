@@ -1,6 +1,6 @@
 //! How far splitters are from the inputs and the outputs of a network.
-use crate::network::{from, to};
 use bt_net::Edge;
+use bt_number::{from, to};
 use std::alloc::{AllocError, Global};
 
 /// The level of a splitter that is as near to the outputs as can be, where 0 is that of one near to the inputs.

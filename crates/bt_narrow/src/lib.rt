@@ -18,6 +18,6 @@ mod windows;
 
 pub use choices::{Choice, first_rows, no_tunnels, places};
 pub use looped::{looped_places, looped_rows};
-pub use narrowing::{narrowings, pairings};
+pub use narrowing::narrowings;
 pub use std::alloc::AllocError as Memory;
 pub use windows::{Attempt, Course, attempts, is_likely, whole};

@@ -1,7 +1,7 @@
 //! Networks with loops: which edges lead back, and the levels of splitters.
 use crate::levels::{LAST_LEVEL, to_outputs};
-use crate::network::{from, to};
 use bt_net::Edge;
+use bt_number::{from, to};
 use std::alloc::{AllocError, Global};
 
 /// The number at a splitter, or 0 where it has none.

@@ -253,16 +253,3 @@ pub fn narrowings(alloc: Global, request: &Request) -> Result<Draft, AllocError>
     add_all_twins(alloc, &mut draft, request)?;
     Ok(draft)
 }
-
-/// Rules that some layout keeps, where there is any: no pair passes empty cells alone, where belts may stand on each.
-pub fn pairings(alloc: Global, request: &Request) -> Result<Draft, AllocError> {
-    let known = known_of(alloc, request)?;
-    let cells = cells_of(alloc, request.rect())?;
-    let mut draft = Draft::new(alloc)?;
-    for cell in &cells {
-        for dir in &DIRS {
-            add_pairs(alloc, &mut draft, *cell, *dir, known.most)?;
-        }
-    }
-    Ok(draft)
-}

@@ -2,9 +2,9 @@
 
 use crate::choices::{Choice, PARTS, Seat};
 use crate::loops::is_back;
-use crate::network::{from, to};
 use bt_facts::{Class, Fact, Shape, holds};
 use bt_net::Edge;
+use bt_number::{from, to};
 use bt_parts::{Cell, Dir, Rect};
 use std::alloc::{AllocError, Global};
 /// The fewest cells of a pair in a column that aren't next to one another.

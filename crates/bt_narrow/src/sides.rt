@@ -1,7 +1,7 @@
 //! In which order the splitters of a level stand side by side, so that their edges don't lead far across.
 use crate::levels::LAST_LEVEL;
-use crate::network::{from, to};
 use bt_net::Edge;
+use bt_number::{from, to};
 use std::alloc::{AllocError, Global};
 
 /// What an edge costs that leads back from one column to the next.

@@ -1,5 +1,5 @@
 //! Where the blocks of variables begin.
-ghost use Rattle.std.specs.Prelude.{◌≡◌, ◌<◌, ◌+◌, ◌*◌, ◌^◌, []};
+ghost use Rattle.std.specs.Prelude.{◌≡◌, ◌<◌, ◌+◌, ◌-◌, ◌*◌, ◌^◌, []};
 ghost use Rattle.bt_place.specs.Numbering.{variables};
 ghost use Rattle.bt_place.specs.Blocks.{starts_of};
 ghost use Rattle.bt_place.specs.inner.Blocks.{sizes_with};
@@ -51,51 +51,160 @@ fn after(from: usize, rows: usize, each: usize) -> usize
     from + rows * each
 }
 
+/// Where the blocks begin behind that of halves, of which each cell has a part.
+#[derive(Clone, Copy)]
+struct OfCells {
+    belts: usize,
+    begins: usize,
+    starts: usize,
+    stops: usize,
+    pairs: usize,
+}
+
+/// Where those begin behind that of pairs, of which each direction of a cell has a part, and where they end.
+#[derive(Clone, Copy)]
+struct OfTurns {
+    tunnels: usize,
+    goings: usize,
+    columns: usize,
+}
+
+/// Where those begin behind that of columns, of which each splitter has a part.
+#[derive(Clone, Copy)]
+struct OfSplitters {
+    rows: usize,
+    points: usize,
+    entering: usize,
+    leaving: usize,
+    held: usize,
+}
+
+/// Where the last ones begin, behind that of what is held, and where they end.
+#[derive(Clone, Copy)]
+struct LastOnes {
+    kinds: usize,
+    places: usize,
+    end: usize,
+}
+
+/// Where the blocks of cells begin.
+fn of_cells(halves: usize, spots: usize, extent: Extent) -> OfCells
+    requires { halves + spots + spots + spots + spots * extent.inputs + spots * extent.stops < 2 ^ 64 }
+    ensures belts { result.belts ≡ halves + spots }
+    ensures begins { result.begins ≡ halves + spots + spots }
+    ensures starts { result.starts ≡ halves + spots + spots + spots }
+    ensures stops { result.stops ≡ halves + spots + spots + spots + spots * extent.inputs }
+    ensures pairs { result.pairs
+        ≡ halves + spots + spots + spots + spots * extent.inputs + spots * extent.stops }
+{
+    let belts = after(halves, spots, 1);
+    let begins = after(belts, spots, 1);
+    let starts = after(begins, spots, 1);
+    let stops = after(starts, spots, extent.inputs);
+    OfCells {
+        belts,
+        begins,
+        starts,
+        stops,
+        pairs: after(stops, spots, extent.stops),
+    }
+}
+
+/// Where the blocks of directions begin.
+fn of_turns(pairs: usize, spots: usize, extent: Extent) -> OfTurns
+    requires dirs { spots * 4 < 2 ^ 64 }
+    requires columns { pairs + spots * 4 * extent.distances + spots * 4 + spots * 4 < 2 ^ 64 }
+    ensures tunnels { result.tunnels ≡ pairs + spots * 4 * extent.distances }
+    ensures goings { result.goings ≡ pairs + spots * 4 * extent.distances + spots * 4 }
+    ensures columns { result.columns ≡ pairs + spots * 4 * extent.distances + spots * 4 + spots * 4 }
+{
+    let dirs = after(0, spots, 4);
+    let tunnels = after(pairs, dirs, extent.distances);
+    let goings = after(tunnels, dirs, 1);
+    OfTurns {
+        tunnels,
+        goings,
+        columns: after(goings, dirs, 1),
+    }
+}
+
+/// Where the blocks of splitters begin.
+fn of_splitters(columns: usize, extent: Extent) -> OfSplitters
+    requires { columns + extent.splitters * extent.width + extent.splitters * extent.height
+        + extent.splitters * 4 + extent.splitters + extent.splitters < 2 ^ 64 }
+    ensures rows { result.rows ≡ columns + extent.splitters * extent.width }
+    ensures points { result.points
+        ≡ columns + extent.splitters * extent.width + extent.splitters * extent.height }
+    ensures entering { result.entering ≡ columns + extent.splitters * extent.width
+        + extent.splitters * extent.height + extent.splitters * 4 }
+    ensures leaving { result.leaving ≡ columns + extent.splitters * extent.width
+        + extent.splitters * extent.height + extent.splitters * 4 + extent.splitters }
+    ensures held { result.held ≡ columns + extent.splitters * extent.width
+        + extent.splitters * extent.height + extent.splitters * 4 + extent.splitters + extent.splitters }
+{
+    let rows = after(columns, extent.splitters, extent.width);
+    let points = after(rows, extent.splitters, extent.height);
+    let entering = after(points, extent.splitters, 4);
+    let leaving = after(entering, extent.splitters, 1);
+    OfSplitters {
+        rows,
+        points,
+        entering,
+        leaving,
+        held: after(leaving, extent.splitters, 1),
+    }
+}
+
+/// Where the last blocks begin.
+fn last_ones(held: usize, spots: usize, extent: Extent) -> LastOnes
+    requires spots { spots + 1 < 2 ^ 64 }
+    requires places { extent.splitters * spots < 2 ^ 64 }
+    requires end { held + (spots + 1 - extent.halves) * extent.halves + spots * 21
+        + extent.splitters * spots * 4 < 2 ^ 64 }
+    ensures kinds { result.kinds ≡ held + (spots + 1 - extent.halves) * extent.halves }
+    ensures places { result.places ≡ held + (spots + 1 - extent.halves) * extent.halves + spots * 21 }
+    ensures end { result.end
+        ≡ held + (spots + 1 - extent.halves) * extent.halves + spots * 21 + extent.splitters * spots * 4 }
+{
+    let spares = (spots + 1).saturating_sub(extent.halves);
+    let kinds = after(held, spares, extent.halves);
+    let places = after(kinds, spots, 21);
+    let all = after(0, extent.splitters, spots);
+    LastOnes {
+        kinds,
+        places,
+        end: after(places, all, 4),
+    }
+}
+
 /// Where each block begins.
 pub fn starts_of(extent: Extent, classes: &[Class]) -> Starts
     requires { variables (sizes_with extent classes.now []) < 2 ^ 64 }
     ensures { result ≡ starts_of (sizes_with extent classes.now []) }
 {
     let spots = after(0, extent.width, extent.height);
-    let dirs = after(0, spots, 4);
     let halves = after(0, spots, classes.len());
-    let belts = after(halves, spots, 1);
-    let begins = after(belts, spots, 1);
-    let starts = after(begins, spots, 1);
-    let stops = after(starts, spots, extent.inputs);
-    let pairs = after(stops, spots, extent.stops);
-    let tunnels = after(pairs, dirs, extent.distances);
-    let goings = after(tunnels, dirs, 1);
-    let columns = after(goings, dirs, 1);
-    let rows = after(columns, extent.splitters, extent.width);
-    let points = after(rows, extent.splitters, extent.height);
-    let entering = after(points, extent.splitters, 4);
-    let leaving = after(entering, extent.splitters, 1);
-    let held = after(leaving, extent.splitters, 1);
-    let kinds = after(
-        held,
-        (spots + 1).saturating_sub(extent.halves),
-        extent.halves,
-    );
-    let places = after(kinds, spots, 21);
-    let all = after(0, extent.splitters, spots);
+    let cells = of_cells(halves, spots, extent);
+    let turns = of_turns(cells.pairs, spots, extent);
+    let splitters = of_splitters(turns.columns, extent);
+    let last = last_ones(splitters.held, spots, extent);
     Starts {
         halves,
-        belts,
-        begins,
-        starts,
-        stops,
-        pairs,
-        tunnels,
-        goings,
-        columns,
-        rows,
-        points,
-        entering,
-        leaving,
-        held,
-        kinds,
-        places,
-        end: after(places, all, 4),
+        belts: cells.belts,
+        begins: cells.begins,
+        starts: cells.starts,
+        stops: cells.stops,
+        pairs: cells.pairs,
+        tunnels: turns.tunnels,
+        goings: turns.goings,
+        columns: turns.columns,
+        rows: splitters.rows,
+        points: splitters.points,
+        entering: splitters.entering,
+        leaving: splitters.leaving,
+        held: splitters.held,
+        kinds: last.kinds,
+        places: last.places,
+        end: last.end,
     }
 }

@@ -1,11 +1,10 @@
 //! Where the chain of an edge may begin and end.
 use crate::ledger::Claim;
-use crate::network::leaving;
 use crate::poses::{Pose, pose_number, poses_of};
 use crate::stand::Stand;
-use crate::wanted::{Wanted, place_wanted};
 use bt_model::Request;
 use bt_net::{Edge, End, Start, Target};
+use bt_number::{Wanted, leaving, place_wanted};
 use bt_parts::{Cell, Dir, Rect, inside};
 use std::alloc::{AllocError, Global};
 

@@ -2,12 +2,11 @@
 use crate::ends::{Ends, ends_of};
 use crate::finding::{Chain, cheapest};
 use crate::ledger::{Claim, Ledger};
-use crate::network::leaving;
 use crate::poses::{Pose, poses_of};
 use crate::stand::Stand;
-use crate::wanted::is_blocked;
 use bt_model::Request;
 use bt_net::Edge;
+use bt_number::{is_blocked, leaving};
 use bt_parts::{Cell, Rect, inside};
 use std::alloc::{AllocError, Global};
 

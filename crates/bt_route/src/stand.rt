@@ -1,7 +1,7 @@
 //! Splitters at their places.
 use crate::around::is_upright;
-use crate::wanted::is_blocked;
 use bt_model::Request;
+use bt_number::is_blocked;
 use bt_parts::{Cell, Dir, inside};
 
 /// Where a splitter stands: the cell of its lesser half, and the direction in which it looks.

@@ -41,6 +41,7 @@ impl KnownLits<'_> {
         requires { place < length (lits_in self.now) }
         ensures { result ≡ (lit_at (lits_in self.now) place).var }
     {
+        // Each list has a name of its own, since no bound of an index is found behind two references.
         match self {
             KnownLits::Given(lits) => {
                 let lits: &[Lit] = lits;

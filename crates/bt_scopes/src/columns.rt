@@ -64,6 +64,22 @@ pub fn is_at_end(edge: &Edge) -> bool {
     Role::FromInput.number_in(edge).is_some() || Role::ToOutput.number_in(edge).is_some()
 }
 
+/// Whether all terms of a row are of edges at ends, by the edges of the columns.
+pub fn is_of_ends(net: &Net, columns: &[usize], row: &Row) -> bool {
+    row.terms().iter().all(|(column, _)| match columns.get(*column) {
+        Some(edge) => is_end(net, *edge),
+        None => false,
+    })
+}
+
+/// Whether the edge with a number is at an end.
+fn is_end(net: &Net, number: usize) -> bool {
+    match net.edges().get(number) {
+        Some(edge) => is_at_end(edge),
+        None => false,
+    }
+}
+
 /// The rows that say that sums are equal.
 pub fn equal_rows(alloc: Global, formula: &Formula) -> Result<Vec<usize>, AllocError> {
     let mut rows = Vec::new(alloc);

@@ -4,14 +4,15 @@
 
 mod atoms;
 mod columns;
+mod defining;
 mod line;
 mod scopes;
 
 pub use atoms::{Atoms, mark_of};
-pub use columns::{edges_of_columns, equal_rows, is_at_end, rows_alone};
+pub use columns::{edges_of_columns, equal_rows, is_at_end, is_of_ends, rows_alone};
+pub use defining::{Comparison, Counted, Next, apart, in_order, sum_of};
 pub use line::{
-    Aim, Line, add_aim, add_both, add_disjunction, add_opposites, add_rows, add_scope, conclude,
-    named,
+    Aim, Line, add_aim, add_both, add_opposites, add_scope, conclude, named, named_as, opposite_of,
 };
 pub use scopes::{Couple, scopes_of, scopes_of_both, scopes_of_couples};
 pub use std::alloc::AllocError as Memory;

@@ -1,5 +1,5 @@
 //! A line of argument, as it grows: definitions, scopes and aims.
-use bt_cnf::Formula;
+use bt_cnf::{Formula, Lit};
 use bt_extend::{Definition, Literals, NamedLit};
 use std::alloc::{AllocError, Global};
 
@@ -23,6 +23,16 @@ pub struct Line {
 /// The literal of a variable by its place.
 pub fn named(var: usize, positive: bool) -> NamedLit {
     NamedLit { var, positive }
+}
+
+/// A literal of a formula by the place of its variable.
+pub fn named_as(lit: Lit) -> NamedLit {
+    named(lit.var.place(), lit.positive)
+}
+
+/// The opposite of a literal of a formula, by the place of its variable.
+pub fn opposite_of(lit: Lit) -> NamedLit {
+    named(lit.var.place(), !lit.positive)
 }
 
 /// Adds an aim with the scope at a place.
@@ -114,8 +124,7 @@ pub fn add_opposites(
 ) -> Result<(), AllocError> {
     if let Some(last) = formula.clause_at(formula.clauses().saturating_sub(1)) {
         for lit in formula.clause(last) {
-            let opposite = named(lit.var.place(), !lit.positive);
-            add_aim(alloc, aims, &[opposite], place)?;
+            add_aim(alloc, aims, &[opposite_of(*lit)], place)?;
         }
     }
     Ok(())

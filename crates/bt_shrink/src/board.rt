@@ -114,6 +114,16 @@ impl Board {
         Ok(board)
     }
 
+    /// The same in another rectangle.
+    pub fn within(&self, alloc: Global, rect: Rect) -> Result<Board, AllocError> {
+        let mut board = Board::new(alloc, rect)?;
+        for place in 0..count(rect) {
+            let cell = cell_of(rect, place);
+            board.put(cell, self.get(cell));
+        }
+        Ok(board)
+    }
+
     /// How far ahead of an entrance the exit of its pair stands, where all cells between are empty.
     fn idle_length(&self, entrance: Cell, dir: Dir) -> Option<usize> {
         let mut cell = entrance;

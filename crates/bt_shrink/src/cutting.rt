@@ -71,8 +71,8 @@ fn far(
     Ok(literals)
 }
 
-/// The board that is left in a lesser field where a line is cut out, with its surroundings laid anew.
-fn mended(
+/// The board that is left in a field where a line is cut out or added, with its surroundings laid anew.
+pub fn mended(
     alloc: Global,
     field: &mut Field,
     rest: &Board,

@@ -6,9 +6,9 @@ use crate::pairing::add_pairs;
 use crate::turned::add_turned;
 use bt_facts::{Content, Fact};
 use bt_model::Request;
+use bt_number::{Named, name_by_structure};
 use bt_parts::{Cell, DIRS, Dir, Rect};
 use bt_place::{Numbers, encode_place};
-use bt_route::{Named, name_by_structure};
 use bt_seek::{Answer, Literal, Random, Solver, load};
 use std::alloc::{AllocError, Global};
 

@@ -5,8 +5,8 @@ use crate::contents::piece_of;
 use crate::field::Field;
 use bt_model::Request;
 use bt_parts::{Kind, Part, Tier};
-use bt_route::Sketch;
 use bt_seek::{Literal, Random};
+use bt_sketch::Sketch;
 use std::alloc::{AllocError, Global};
 
 /// The most conflicts until splitters have their numbers, which what cells hold leaves open.

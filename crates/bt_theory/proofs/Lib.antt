@@ -7,3 +7,4 @@ pub mod Reached
 pub mod Scoped
 pub mod Rounds
 pub mod Goals
+pub mod Trimmed

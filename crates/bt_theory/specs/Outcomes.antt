@@ -21,6 +21,7 @@ use Rattle.bt_simplex.specs.Checks.{IsPivots, IsWideCheck}
 use Rattle.bt_simplex.specs.declared.answers.Trail.{Trail}
 use Rattle.bt_simplex.specs.declared.answers.Wide as wide
 use Rattle.bt_cnf.specs.declared.limits.Limits.{Limits}
+use Rattle.bt_trim.specs.Trimming.{IsTight}
 use Rattle.bt_theory.specs.declared.outcome.Outcome.{Outcome}
 use Rattle.bt_theory.specs.declared.outcome.Outcome.TheVariants as outcome
 use Rattle.bt_theory.specs.declared.outcome.Solution.{Solution}
@@ -93,19 +94,15 @@ IsGivenUpOver f g limits (Spent log) = IsUsedUp g limits.learnt log.steps
 IsGivenUpOver f g limits (Pivots trail) = TurnsOn f limits.pivots trail
 IsGivenUpOver f g limits (Wide at) = IsTooWide f limits.pivots at
 
--- the same where nothing is defined
-abbrev pub IsGivenUp : FormulaParts → Limits → GaveUp → Type 0
-IsGivenUp f limits cause = IsGivenUpOver f f limits cause
-
 -- each is the place of a row among the formula's rows
 abbrev pub AreRowsOf : FormulaParts → List ℕ → Type 0
 AreRowsOf f rows = All (λ row. row < length f.atoms) rows
 
 -- what is right to say of a formula within limits, where the search is over a further formula: a solution, turns and numbers
--- are those of the formula, and logs are over the further one
+-- are those of the formula, and logs are over the further one; of a log that refutes it each step but the last is needed
 abbrev pub IsOutcomeOver : FormulaParts → FormulaParts → Limits → Outcome → Type 0
 IsOutcomeOver f g limits (outcome.Sat values assignment) = IsSolution f values.items assignment.items
-IsOutcomeOver f g limits (outcome.Refuted log) = IsRefutation g log.steps × (length log.steps ≤ limits.learnt)
+IsOutcomeOver f g limits (outcome.Refuted log) = IsRefutation g log.steps × (length log.steps ≤ limits.learnt) × IsTight log
 IsOutcomeOver f g limits (outcome.GaveUp cause) = IsGivenUpOver f g limits cause
 
 -- what is right to say of a formula within limits, where the search is over the formula that definitions extend

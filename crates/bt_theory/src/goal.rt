@@ -10,18 +10,9 @@ use crate::lemma::Conflict;
 use crate::round::{End, learn};
 use crate::scope::{Scope, conflict_among};
 use bt_cnf::{Chooser, Formula, Lit, is_true};
-use bt_extend::NamedLit;
+use bt_extend::{Goal, NamedLit};
 use bt_sat::{Answer, Assumed, Solver};
 use std::alloc::{AllocError, Global};
-
-/// A clause that is likely to follow, and in which scopes, by their places among those of the search. Its variables may be
-/// such as definitions add. Literals of variables that the extended formula doesn't have and places of no scope are passed
-/// over.
-#[derive(Drop)]
-pub struct Goal {
-    pub lits: Vec<NamedLit>,
-    pub scopes: Vec<usize>,
-}
 
 /// What one try at a goal comes to.
 #[derive(Drop)]

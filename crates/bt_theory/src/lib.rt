@@ -15,7 +15,7 @@ mod scope;
 mod solving;
 
 pub use bt_cnf::Limits;
-pub use goal::Goal;
+pub use bt_extend::Goal;
 pub use guessing::first_solution;
 pub use outcome::{GaveUp, Outcome, Solution};
 pub use solving::solve;

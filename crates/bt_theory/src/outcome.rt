@@ -12,7 +12,7 @@ pub enum Outcome {
         values: Vec<Frac>,
         assignment: Vec<bool>,
     },
-    /// The log refutes the formula.
+    /// The log refutes the formula, and each of its steps but the last is a hint of a later one.
     Refuted(Log),
     /// Neither is found within the limits and 128 bits.
     GaveUp(GaveUp),

@@ -5,19 +5,20 @@ ghost use Rattle.bt_extend.specs.Extending.{AreTaken};
 ghost use Rattle.bt_theory.specs.Outcomes.{IsOutcome, IsOutcomeOver};
 ghost use Rattle.bt_theory.specs.inner.Bases.{IsBase, base_in};
 ghost use Rattle.bt_theory.specs.inner.Scopes.{IsScopeOf, parts_of};
-ghost use Rattle.bt_theory.specs.inner.Rounds.{AreTablesOf, IsReady, IsRound, Tells};
+ghost use Rattle.bt_theory.specs.inner.Rounds.{AreTablesOf, IsReady, IsRound, IsTrimmedTo, Tells};
 
 use crate::base::{Base, base_of};
 use crate::binding::{atoms_of, tableau_of};
-use crate::goal::{Goal, try_goals};
+use crate::goal::try_goals;
 use crate::outcome::{GaveUp, Outcome, Solution};
 use crate::round::{End, round};
 use crate::scope::{Scope, scopes_of};
 use bt_cnf::{Chooser, Formula, Limits};
-use bt_extend::{Definition, extend_all};
+use bt_extend::{Definition, Goal, extend_all};
 use bt_log::Log;
 use bt_sat::Solver;
 use bt_simplex::Tableau;
+use bt_trim::trimmed;
 use std::alloc::{AllocError, Global};
 
 /// Decides a formula within limits, with the help of definitions.
@@ -25,7 +26,8 @@ use std::alloc::{AllocError, Global};
 /// The search is for a model of the formula that the definitions extend, each over the formula with those before it; from
 /// the first that may not extend it so on they are dropped. By definitions a formula can be met exactly where it can be
 /// without them. So `Refuted` and `Spent` tell of a log over the extended formula, and `Sat`, `Pivots` and `Wide` of the
-/// formula itself: its rows and columns alone are checked together.
+/// formula itself: its rows and columns alone are checked together. Of the log of `Refuted` the steps that the last one
+/// doesn't need are left out.
 ///
 /// Each goal is a clause that is likely to follow. It is tried before the search: its literals are made false, and where its
 /// scopes refute that, a lemma is added, until the clause follows. What this leads to are steps of the search, so nothing
@@ -112,7 +114,7 @@ fn search_by<C: Chooser>(
 {
     let mut solver = Solver::new(alloc, formula, choosers, limits.learnt)?;
     let end = by_goals(alloc, &mut solver, tables, goals, base, limits.pivots)?;
-    Ok(outcome(end, solver.into_log()))
+    outcome(alloc, end, solver.into_log())
 }
 
 /// Tries the goals, and makes rounds where the search isn't at its end then.
@@ -176,15 +178,22 @@ fn sat(solution: Solution) -> Outcome
     }
 }
 
+/// The outcome of a search whose log refutes the formula. The steps that the last one doesn't need are left out.
+fn refuted(alloc: Global, log: &Log) -> Result<Outcome, AllocError>
+    ensures { IfOk result (λ o. IsTrimmedTo log.now o) }
+{
+    Ok(Outcome::Refuted(trimmed(alloc, log)?))
+}
+
 /// The outcome of a search that ends so, with this log.
-fn outcome(end: End, log: Log) -> Outcome
-    ensures { Tells end log result }
+fn outcome(alloc: Global, end: End, log: Log) -> Result<Outcome, AllocError>
+    ensures { IfOk result (Tells end log) }
 {
     match end {
-        End::Sat(solution) => sat(solution),
-        End::Refuted => Outcome::Refuted(log),
-        End::Spent => Outcome::GaveUp(GaveUp::Spent(log)),
-        End::Pivots(trail) => Outcome::GaveUp(GaveUp::Pivots(trail)),
-        End::Wide(wide) => Outcome::GaveUp(GaveUp::Wide(wide)),
+        End::Sat(solution) => Ok(sat(solution)),
+        End::Refuted => refuted(alloc, &log),
+        End::Spent => Ok(Outcome::GaveUp(GaveUp::Spent(log))),
+        End::Pivots(trail) => Ok(Outcome::GaveUp(GaveUp::Pivots(trail))),
+        End::Wide(wide) => Ok(Outcome::GaveUp(GaveUp::Wide(wide))),
     }
 }

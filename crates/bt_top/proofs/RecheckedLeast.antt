@@ -59,7 +59,7 @@ module _ (first : Option Rect) (most : Rect) (tier : Tier) (learnt : ℕ) (bytes
       let on = is_followed IsPinned bytes (nowhere_text one.log.steps) n (λ some. other_than 110 (λ x. omega (arith, x)) (λ x. omega (arith, x)) (λ x. omega (arith, x)) (λ x. omega (arith, x)))
       stands.used front (pinned_within bytes n stands.used front) stands.blanks (pinned_stays bytes n stands.used front) in
       let made : IsRequestFor one.grid tier n (Ok (request_on asks one.grid)) = went_on (request_on asks one.grid) (refl, asked_on asks one.grid asked none within) refl in
-      certificate_follows one.grid tier learnt bytes one.log short n (request_on asks one.grid) on made (ruled.none, ruled.refuted, ruled.few)
+      certificate_follows one.grid tier learnt bytes one.log short n (request_on asks one.grid) on made (ruled.none, ruled.refuted, ruled.few, ruled.tight)
 
   all_accepted : (ones : List RuledOut) (later : List Rect) → All (IsRuledOut asks learnt) ones → All (IsWithin most) (grids_of ones ++ later) → All (IsAccepted tier bytes) ones
   all_accepted [] later ruled within = All-nil (IsAccepted tier bytes)

@@ -1,5 +1,5 @@
 -- Blanks that are dropped of what was gathered.
-use Rattle.std.specs.Prelude.{◌≡◌, ◌⊎◌, ◌+◌, ◌-◌, [], All, length}
+use Rattle.std.specs.Prelude.{◌≡◌, ◌⊎◌, ◌+◌, [], All, length}
 use Rattle.bt_text.specs.Blanks.{IsBlank}
 use Rattle.bt_designs.specs.declared.held.Gathered.{Gathered}
 

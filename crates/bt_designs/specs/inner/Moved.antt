@@ -1,5 +1,5 @@
 -- What is told of a design behind blanks: what is told of the design, so many bytes later.
-use Rattle.std.specs.Prelude.{◌≡◌, ℕ, ◌+◌, ◌<◌, ◌≤◌, ◌^◌, Result, Ok, Err}
+use Rattle.std.specs.Prelude.{ℕ, ◌+◌, ◌≤◌, Result, Ok, Err}
 use Rattle.bt_json.specs.Json.{Json}
 use Rattle.bt_json.specs.declared.fault.JsonFault.{JsonFault}
 use Rattle.bt_json.specs.declared.fault.JsonFault.TheVariants as json

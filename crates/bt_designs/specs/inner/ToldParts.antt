@@ -54,3 +54,11 @@ IsSettledFault bytes design.Memory = Unit {0}
 abbrev pub TellsFault : Held → List ℕ → DesignFault → Option DesignFault → Type 0
 TellsFault held part fault None = held.ended ≡ false
 TellsFault held part fault (Some told) = (told ≡ moved_told held.skipped fault) × (held.ended ≡ false → IsSettledFault part fault)
+
+-- what a part tells of what was read at its front: this, where it ends before the part does or the input has ended; that more has to be read; or the fault that is told
+abbrev pub TellsRead : {D : Type 0} → (D → ℕ) → Held → List ℕ → Result D DesignFault → Result (Option D) DesignFault → Type 0
+TellsRead used_of held part (Ok read) (Ok (Some d)) = (d ≡ read) × (held.ended ≡ false → used_of d < length part)
+TellsRead used_of held part (Ok read) (Err told) = ⊥
+TellsRead used_of held part (Err fault) (Ok (Some d)) = ⊥
+TellsRead used_of held part (Err fault) (Err told) = TellsFault held part fault (Some told)
+TellsRead used_of held part read (Ok None) = held.ended ≡ false

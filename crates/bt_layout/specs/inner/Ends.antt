@@ -1,14 +1,17 @@
 -- How a search for a layout ends.
-use Rattle.std.specs.Prelude.{ℕ, ◌≤◌, List, length}
+use Rattle.std.specs.Prelude.{◌≡◌, ℕ, ◌≤◌, List, length}
 use Rattle.bt_model.specs.Requests.{LayoutRequest}
-use Rattle.bt_log.specs.Logs.{Step}
+use Rattle.bt_log.specs.Logs.{LogParts, Step}
 use Rattle.bt_sat.specs.declared.solver.Answer.{Answer}
 use Rattle.bt_sat.specs.declared.solver.Answer.TheVariants.{Model, Refuted, Spent}
 use Rattle.bt_place.specs.PlaceFormula.{place_formula}
 use Rattle.bt_place.specs.Solutions.{IsSolution}
 use Rattle.bt_theory.specs.Outcomes.{IsRefutation, IsUsedUp}
 use Rattle.bt_layout.specs.Early.{AreSought}
+use Rattle.bt_trim.specs.Trimming.{IsTrimmed}
 use Rattle.bt_layout.specs.Layouts.{HasNoLayout}
+use Rattle.bt_layout.specs.declared.outcome.Layout.{Layout}
+use Rattle.bt_layout.specs.declared.outcome.Layout.TheVariants as layout
 
 -- with a model of the placement formula; with a log that refutes it; or with a log that has so many steps, where one more
 -- is needed
@@ -22,3 +25,12 @@ pub record EndsSought (r : LayoutRequest) (learnt : ℕ) (steps : List Step) (an
   pub ends : EndsWith r learnt steps answer
   pub sought : AreSought r steps
   pub few : length steps ≤ learnt
+
+-- the log is over the clauses of the placement formula
+abbrev pub IsOver : LayoutRequest → LogParts → Type 0
+IsOver r log = log.first ≡ length (place_formula r).clauses
+
+-- the log is told, without the steps that its last one doesn't need
+abbrev pub IsTrimmedTo : LogParts → Layout → Type 0
+IsTrimmedTo log (layout.Nowhere left) = IsTrimmed log left
+IsTrimmedTo log other = ⊥

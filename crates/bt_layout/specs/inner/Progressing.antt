@@ -56,10 +56,10 @@ pub record IsSearched (requests : List LayoutRequest) (learnt : ℕ) (sweep : Sw
   pub left : sweep.progress.steps + most ≤ learnt
   pub limit : learnt < 2 ^ 64
 
--- where no parts were found, these are the steps of the log
+-- where no parts were found, these are the steps of the log, or of a log that refutes the formula no fewer than it has
 abbrev pub HasLog : Layout → List Step → Type 0
 HasLog (layout.Found parts) steps = Unit {0}
-HasLog (layout.Nowhere log) steps = log.steps ≡ steps
+HasLog (layout.Nowhere log) steps = length log.steps ≤ length steps
 HasLog (layout.Spent log) steps = log.steps ≡ steps
 
 -- what a search of the placement formula comes to that may take so many steps

@@ -2,10 +2,14 @@ use bt_cnf::{Formula, Lit};
 use bt_frac::Frac;
 use bt_io::MemSink;
 use bt_log::{Log, StepView};
+use bt_trim::trimmed;
 use std::alloc::{AllocError, Global};
 use std::test::Fail;
 
 const TEXT: &[u8] = b"f -9 12 0 -1/2 3\nr 0 1 13 0\nend\n";
+
+// What is left of five steps over two clauses.
+const LEFT: &[u8] = b"f -9 12 0 -1/2 3\nr -9 12 0 2 3 0\nr 0 1 4 0\nend\n";
 
 // A negative and a positive literal; none where the formula lacks their variables.
 fn literals_of(formula: &Formula) -> Option<[Lit; 2]> {
@@ -70,5 +74,25 @@ fn prints_its_steps(rt: HostRuntime) -> Result<(), Fail> {
     let mut log = Log::new(rt.alloc(), 12)?;
     add_steps(&mut log, &lits)?;
     assert!(rt; is_kept(rt.alloc(), &log)?);
+    Ok(())
+}
+
+// Adds five steps, of which the last needs the third, and that the second.
+fn add_more(log: &mut Log, lits: &[Lit]) -> Result<(), AllocError> {
+    let half = Frac::read(b"-1/2").unwrap_or(Frac::whole(0));
+    log.add_learnt(lits, &[0])?;
+    log.add_lemma(lits, &[half, Frac::whole(3)])?;
+    log.add_learnt(lits, &[1, 3])?;
+    log.add_learnt(lits, &[2])?;
+    log.add_learnt(&[], &[0, 4])
+}
+
+#[test]
+fn leaves_out_what_is_not_needed(rt: HostRuntime) -> Result<(), Fail> {
+    let lits = literals(rt.alloc())?.ok_or("no variable")?;
+    let mut log = Log::new(rt.alloc(), 2)?;
+    add_more(&mut log, &lits)?;
+    let left = trimmed(rt.alloc(), &log)?;
+    assert!(rt; is_printed(rt.alloc(), &left, 100, true, LEFT)?);
     Ok(())
 }

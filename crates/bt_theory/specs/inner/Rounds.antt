@@ -4,7 +4,7 @@ use Rattle.std.specs.List.{All}
 use Rattle.bt_frac.specs.Ratio.{IsLowest}
 use Rattle.bt_cnf.specs.Formulas.{FormulaParts}
 use Rattle.bt_log.specs.Logs.{Lemma, LogParts}
-use Rattle.bt_sat.specs.Solving.{SolverParts, KeepsModel, IsModel, IsSoundLog, IsSpent, IsLemmaOf, GoesOnBy}
+use Rattle.bt_sat.specs.Solving.{SolverParts, log_of, KeepsModel, IsModel, IsSoundLog, IsSpent, IsLemmaOf, GoesOnBy}
 use Rattle.bt_simplex.specs.SolvedForms.{basis_of}
 use Rattle.bt_simplex.specs.Tableaus.{TableauParts, positions_from}
 use Rattle.bt_theory.specs.Reaching.{atom_rows, columns_of, IsTableauOf, IsReachable}
@@ -12,6 +12,8 @@ use Rattle.bt_theory.specs.Outcomes.{Solves, Fits, IsRefutation, IsUsedUp, Turns
 use Rattle.bt_theory.specs.declared.base.Base.{Base}
 use Rattle.bt_theory.specs.declared.lemma.Conflict.{Conflict}
 use Rattle.bt_theory.specs.declared.outcome.Outcome.{Outcome}
+use Rattle.bt_theory.specs.declared.outcome.Outcome.TheVariants as outcome
+use Rattle.bt_trim.specs.Trimming.{IsTrimmed}
 use Rattle.bt_theory.specs.inner.Bases.{base_in}
 use Rattle.bt_theory.specs.inner.Choosing.{IsChosen}
 use Rattle.bt_theory.specs.inner.Scopes.{IsScopeOf, parts_of}
@@ -79,5 +81,10 @@ pub record IsRound (pivots : ℕ) (b : Base) (old new : SolverParts) (t : Tablea
 
 -- where it is right to end a search with this log so, it is right to say this of what stands before the definitions
 abbrev pub Tells : End → LogParts → Outcome → Type 0
-Tells e log o = (pivots : ℕ) (b : Base) (s : SolverParts) → s.steps ≡ log.steps → IsEnd pivots b s e
+Tells e log o = (pivots : ℕ) (b : Base) (s : SolverParts) → log ≡ log_of s → IsEnd pivots b s e
     → IsOutcomeOver (base_in b s.formula) s.formula (record { learnt = s.limit; pivots = pivots }) o
+
+-- the log is told, without the steps that its last one doesn't need
+abbrev pub IsTrimmedTo : LogParts → Outcome → Type 0
+IsTrimmedTo log (outcome.Refuted left) = IsTrimmed log left
+IsTrimmedTo log other = ⊥

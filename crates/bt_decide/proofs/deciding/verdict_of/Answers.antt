@@ -33,7 +33,7 @@ returns-in-Refuted c = λ p limits network are is.
     let f = flow_formula c.args.net.now p in
     let refutes = subst (IsOutcome f c.args.definitions.items limits) c.in-Refuted.is is in
     let unmet = refuted_extension_is_unmet f c.args.definitions.items c.in-Refuted.log.steps (is_formula c.args.net.now p network) are.are refutes.0.refutes in
-    (unmet_holds c.args.net.now p network unmet, (are, refutes.0, refutes.1))
+    (unmet_holds c.args.net.now p network unmet, (are, refutes.0, refutes.1, refutes.2))
 
 pub returns-in-GaveUp : goal.returns-in-GaveUp
 returns-in-GaveUp c = λ p limits network are is. (are, subst (IsOutcome (flow_formula c.args.net.now p) c.args.definitions.items limits) c.in-GaveUp.is is)

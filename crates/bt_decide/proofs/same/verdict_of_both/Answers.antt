@@ -20,7 +20,7 @@ returns-in-Refuted c = λ limits first second formula are is.
     let f = same_formula c.args.first.now c.args.second.now in
     let refutes = subst (IsOutcome f c.args.definitions.items limits) c.in-Refuted.is is in
     let unmet = refuted_extension_is_unmet f c.args.definitions.items c.in-Refuted.log.steps formula are.are refutes.0.refutes in
-    (unmet_are_same c.args.first.now c.args.second.now first second c.requires unmet, (are, refutes.0, refutes.1))
+    (unmet_are_same c.args.first.now c.args.second.now first second c.requires unmet, (are, refutes.0, refutes.1, refutes.2))
 
 pub returns-in-GaveUp : goal.returns-in-GaveUp
 returns-in-GaveUp c = λ limits first second formula are is.

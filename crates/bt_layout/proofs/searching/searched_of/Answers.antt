@@ -1,8 +1,8 @@
-use Rattle.std.proofs.Common.{◌≤◌, length, sym, subst}
+use Rattle.std.proofs.Common.{◌≤◌, sym, subst}
 use Rattle.bt_layout.proofs.searching.searched_of.Goals as goal
 
-pub layout_of-requires : goal.layout_of-requires
-layout_of-requires c = (c.requires.0, c.requires.1.ends)
+pub layout_of-requires-clause-ends : goal.layout_of-requires-clause-ends
+layout_of-requires-clause-ends c = (c.requires.ends.0, c.requires.ends.1.ends)
 
 pub returns : goal.returns
 returns c = λ learnt ends. record {

@@ -1,4 +1,4 @@
-use Rattle.std.proofs.Common.{◌<◌, ◌∙◌, ap, length, sym, subst}
+use Rattle.std.proofs.Common.{◌<◌, ◌∙◌, ap, subst}
 use Rattle.std.specs.List.{All}
 use Rattle.std.specs.Prelude.{All}
 use Rattle.bt_layout.specs.inner.Progressing.{lesser_of}

@@ -1,4 +1,4 @@
-use Rattle.std.proofs.Common.{◌<◌, ◌+◌, sym, subst, ap, ◌∙◌, arith}
+use Rattle.std.proofs.Common.{◌<◌, ◌+◌, sym, subst, arith}
 use Rattle.std.specs.List.{All, AllPairs}
 use Rattle.std.proofs.lemmas.List.Elements.{All-push, All-weaker}
 use Rattle.std.proofs.lemmas.List.Quantifiers.{all_pairs_push}

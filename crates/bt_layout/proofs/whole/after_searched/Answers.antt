@@ -1,6 +1,6 @@
-use Rattle.std.proofs.Common.{◌≤◌, refl, subst, sym, arith}
+use Rattle.std.proofs.Common.{◌≤◌, subst, sym, arith}
 use Rattle.bt_layout.specs.inner.Progressing.{lesser_of}
-use Rattle.bt_layout.proofs.Told.{ended_laid, ended_paid, passed_by_layout, passed_by_log, passed_by_steps}
+use Rattle.bt_layout.proofs.Told.{ended_laid, ended_paid, passed_by_log, passed_by_steps}
 use Rattle.bt_layout.proofs.whole.after_searched.Goals as goal
 
 pub returns-in-Found-clause-progress : goal.returns-in-Found-clause-progress

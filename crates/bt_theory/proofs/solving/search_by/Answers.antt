@@ -1,6 +1,7 @@
 use Rattle.std.proofs.Common.{◌≡◌, ℕ, sym, subst, ap, ◌∙◌, Some}
 use Rattle.std.proofs.lemmas.List.Elements.{All-nil}
-use Rattle.bt_sat.specs.Solving.{SolverParts, begun}
+use Rattle.std.proofs.lemmas.Result.{IfOk-weaker}
+use Rattle.bt_sat.specs.Solving.{SolverParts, begun, log_of}
 use Rattle.bt_simplex.specs.Tableaus.{TableauParts}
 use Rattle.bt_cnf.specs.declared.limits.Limits.{Limits}
 use Rattle.bt_theory.specs.declared.outcome.Outcome.{Outcome}
@@ -21,10 +22,10 @@ first_ready b g s limit t e h =
 
 -- what a round says at its end of the formula at hand
 said_of : (b : Base) (g : FormulaParts) (limits : Limits) (old new : SolverParts) (t : TableauParts) (e : End) (log : LogParts) (o : Outcome) → old.formula ≡ g → old.limit ≡ limits.learnt
-    → IsRound limits.pivots b old new t (Some e) → new.steps ≡ log.steps → Tells e log o → IsOutcomeOver (base_in b g) g limits o
-said_of b g limits old new t e log o same limit round steps tells =
+    → IsRound limits.pivots b old new t (Some e) → log ≡ log_of new → Tells e log o → IsOutcomeOver (base_in b g) g limits o
+said_of b g limits old new t e log o same limit round is_log tells =
     subst (λ h. IsOutcomeOver (base_in b h) h limits o) (round.formula ∙ same)
-    (subst (λ k. IsOutcomeOver (base_in b new.formula) new.formula (record { learnt = k; pivots = limits.pivots }) o) (round.limit ∙ limit) (tells limits.pivots b new steps round.says))
+    (subst (λ k. IsOutcomeOver (base_in b new.formula) new.formula (record { learnt = k; pivots = limits.pivots }) o) (round.limit ∙ limit) (tells limits.pivots b new is_log round.says))
 
 pub by_goals-requires-clause-ready : goal.by_goals-requires-clause-ready
 by_goals-requires-clause-ready g c =
@@ -36,5 +37,7 @@ by_goals-requires-clause-base g c = subst (IsBase c.args.base.now) (sym (ap (λ 
 pub returns : goal.returns
 returns g c =
     let e = c.in_ok-solver.ensures.kernel in
-    said_of c.args.base.now c.args.formula c.args.limits c.in_ok-solver.solver.kernel c.by_goals.new.solver.kernel c.by_goals.new.tables.tableau c.in_ok-end.end c.into_log.result c.outcome.result (ap (λ x. x.formula) e) (ap (λ x. x.limit) e) c.in_ok-end.ensures
-    (sym (ap (λ l. l.steps) c.into_log.ensures)) c.outcome.ensures
+    IfOk-weaker c.outcome.result (Tells c.in_ok-end.end c.into_log.result) (IsOutcomeOver (base_in c.args.base.now c.args.formula) c.args.formula c.args.limits)
+    (λ o told.
+    said_of c.args.base.now c.args.formula c.args.limits c.in_ok-solver.solver.kernel c.by_goals.new.solver.kernel c.by_goals.new.tables.tableau c.in_ok-end.end c.into_log.result o
+    (ap (λ x. x.formula) e) (ap (λ x. x.limit) e) c.in_ok-end.ensures c.into_log.ensures told) c.outcome.ensures

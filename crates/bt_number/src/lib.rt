@@ -1,0 +1,16 @@
+//! Requests with numbers by the structure of their networks, and where a request wants its ends.
+//!
+//! Nothing is claimed of either. What they depend on is the structure of a network, never the numbers of its splitters and
+//! edges.
+#![tactic(auto)]
+
+mod naming;
+mod network;
+mod numbering;
+mod wanted;
+
+pub use naming::{Named, name_by_structure, open_edge};
+pub use network::{from, joined, leaving, to};
+pub use numbering::{Numbered, are_in_pairs, edge_to_open, number_by_structure};
+pub use std::alloc::AllocError as Memory;
+pub use wanted::{Wanted, goes_north, is_blocked, place_wanted};

@@ -1,0 +1,16 @@
+//! Plans of layouts: where splitters could stand, by their distances to the outputs, and the chains of a router between
+//! them.
+//!
+//! Nothing is claimed of a plan. What it depends on is the structure of a network, never the numbers of its splitters and
+//! edges.
+#![tactic(auto)]
+
+mod climbing;
+mod lines;
+mod ordering;
+mod random;
+mod seats;
+mod sketching;
+
+pub use sketching::{Sketch, find_sketch};
+pub use std::alloc::AllocError as Memory;

@@ -1,0 +1,5 @@
+pub mod Choosing
+pub mod Left
+pub mod Marked
+pub mod Numbers
+pub mod Valid

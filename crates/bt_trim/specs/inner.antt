@@ -1,0 +1,3 @@
+-- How the steps that are left are found, which no public clause cites.
+pub mod Keeping
+pub mod Marking
