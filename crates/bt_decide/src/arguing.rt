@@ -3,12 +3,12 @@ ghost use Rattle.std.specs.Prelude.{IfOk};
 ghost use Rattle.bt_decide.specs.Verdicts.{splitters_of_both};
 ghost use Rattle.bt_decide.specs.inner.Outcomes.{MayBeGiven};
 
-use bt_arguments::{Argument, argument_of, argument_of_both};
 use bt_cert::MOST_DEFINITIONS;
 use bt_cnf::Formula;
 use bt_extend::Definition;
 use bt_flow::Property;
 use bt_net::Net;
+use hint_arguments::{Argument, argument_of, argument_of_both};
 use std::alloc::{AllocError, Global};
 
 /// The argument for a property of a network, over its formula.

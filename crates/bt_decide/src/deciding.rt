@@ -2,7 +2,7 @@
 ghost use Rattle.std.specs.Prelude.{◌≡◌, IfOk, IfSome};
 ghost use Rattle.bt_decide.specs.Verdicts.{IsVerdict};
 ghost use Rattle.bt_decide.specs.inner.Outcomes.{IsVerdictOf};
-ghost use Rattle.bt_simulate.specs.Simulations.{IsBreaking};
+ghost use Rattle.hint_simulation.specs.Simulations.{IsBreaking};
 
 use crate::arguing::argument_for;
 use crate::verdict::Verdict;
@@ -11,8 +11,8 @@ use bt_extend::Definition;
 use bt_fenc::{encode, state_of};
 use bt_flow::{Property, State};
 use bt_net::Net;
-use bt_simulate::simplest;
 use bt_theory::{Outcome, solve};
+use hint_simulation::simplest;
 use std::alloc::{AllocError, Global};
 
 /// Decides within limits whether every steady state of a network has a property. A state that simulations show is looked

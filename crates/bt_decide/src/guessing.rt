@@ -5,7 +5,7 @@ ghost use Rattle.std.specs.Prelude.{◌≡◌, IfOk, All, length};
 use bt_cnf::Formula;
 use bt_frac::{Frac, Relation, Row};
 use bt_net::Net;
-use bt_simulate::{Case, Found, UNIT, differing};
+use hint_simulation::{Case, Found, UNIT, differing};
 use std::alloc::{AllocError, Global};
 
 /// By how much the sides of a row may differ that a simulation shows as equal, in parts of `UNIT`.

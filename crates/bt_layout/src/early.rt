@@ -10,9 +10,9 @@ use crate::progress::{Laid, Progress, first_progress};
 use crate::sweep::{Means, Sweep, after_search, after_sketch, first_sweep};
 use crate::whole::after_all;
 use bt_model::Request;
-use bt_narrow::is_likely;
 use bt_parts::Rect;
-use bt_shrink::Shrunk;
+use hint_shrinking::Shrunk;
+use hint_streamlining::is_likely;
 use std::alloc::{AllocError, Global};
 
 /// The most steps of a search of a request in whose rectangle a layout is likely.

@@ -4,8 +4,8 @@ use crate::seeking::{Ground, great_rect, ground_in};
 use bt_model::{MOST_ACROSS, Request};
 use bt_net::Demand;
 use bt_parts::{Part, Rect};
-use bt_shrink::{Goal, Shrunk, find_turned, shrink};
-use bt_sketch::{Sketch, find_sketch};
+use hint_placement::{Sketch, find_sketch};
+use hint_shrinking::{Goal, Shrunk, find_turned, shrink};
 use std::alloc::{AllocError, Global};
 
 /// The greatest rectangle.

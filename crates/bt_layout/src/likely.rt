@@ -9,12 +9,12 @@ use crate::tight::is_tight;
 use bt_choosers::{Active, Part as PlanPart, Plan, Turn};
 use bt_cnf::{Formula, Lit};
 use bt_model::Request;
-use bt_narrow::{
-    Attempt, Choice, Course, first_rows, looped_places, looped_rows, narrowings, no_tunnels, places,
-};
 use bt_parts::Part;
 use bt_place::{Numbers, decode, encode_place, literal_of, narrow};
 use bt_sat::{Answer, Solver};
+use hint_streamlining::{
+    Attempt, Choice, Course, first_rows, looped_places, looped_rows, narrowings, no_tunnels, places,
+};
 use std::alloc::{AllocError, Global};
 
 /// The search restarts after as many steps as the numbers of Luby's sequence times this one say.

@@ -9,12 +9,12 @@ use bt_choosers::Active;
 use bt_cnf::Formula;
 use bt_facts::{Fact, Shape, cells_of, holds};
 use bt_model::Request;
-use bt_narrow::{Attempt, attempts};
-use bt_number::{Named, name_by_structure};
 use bt_parts::{Cell, DIRS, Dir, Kind, Part, Rect};
 use bt_place::{Numbers, literal_of};
 use bt_sat::{Answer, Solver};
-use bt_sketch::{Sketch, find_sketch};
+use hint_numbering::{Named, name_by_structure};
+use hint_placement::{Sketch, find_sketch};
+use hint_streamlining::{Attempt, attempts};
 use std::alloc::{AllocError, Global};
 
 /// Before each search of more steps than these a greater layout is made smaller.

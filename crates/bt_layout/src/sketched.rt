@@ -10,11 +10,11 @@ use bt_choosers::{Active, Plan, Turn};
 use bt_cnf::Formula;
 use bt_facts::{Content, Fact, Shape, cells_of, holds};
 use bt_model::Request;
-use bt_narrow::Choice;
 use bt_parts::{Kind, Part};
 use bt_place::{Numbers, encode_place};
 use bt_sat::Solver;
-use bt_sketch::Sketch;
+use hint_placement::Sketch;
+use hint_streamlining::Choice;
 use std::alloc::{AllocError, Global};
 
 /// The most steps of a search with a sketch. One that shows a layout takes none.

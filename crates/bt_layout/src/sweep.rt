@@ -9,9 +9,9 @@ use crate::likely::{Trial, Tried, look_in};
 use crate::progress::{Laid, Progress, lesser, with_layout, with_steps};
 use crate::sketched::{look_at_sketch, look_by_sketch};
 use bt_model::Request;
-use bt_narrow::{Attempt, whole};
 use bt_parts::Part;
-use bt_sketch::Sketch;
+use hint_placement::Sketch;
+use hint_streamlining::{Attempt, whole};
 use std::alloc::{AllocError, Global};
 
 /// How a layout of a request is looked for.

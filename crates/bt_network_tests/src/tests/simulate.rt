@@ -2,7 +2,7 @@
 use super::{GIVEN, MIXED, ONE_BELT, SPLITTER, fields, net_of, property_named};
 use bt_flow::{State, print_ends};
 use bt_io::MemSink;
-use bt_simulate::simplest;
+use hint_simulation::simplest;
 use std::alloc::{AllocError, Global};
 use std::test::Fail;
 

@@ -1,6 +1,6 @@
 //! What a light search finds.
 use super::{fields, formula_of, number_of};
-use bt_seek::{Answer, Literal, Random, Solver, load};
+use hint_solver::{Answer, Literal, Random, Solver, load};
 use std::alloc::{AllocError, Global};
 use std::test::Fail;
 

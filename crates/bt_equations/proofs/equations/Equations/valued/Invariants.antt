@@ -1,5 +1,0 @@
-use Rattle.std.proofs.Common.{◌≡◌, length}
-use Rattle.bt_equations.proofs.equations.Equations.valued.Given as goal
-
-abbrev pub invariant-loop-solved : goal.invariant-loop-solved
-invariant-loop-solved l = length l.values.items ≡ length l.fn.numbers.items

@@ -1,7 +1,0 @@
-use Rattle.std.proofs.Common.{ℕ}
-use Rattle.std.specs.List.{All}
-use Rattle.bt_graph.specs.Places.{AreBelow}
-use Rattle.bt_graph.proofs.lists.empty_lists.Given as goal
-
-abbrev pub invariant-loop : goal.invariant-loop
-invariant-loop l = (end : ℕ) → All (λ list. AreBelow end list.items) l.lists.items

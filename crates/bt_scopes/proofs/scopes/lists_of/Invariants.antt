@@ -1,7 +1,0 @@
-use Rattle.std.proofs.Common.{length}
-use Rattle.std.specs.List.{All}
-use Rattle.bt_graph.specs.Places.{AreBelow}
-use Rattle.bt_scopes.proofs.scopes.lists_of.Given as goal
-
-abbrev pub invariant-loop-place : goal.invariant-loop-place
-invariant-loop-place l = All (λ list. AreBelow (length l.rows) list.items) l.lists.items

@@ -1,5 +1,0 @@
-use Rattle.std.proofs.Common.{◌≡◌, length}
-use Rattle.bt_simulate.proofs.exact.fractions_of.Given as goal
-
-abbrev pub invariant-loop-amount : goal.invariant-loop-amount
-invariant-loop-amount l = length l.fractions.items ≡ l.amount-index

@@ -1,7 +1,0 @@
-use Rattle.std.proofs.Common.{take}
-use Rattle.std.specs.List.{AllZip}
-use Rattle.bt_simulate.specs.Simulations.{IsWithinCap}
-use Rattle.bt_simulate.proofs.simulation.flows_of.Given as goal
-
-abbrev pub invariant-loop-place : goal.invariant-loop-place
-invariant-loop-place l = AllZip IsWithinCap (take l.place l.edges) l.flows.items

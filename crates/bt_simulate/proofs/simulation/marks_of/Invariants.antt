@@ -1,5 +1,0 @@
-use Rattle.std.proofs.Common.{◌≡◌, length}
-use Rattle.bt_simulate.proofs.simulation.marks_of.Given as goal
-
-abbrev pub invariant-loop-belt : goal.invariant-loop-belt
-invariant-loop-belt l = length l.marks.items ≡ l.belt-index

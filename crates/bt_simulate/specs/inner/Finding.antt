@@ -1,9 +1,0 @@
--- What is found: a simulation under loads and rooms.
-use Rattle.bt_net.specs.Network.{Network}
-use Rattle.bt_simulate.specs.declared.finding.Found.{Found}
-use Rattle.bt_simulate.specs.Simulations.{IsSimulated, IsCase}
-
--- a simulation of the network, with its loads and rooms
-pub record IsFound (n : Network) (f : Found) : Type 0 where
-  pub simulated : IsSimulated n f.simulated
-  pub case : IsCase n f.case

@@ -1,0 +1,584 @@
+//! The aims of the argument for `unlimited`, in their order.
+use crate::defining::Compared;
+use crate::side::Side;
+use crate::unlimited::{Totals, add_rows};
+use bt_cnf::Formula;
+use bt_extend::NamedLit;
+use bt_frac::{Relation, Row};
+use bt_net::Net;
+use hint_graphs::{Flow, is_set, mark};
+use hint_scopes::{
+    Atoms, Line, add_aim, add_both, add_scope, edges_of_columns, equal_rows, is_of_ends, named,
+    opposite_of,
+};
+use std::alloc::{AllocError, Global};
+
+/// What aims are made of.
+#[derive(Drop)]
+struct Sources<'a> {
+    flow: &'a Flow<'a>,
+    below: &'a Side,
+    above: &'a Side,
+    literals: FormulaLits,
+    totals: Totals,
+    /// The place of the scope of the ends.
+    at_ends: usize,
+}
+
+/// The literals of a formula that aims speak of.
+#[derive(Drop)]
+struct FormulaLits {
+    atoms: Atoms,
+    /// For each edge the literal that says that the flow at an end reaches its load or its room.
+    meets: Vec<Option<NamedLit>>,
+}
+
+impl FormulaLits {
+    fn of(alloc: Global, net: &Net, formula: &Formula) -> Result<FormulaLits, AllocError> {
+        let mut literals = FormulaLits {
+            atoms: Atoms::of(alloc, net, formula)?,
+            meets: vec![in alloc; None; net.edges().len()]?,
+        };
+        for place in 0..formula.vars() {
+            literals.take(net, formula, place);
+        }
+        Ok(literals)
+    }
+
+    /// Takes in a variable, where it says that the flow of an edge reaches what is at its end.
+    fn take(&mut self, net: &Net, formula: &Formula, place: usize) {
+        if let Some(edge) = met_edge(net, formula, place) {
+            if edge < self.meets.len() {
+                self.meets[edge] = Some(named(place, true));
+            }
+        }
+    }
+
+    /// The edge isn't full, where there is such a literal.
+    fn not_full(&self, edge: usize) -> Option<NamedLit> {
+        Some(opposite_of(self.atoms.full(edge)?))
+    }
+
+    /// The flow at an end reaches its load or its room.
+    fn meets(&self, edge: usize) -> Option<NamedLit> {
+        *self.meets.get(edge)?
+    }
+}
+
+/// The row of the variable at a place.
+fn row_at(formula: &Formula, place: usize) -> Option<&Row> {
+    formula.rows().get(formula.row_of(formula.var_at(place)?)?)
+}
+
+/// The edge of whose flow a variable says that it reaches what is at its end.
+fn met_edge(net: &Net, formula: &Formula, place: usize) -> Option<usize> {
+    let row = row_at(formula, place)?;
+    if row.relation() != Relation::AtLeast {
+        return None;
+    }
+    match row.terms() {
+        [(edge, one), (end, _)] if *end >= net.edges().len() && one.numerator() > 0 => Some(*edge),
+        _ => None,
+    }
+}
+
+/// Adds all aims.
+pub fn argue(
+    alloc: Global,
+    formula: &Formula,
+    line: &mut Line,
+    flow: &Flow,
+    below: &Side,
+    above: &Side,
+    totals: Totals,
+) -> Result<(), AllocError> {
+    let net = flow.graph.net;
+    let sources = Sources {
+        flow,
+        below,
+        above,
+        literals: FormulaLits::of(alloc, net, formula)?,
+        totals,
+        at_ends: add_ends_scope(alloc, formula, line, net, totals)?,
+    };
+    sources.add_all(alloc, formula, line)
+}
+
+/// Adds the scope of the rows that speak of ends alone.
+fn add_ends_scope(
+    alloc: Global,
+    formula: &Formula,
+    line: &mut Line,
+    net: &Net,
+    totals: Totals,
+) -> Result<usize, AllocError> {
+    let columns = edges_of_columns(alloc, net)?;
+    let mut rows = Vec::new(alloc);
+    for (place, row) in formula.rows().iter().enumerate() {
+        if is_of_ends(net, &columns, row) {
+            rows.push(place)?;
+        }
+    }
+    add_rows(&mut rows, totals.ends)?;
+    add_scope(line, rows)
+}
+
+/// Adds a scope of the rows that say that sums are equal, with comparisons.
+fn add_sums_scope(
+    alloc: Global,
+    formula: &Formula,
+    line: &mut Line,
+    totals: Totals,
+) -> Result<usize, AllocError> {
+    let mut rows = equal_rows(alloc, formula)?;
+    add_rows(&mut rows, totals.ends)?;
+    add_rows(&mut rows, totals.centres)?;
+    add_scope(line, rows)
+}
+
+/// Adds the aim of some literals and another.
+fn add_with(
+    alloc: Global,
+    line: &mut Line,
+    lits: &[NamedLit],
+    last: NamedLit,
+    place: usize,
+) -> Result<(), AllocError> {
+    let mut all = Vec::from_slice(alloc, lits)?;
+    all.push(last)?;
+    add_aim(alloc, &mut line.aims, &all, place)
+}
+
+/// Adds the aim of a literal, where there is one.
+fn add_one(
+    alloc: Global,
+    line: &mut Line,
+    lit: Option<NamedLit>,
+    place: usize,
+) -> Result<(), AllocError> {
+    match lit {
+        Some(lit) => add_aim(alloc, &mut line.aims, &[lit], place),
+        None => Ok(()),
+    }
+}
+
+impl<'a> Sources<'a> {
+    fn add_all(&self, alloc: Global, formula: &Formula, line: &mut Line) -> Result<(), AllocError> {
+        self.add_below(alloc, line)?;
+        self.add_above(alloc, line)?;
+        self.add_totals(alloc, formula, line)?;
+        self.add_centres(alloc, line)?;
+        self.add_outputs(alloc, line)?;
+        self.add_inputs(alloc, line)
+    }
+
+    /// Adds that from the outputs back a backed edge carries at least the mean of the outputs that it reaches.
+    fn add_below(&self, alloc: Global, line: &mut Line) -> Result<(), AllocError> {
+        let flow = self.flow;
+        for step in 0..flow.order.len() {
+            let splitter = flow.splitter_at(step, true);
+            if self.below.has(splitter) {
+                self.add_below_outs(alloc, line, splitter)?;
+                self.add_below_ins(alloc, line, splitter)?;
+            }
+        }
+        Ok(())
+    }
+
+    /// Adds that of the edges out of a splitter: of those that are full, and where one into it is backed.
+    fn add_below_outs(
+        &self,
+        alloc: Global,
+        line: &mut Line,
+        splitter: usize,
+    ) -> Result<(), AllocError> {
+        let flow = self.flow;
+        let place = self.below.at_splitter(splitter);
+        for edge in flow.graph.outs(splitter) {
+            self.add_full(alloc, line, self.below, splitter, *edge)?;
+            if let Some(compared) = self.below.compared(*edge) {
+                for other in flow.graph.ins(splitter) {
+                    let free = named(*other, false);
+                    add_both(alloc, &mut line.aims, free, compared.at_least(), place)?;
+                }
+            }
+        }
+        Ok(())
+    }
+
+    /// Adds that of the edges into a splitter, and of both together where it is a centre.
+    fn add_below_ins(
+        &self,
+        alloc: Global,
+        line: &mut Line,
+        splitter: usize,
+    ) -> Result<(), AllocError> {
+        let flow = self.flow;
+        let place = self.below.at_splitter(splitter);
+        for edge in flow.graph.ins(splitter) {
+            let free = named(*edge, false);
+            if let Some(compared) = self.below.compared(*edge) {
+                add_both(alloc, &mut line.aims, free, compared.at_least(), place)?;
+            }
+            if let Some(sum) = self.below.sum(splitter) {
+                add_both(alloc, &mut line.aims, free, sum.at_least(), place)?;
+            }
+        }
+        Ok(())
+    }
+
+    /// Adds that an edge of a splitter carries at least the mean where it is full.
+    fn add_full(
+        &self,
+        alloc: Global,
+        line: &mut Line,
+        side: &Side,
+        splitter: usize,
+        edge: usize,
+    ) -> Result<(), AllocError> {
+        if let (Some(not_full), Some(compared)) = (
+            self.literals.not_full(edge),
+            side.compared(edge),
+        ) {
+            let place = side.at_edges(splitter);
+            add_both(alloc, &mut line.aims, not_full, compared.at_least(), place)?;
+        }
+        Ok(())
+    }
+
+    /// Adds that from the inputs on a free edge carries at least the mean of the inputs that reach it.
+    fn add_above(&self, alloc: Global, line: &mut Line) -> Result<(), AllocError> {
+        let flow = self.flow;
+        for step in 0..flow.order.len() {
+            let splitter = flow.splitter_at(step, false);
+            if self.above.has(splitter) {
+                self.add_above_ins(alloc, line, splitter)?;
+                self.add_above_outs(alloc, line, splitter)?;
+            }
+        }
+        Ok(())
+    }
+
+    /// Adds that of the edges into a splitter that are full, and of both together where it is a centre and both are free.
+    fn add_above_ins(
+        &self,
+        alloc: Global,
+        line: &mut Line,
+        splitter: usize,
+    ) -> Result<(), AllocError> {
+        let flow = self.flow;
+        let mut lits = Vec::new(alloc);
+        for edge in flow.graph.ins(splitter) {
+            lits.push(named(*edge, true))?;
+        }
+        if let Some(sum) = self.above.sum(splitter) {
+            add_with(
+                alloc,
+                line,
+                &lits,
+                sum.at_least(),
+                self.above.at_splitter(splitter),
+            )?;
+        }
+        Ok(())
+    }
+
+    /// Adds that of the edges out of a splitter.
+    fn add_above_outs(
+        &self,
+        alloc: Global,
+        line: &mut Line,
+        splitter: usize,
+    ) -> Result<(), AllocError> {
+        let flow = self.flow;
+        let place = self.above.at_splitter(splitter);
+        for edge in flow.graph.outs(splitter) {
+            if let (Some(compared), Some(beyond)) = (
+                self.above.compared(*edge),
+                flow.graph.target(*edge),
+            ) {
+                self.add_full(alloc, line, self.above, beyond, *edge)?;
+                let backed = named(*edge, true);
+                add_both(alloc, &mut line.aims, backed, compared.at_least(), place)?;
+            }
+        }
+        Ok(())
+    }
+
+    /// Adds that as much begins as ends and as goes through the centres.
+    fn add_totals(
+        &self,
+        alloc: Global,
+        formula: &Formula,
+        line: &mut Line,
+    ) -> Result<(), AllocError> {
+        let place = add_sums_scope(alloc, formula, line, self.totals)?;
+        if let Some(ends) = self.totals.ends {
+            add_aim(alloc, &mut line.aims, &[ends.at_least()], place)?;
+            add_one(alloc, line, ends.at_most(), place)?;
+        }
+        if let Some(centres) = self.totals.centres {
+            add_aim(alloc, &mut line.aims, &[centres.at_least()], place)?;
+        }
+        Ok(())
+    }
+
+    /// Adds that each centre carries its share, and one no more.
+    fn add_centres(&self, alloc: Global, line: &mut Line) -> Result<(), AllocError> {
+        let places = self.add_centre_scopes(alloc, line)?;
+        self.add_shares(alloc, line, &places)?;
+        let of_all = self.add_centres_scope(alloc, line)?;
+        let below = at_most(self.below.sum(self.flow.centre()));
+        add_one(alloc, line, below, of_all)?;
+        let above = at_most(self.above.sum(self.flow.centre()));
+        match places.first() {
+            Some(place) => add_one(alloc, line, above, *place),
+            None => Ok(()),
+        }
+    }
+
+    /// Adds a scope of each centre, and tells their places.
+    fn add_centre_scopes(&self, alloc: Global, line: &mut Line) -> Result<Vec<usize>, AllocError> {
+        let mut places = Vec::new(alloc);
+        for centre in &self.flow.centres {
+            places.push(self.add_centre_scope(alloc, line, *centre)?)?;
+        }
+        Ok(places)
+    }
+
+    /// Adds that each centre carries its share, by the scopes at these places.
+    fn add_shares(
+        &self,
+        alloc: Global,
+        line: &mut Line,
+        places: &[usize],
+    ) -> Result<(), AllocError> {
+        for (centre, place) in self.flow.centres.iter().zip(places) {
+            add_one(alloc, line, at_least(self.below.sum(*centre)), *place)?;
+        }
+        Ok(())
+    }
+
+    /// Adds the scope of a centre.
+    fn add_centre_scope(
+        &self,
+        alloc: Global,
+        line: &mut Line,
+        centre: usize,
+    ) -> Result<usize, AllocError> {
+        let mut rows = Vec::new(alloc);
+        add_rows(&mut rows, self.totals.ends)?;
+        add_rows(&mut rows, self.below.sum(centre))?;
+        add_rows(&mut rows, self.above.sum(centre))?;
+        add_scope(line, rows)
+    }
+
+    /// Adds the scope of all centres.
+    fn add_centres_scope(&self, alloc: Global, line: &mut Line) -> Result<usize, AllocError> {
+        let flow = self.flow;
+        let mut rows = Vec::new(alloc);
+        add_rows(&mut rows, self.totals.ends)?;
+        add_rows(&mut rows, self.totals.centres)?;
+        for centre in &flow.centres {
+            add_rows(&mut rows, self.below.sum(*centre))?;
+        }
+        add_scope(line, rows)
+    }
+
+    /// Adds that no edge into one centre is backed: else each output gets all that it has room for.
+    fn add_outputs(&self, alloc: Global, line: &mut Line) -> Result<(), AllocError> {
+        let flow = self.flow;
+        for edge in flow.graph.ins(flow.centre()) {
+            let free = named(*edge, false);
+            for end in 0..flow.graph.edges() {
+                if flow.graph.target(end).is_none() {
+                    self.add_output(alloc, line, free, end)?;
+                }
+            }
+            add_aim(alloc, &mut line.aims, &[free], self.at_ends)?;
+        }
+        Ok(())
+    }
+
+    /// Adds that an output gets all that it has room for, or the edge is free.
+    fn add_output(
+        &self,
+        alloc: Global,
+        line: &mut Line,
+        free: NamedLit,
+        end: usize,
+    ) -> Result<(), AllocError> {
+        let flow = self.flow;
+        let Some(meets) = self.literals.meets(end) else {
+            return Ok(());
+        };
+        let way = way_to(alloc, flow, self.below, end)?;
+        for step in 0..flow.order.len() {
+            let splitter = flow.splitter_at(step, false);
+            if is_set(&way, splitter) {
+                self.add_forth(alloc, line, &[free, meets], &way, end, splitter)?;
+            }
+        }
+        add_aim(alloc, &mut line.aims, &[free, meets], self.at_ends)
+    }
+
+    /// Adds what holds of the edges out of a splitter on the way to an output.
+    fn add_forth(
+        &self,
+        alloc: Global,
+        line: &mut Line,
+        lits: &[NamedLit],
+        way: &[bool],
+        end: usize,
+        splitter: usize,
+    ) -> Result<(), AllocError> {
+        let flow = self.flow;
+        for edge in flow.graph.outs(splitter) {
+            if leads_on(flow, self.below, way, end, *edge) {
+                self.add_least(alloc, line, self.below, lits, splitter, *edge)?;
+                add_with(alloc, line, lits, named(*edge, true), usize::MAX)?;
+            }
+        }
+        Ok(())
+    }
+
+    /// Adds that an edge of a splitter carries at most the mean, and isn't full.
+    fn add_least(
+        &self,
+        alloc: Global,
+        line: &mut Line,
+        side: &Side,
+        lits: &[NamedLit],
+        splitter: usize,
+        edge: usize,
+    ) -> Result<(), AllocError> {
+        if let Some(at_most) = at_most(side.compared(edge)) {
+            add_with(alloc, line, lits, at_most, side.at_splitter(splitter))?;
+        }
+        if let Some(not_full) = self.literals.not_full(edge) {
+            add_with(alloc, line, lits, not_full, side.at_edges(splitter))?;
+        }
+        Ok(())
+    }
+
+    /// Adds that each input gives all that it has, since no edge into the centre is backed, and that nothing breaks the
+    /// property.
+    fn add_inputs(&self, alloc: Global, line: &mut Line) -> Result<(), AllocError> {
+        let flow = self.flow;
+        let place = self.above.at_splitter(flow.centre());
+        for edge in flow.graph.ins(flow.centre()) {
+            add_one(alloc, line, at_most(self.above.compared(*edge)), place)?;
+        }
+        for end in 0..flow.graph.edges() {
+            if flow.graph.start(end).is_none() {
+                self.add_input(alloc, line, end)?;
+            }
+        }
+        add_aim(alloc, &mut line.aims, &[], self.at_ends)
+    }
+
+    /// Adds that an input gives all that it has.
+    fn add_input(&self, alloc: Global, line: &mut Line, end: usize) -> Result<(), AllocError> {
+        let flow = self.flow;
+        let Some(meets) = self.literals.meets(end) else {
+            return Ok(());
+        };
+        let way = way_to(alloc, flow, self.above, end)?;
+        for step in 0..flow.order.len() {
+            let splitter = flow.splitter_at(step, true);
+            if is_set(&way, splitter) {
+                self.add_back(alloc, line, meets, &way, end, splitter)?;
+            }
+        }
+        add_aim(alloc, &mut line.aims, &[meets], self.at_ends)
+    }
+
+    /// Adds what holds of the edges into a splitter on the way to an input.
+    fn add_back(
+        &self,
+        alloc: Global,
+        line: &mut Line,
+        meets: NamedLit,
+        way: &[bool],
+        end: usize,
+        splitter: usize,
+    ) -> Result<(), AllocError> {
+        let flow = self.flow;
+        if splitter != flow.centre() {
+            for edge in flow.graph.ins(splitter) {
+                add_with(alloc, line, &[meets], named(*edge, false), usize::MAX)?;
+            }
+        }
+        for edge in flow.graph.ins(splitter) {
+            if leads_on(flow, self.above, way, end, *edge) {
+                self.add_least(alloc, line, self.above, &[meets], splitter, *edge)?;
+            }
+        }
+        Ok(())
+    }
+}
+
+/// The literal that says that a sum is at least another, where they are compared.
+fn at_least(compared: Option<Compared>) -> Option<NamedLit> {
+    Some(compared?.at_least())
+}
+
+/// The literal that says that a sum is at most another, where they are compared so.
+fn at_most(compared: Option<Compared>) -> Option<NamedLit> {
+    compared?.at_most()
+}
+
+/// The splitters between the centre and an end: those that lie to a side of it and lead to the end.
+fn way_to(alloc: Global, flow: &Flow, side: &Side, end: usize) -> Result<Vec<bool>, AllocError> {
+    let from = from_centre(alloc, flow, side)?;
+    let mut way = vec![in alloc; false; flow.graph.splitters()]?;
+    for step in 0..flow.order.len() {
+        let splitter = flow.splitter_at(step, side.is_below);
+        let leads = is_set(&from, splitter) && some_leads_on(flow, side, &way, end, splitter);
+        mark(&mut way, splitter, leads);
+    }
+    Ok(way)
+}
+
+/// The splitters that lie to a side of the centre.
+fn from_centre(alloc: Global, flow: &Flow, side: &Side) -> Result<Vec<bool>, AllocError> {
+    let mut from = vec![in alloc; false; flow.graph.splitters()]?;
+    mark(&mut from, flow.centre(), true);
+    for step in 0..flow.order.len() {
+        let splitter = flow.splitter_at(step, !side.is_below);
+        if is_set(&from, splitter) {
+            go_on(flow, side, &mut from, splitter);
+        }
+    }
+    Ok(from)
+}
+
+/// Marks the splitters to which edges of a splitter lead on a side.
+fn go_on(flow: &Flow, side: &Side, marks: &mut [bool], splitter: usize) {
+    for edge in side.near(flow, splitter) {
+        if let Some(next) = side.beyond(flow, *edge) {
+            mark(marks, next, true);
+        }
+    }
+}
+
+/// Whether an edge of a splitter is the one at an end, or leads to a splitter on the way.
+fn some_leads_on(flow: &Flow, side: &Side, way: &[bool], end: usize, splitter: usize) -> bool {
+    for edge in side.near(flow, splitter) {
+        if leads_on(flow, side, way, end, *edge) {
+            return true;
+        }
+    }
+    false
+}
+
+/// Whether an edge is the one at an end, or leads to a splitter on the way.
+fn leads_on(flow: &Flow, side: &Side, way: &[bool], end: usize, edge: usize) -> bool {
+    if edge == end {
+        return true;
+    }
+    match side.beyond(flow, edge) {
+        Some(next) => is_set(way, next),
+        None => false,
+    }
+}

@@ -1,0 +1,217 @@
+//! What lies to one side of the centres of a network: the splitters and edges below them or above them, with the means of the
+//! ends that these reach.
+use crate::defining::Compared;
+use crate::means::{Term, merged, shared, single};
+use hint_graphs::{Flow, is_set, mark};
+use std::alloc::{AllocError, Global};
+
+/// What lies to one side of the centres.
+#[derive(Drop)]
+pub struct Side {
+    /// Whether it is the side of the outputs.
+    pub is_below: bool,
+    /// For each splitter whether it is a centre, or lies to this side of one.
+    splitters: Vec<bool>,
+    /// For each splitter whether it is the centre at which an argument ends, or lies to this side of it.
+    chosen: Vec<bool>,
+    /// For each splitter of these the mean of the ends that an edge reaches by it.
+    means: Vec<Vec<Term>>,
+    /// For each edge the comparison of its flow with the mean of the ends that it reaches.
+    compared: Vec<Option<Compared>>,
+    /// For each splitter, where it is a centre, the comparison of what goes through it with the ends that it reaches.
+    sums: Vec<Option<Compared>>,
+    /// For each splitter the place of its scope.
+    at_splitters: Vec<usize>,
+    /// For each splitter the place of the scope of its edges.
+    at_edges: Vec<usize>,
+}
+
+impl Side {
+    /// The side of the centres with nothing compared yet.
+    pub fn of(alloc: Global, flow: &Flow, is_below: bool) -> Result<Side, AllocError> {
+        let mut side = Side::empty(alloc, flow, is_below)?;
+        for centre in &flow.centres {
+            mark(&mut side.splitters, *centre, true);
+        }
+        mark(&mut side.chosen, flow.centre(), true);
+        for step in 0..flow.order.len() {
+            let splitter = flow.splitter_at(step, !is_below);
+            side.reach(flow, splitter);
+        }
+        for step in 0..flow.order.len() {
+            let splitter = flow.splitter_at(step, is_below);
+            side.weigh(alloc, flow, splitter)?;
+        }
+        Ok(side)
+    }
+
+    fn empty(alloc: Global, flow: &Flow, is_below: bool) -> Result<Side, AllocError> {
+        let splitters = flow.graph.splitters();
+        let edges = flow.graph.edges();
+        Ok(Side {
+            is_below,
+            splitters: vec![in alloc; false; splitters]?,
+            chosen: vec![in alloc; false; splitters]?,
+            means: no_means(alloc, splitters)?,
+            compared: vec![in alloc; None; edges]?,
+            sums: vec![in alloc; None; splitters]?,
+            at_splitters: vec![in alloc; usize::MAX; splitters]?,
+            at_edges: vec![in alloc; usize::MAX; splitters]?,
+        })
+    }
+
+    /// Whether a splitter is a centre, or lies to this side of one.
+    pub fn has(&self, splitter: usize) -> bool {
+        is_set(&self.splitters, splitter)
+    }
+
+    /// Whether a splitter is the centre at which an argument ends, or lies to this side of it.
+    pub fn is_chosen(&self, splitter: usize) -> bool {
+        is_set(&self.chosen, splitter)
+    }
+
+    /// The edges of a splitter that lead to this side.
+    pub fn near<'a>(&self, flow: &'a Flow, splitter: usize) -> &'a [usize] {
+        if self.is_below {
+            flow.graph.outs(splitter)
+        } else {
+            flow.graph.ins(splitter)
+        }
+    }
+
+    /// How many edges of a splitter lead to the other side.
+    fn far_edges(&self, flow: &Flow, splitter: usize) -> usize {
+        if self.is_below {
+            flow.graph.ins(splitter).len()
+        } else {
+            flow.graph.outs(splitter).len()
+        }
+    }
+
+    /// The splitter to which an edge leads on this side, where it isn't cut.
+    pub fn beyond(&self, flow: &Flow, edge: usize) -> Option<usize> {
+        if is_set(&flow.cut, edge) {
+            None
+        } else if self.is_below {
+            flow.graph.target(edge)
+        } else {
+            flow.graph.start(edge)
+        }
+    }
+
+    /// Reaches what lies to this side of a splitter that was reached.
+    fn reach(&mut self, flow: &Flow, splitter: usize) {
+        if self.has(splitter) {
+            for edge in self.near(flow, splitter) {
+                if let Some(next) = self.beyond(flow, *edge) {
+                    mark(&mut self.splitters, next, true);
+                    let chosen = self.is_chosen(splitter) || self.is_chosen(next);
+                    mark(&mut self.chosen, next, chosen);
+                }
+            }
+        }
+    }
+
+    /// Makes the mean at a splitter that was reached.
+    fn weigh(&mut self, alloc: Global, flow: &Flow, splitter: usize) -> Result<(), AllocError> {
+        if self.has(splitter) && splitter < self.means.len() {
+            let sum = self.sum_at(alloc, flow, splitter)?;
+            let among = self.far_edges(flow, splitter);
+            self.means[splitter] = shared(alloc, &sum, among)?;
+        }
+        Ok(())
+    }
+
+    /// The sum of the means of the ends that the edges of a splitter reach.
+    pub fn sum_at(
+        &self,
+        alloc: Global,
+        flow: &Flow,
+        splitter: usize,
+    ) -> Result<Vec<Term>, AllocError> {
+        let mut terms = Vec::new(alloc);
+        for edge in self.near(flow, splitter) {
+            self.add_mean(flow, *edge, &mut terms)?;
+        }
+        merged(alloc, &mut terms)
+    }
+
+    /// Adds the mean of the ends that an edge reaches.
+    fn add_mean(&self, flow: &Flow, edge: usize, terms: &mut Vec<Term>) -> Result<(), AllocError> {
+        match self.beyond(flow, edge) {
+            Some(next) => terms.extend_from_slice(self.mean(next))?,
+            None => terms.push(single(edge))?,
+        }
+        Ok(())
+    }
+
+    /// The mean of the ends that an edge reaches by a splitter.
+    pub fn mean(&self, splitter: usize) -> &[Term] {
+        match self.means.get(splitter) {
+            Some(mean) => mean,
+            None => &[],
+        }
+    }
+
+    /// How many terms the means have with which edges are compared.
+    pub fn terms(&self) -> usize {
+        let mut count: usize = 0;
+        for mean in &self.means {
+            count = count.saturating_add(mean.len());
+        }
+        count
+    }
+
+    /// Takes in the comparison of an edge.
+    pub fn compare(&mut self, edge: usize, compared: Option<Compared>) {
+        if edge < self.compared.len() {
+            self.compared[edge] = compared;
+        }
+    }
+
+    /// Takes in the comparison at a centre.
+    pub fn compare_sum(&mut self, splitter: usize, compared: Option<Compared>) {
+        if splitter < self.sums.len() {
+            self.sums[splitter] = compared;
+        }
+    }
+
+    /// The comparison of an edge.
+    pub fn compared(&self, edge: usize) -> Option<Compared> {
+        *self.compared.get(edge)?
+    }
+
+    /// The comparison at a centre.
+    pub fn sum(&self, splitter: usize) -> Option<Compared> {
+        *self.sums.get(splitter)?
+    }
+
+    /// Takes in the scopes of a splitter and of its edges.
+    pub fn place(&mut self, splitter: usize, at_splitter: usize, at_edges: usize) {
+        if splitter < self.at_splitters.len() && splitter < self.at_edges.len() {
+            self.at_splitters[splitter] = at_splitter;
+            self.at_edges[splitter] = at_edges;
+        }
+    }
+
+    /// The place of the scope of a splitter.
+    pub fn at_splitter(&self, splitter: usize) -> usize {
+        self.at_splitters
+            .get(splitter)
+            .copied()
+            .unwrap_or(usize::MAX)
+    }
+
+    /// The place of the scope of the edges of a splitter.
+    pub fn at_edges(&self, splitter: usize) -> usize {
+        self.at_edges.get(splitter).copied().unwrap_or(usize::MAX)
+    }
+}
+
+fn no_means(alloc: Global, count: usize) -> Result<Vec<Vec<Term>>, AllocError> {
+    let mut means = Vec::new(alloc);
+    for _ in 0..count {
+        means.push(Vec::new(alloc))?;
+    }
+    Ok(means)
+}

@@ -1,0 +1,340 @@
+//! The argument for `unlimited`: what goes through the centres of a network, splitters from which all outputs are reached
+//! evenly and to which all inputs lead so.
+//!
+//! From the outputs back a backed edge carries at least the mean of the outputs that it reaches, and from the inputs on a free
+//! one at least that of the inputs that reach it. So each centre carries at least its share of all that flows, and no more.
+//! Where an edge into a centre is backed, each edge below carries the mean, so each is full or backed, and the outputs get all
+//! that they have room for. Where none is, the inputs give all that they have.
+use crate::defining::{Compared, compare};
+use crate::delivering::argue;
+use crate::means::{Term, single};
+use crate::side::Side;
+use bt_cnf::Formula;
+use bt_net::Net;
+use hint_graphs::{Flow, has_no_preference, list_at, places_of};
+use hint_scopes::{Line, Next, add_scope, in_order, rows_alone};
+use std::alloc::{AllocError, Global};
+
+/// Of fewer splitters than this nothing is defined: the logs are shorter so.
+const LEAST_SPLITTERS: u32 = 4;
+
+/// The most terms of the means on both sides.
+const MOST_TERMS: usize = 1 << 17;
+
+/// The rows of a formula, by what they speak of.
+#[derive(Drop)]
+struct Rows {
+    /// For each edge the rows that speak of it alone.
+    alone: Vec<Vec<usize>>,
+    /// For each edge those of these that say what it is at most.
+    upper: Vec<Vec<usize>>,
+    /// For each splitter the place of its scope.
+    places: Vec<usize>,
+}
+
+/// What is compared of all that flows.
+#[derive(Clone, Copy)]
+pub struct Totals {
+    /// The flows that begin, with those that end.
+    pub ends: Option<Compared>,
+    /// The flows that begin, with what goes through the centres.
+    pub centres: Option<Compared>,
+}
+
+/// Adds the argument. There is none for a network of few splitters or one input, where a splitter prefers an edge, without
+/// centres, and where the means have too many terms.
+pub fn add_unlimited(
+    alloc: Global,
+    net: &Net,
+    formula: &Formula,
+    line: &mut Line,
+) -> Result<(), AllocError> {
+    if net.splitters() < LEAST_SPLITTERS || net.inputs() == 1 || !has_no_preference(net) {
+        return Ok(());
+    }
+    let flow = Flow::of(alloc, net)?;
+    if flow.centres.is_empty() {
+        return Ok(());
+    }
+    add_sides(alloc, formula, line, &flow)
+}
+
+/// Adds the argument by what lies to both sides of the centres.
+fn add_sides(
+    alloc: Global,
+    formula: &Formula,
+    line: &mut Line,
+    flow: &Flow,
+) -> Result<(), AllocError> {
+    let mut below = Side::of(alloc, flow, true)?;
+    let mut above = Side::of(alloc, flow, false)?;
+    if below.terms().saturating_add(above.terms()) > MOST_TERMS {
+        return Ok(());
+    }
+    add_between(alloc, formula, line, flow, &mut below, &mut above)
+}
+
+/// Adds the argument by both sides of the centres, with nothing compared yet.
+fn add_between(
+    alloc: Global,
+    formula: &Formula,
+    line: &mut Line,
+    flow: &Flow,
+    below: &mut Side,
+    above: &mut Side,
+) -> Result<(), AllocError> {
+    let totals = define(alloc, formula, line, flow, below, above)?;
+    let rows = Rows::of(alloc, formula, flow.graph.net)?;
+    place(alloc, line, flow, below, &rows)?;
+    place(alloc, line, flow, above, &rows)?;
+    argue(alloc, formula, line, flow, below, above, totals)
+}
+
+/// Defines all comparisons.
+fn define(
+    alloc: Global,
+    formula: &Formula,
+    line: &mut Line,
+    flow: &Flow,
+    below: &mut Side,
+    above: &mut Side,
+) -> Result<Totals, AllocError> {
+    let mut next = Next::behind(formula);
+    define_edges(alloc, line, flow, &mut next, below)?;
+    define_edges(alloc, line, flow, &mut next, above)?;
+    for centre in &flow.centres {
+        define_sum(alloc, line, flow, &mut next, below, *centre)?;
+        define_sum(alloc, line, flow, &mut next, above, *centre)?;
+    }
+    define_totals(alloc, line, flow, &mut next)
+}
+
+/// Defines the comparisons of the edges of a side.
+fn define_edges(
+    alloc: Global,
+    line: &mut Line,
+    flow: &Flow,
+    next: &mut Next,
+    side: &mut Side,
+) -> Result<(), AllocError> {
+    for splitter in 0..flow.graph.splitters() {
+        if side.has(splitter) {
+            for edge in side.near(flow, splitter) {
+                define_edge(alloc, line, flow, next, side, splitter, *edge)?;
+            }
+        }
+    }
+    Ok(())
+}
+
+/// Defines the comparison of an edge of a splitter with the mean of the ends that it reaches, where it isn't one of them.
+fn define_edge(
+    alloc: Global,
+    line: &mut Line,
+    flow: &Flow,
+    next: &mut Next,
+    side: &mut Side,
+    splitter: usize,
+    edge: usize,
+) -> Result<(), AllocError> {
+    if let Some(beyond) = side.beyond(flow, edge) {
+        let both = side.is_chosen(splitter);
+        let compared = compare(alloc, line, next, &[single(edge)], side.mean(beyond), both)?;
+        side.compare(edge, compared);
+    }
+    Ok(())
+}
+
+/// Defines the comparison at a centre.
+fn define_sum(
+    alloc: Global,
+    line: &mut Line,
+    flow: &Flow,
+    next: &mut Next,
+    side: &mut Side,
+    centre: usize,
+) -> Result<(), AllocError> {
+    let mut flows = Vec::new(alloc);
+    for edge in flow.graph.ins(centre) {
+        flows.push(single(*edge))?;
+    }
+    let ends = side.sum_at(alloc, flow, centre)?;
+    let both = centre == flow.centre();
+    let compared = compare(alloc, line, next, &flows, &ends, both)?;
+    side.compare_sum(centre, compared);
+    Ok(())
+}
+
+/// Defines the comparisons of all that flows.
+fn define_totals(
+    alloc: Global,
+    line: &mut Line,
+    flow: &Flow,
+    next: &mut Next,
+) -> Result<Totals, AllocError> {
+    let begin = begin_terms(alloc, flow)?;
+    let end = end_terms(alloc, flow)?;
+    let through = through_terms(alloc, flow)?;
+    Ok(Totals {
+        ends: compare(alloc, line, next, &begin, &end, true)?,
+        centres: compare(alloc, line, next, &begin, &through, false)?,
+    })
+}
+
+/// The flows that begin.
+fn begin_terms(alloc: Global, flow: &Flow) -> Result<Vec<Term>, AllocError> {
+    let mut terms = Vec::new(alloc);
+    for edge in 0..flow.graph.edges() {
+        if flow.begins(edge) {
+            terms.push(single(edge))?;
+        }
+    }
+    Ok(terms)
+}
+
+/// The flows that end.
+fn end_terms(alloc: Global, flow: &Flow) -> Result<Vec<Term>, AllocError> {
+    let mut terms = Vec::new(alloc);
+    for edge in 0..flow.graph.edges() {
+        if flow.ends(edge) {
+            terms.push(single(edge))?;
+        }
+    }
+    Ok(terms)
+}
+
+/// What goes through the centres.
+fn through_terms(alloc: Global, flow: &Flow) -> Result<Vec<Term>, AllocError> {
+    let mut terms = Vec::new(alloc);
+    for centre in &flow.centres {
+        for edge in flow.graph.ins(*centre) {
+            terms.push(single(*edge))?;
+        }
+    }
+    Ok(terms)
+}
+
+/// Adds the scopes of the splitters of a side and of their edges.
+fn place(
+    alloc: Global,
+    line: &mut Line,
+    flow: &Flow,
+    side: &mut Side,
+    rows: &Rows,
+) -> Result<(), AllocError> {
+    for splitter in 0..flow.graph.splitters() {
+        if side.has(splitter) {
+            let at_splitter = rows.at_splitter(alloc, line, flow, side, splitter)?;
+            let at_splitter = add_scope(line, at_splitter)?;
+            let at_edges = rows.at_edges(alloc, flow, side, splitter)?;
+            let at_edges = add_scope(line, at_edges)?;
+            side.place(splitter, at_splitter, at_edges);
+        }
+    }
+    Ok(())
+}
+
+impl Rows {
+    /// The rows of a network's formula.
+    fn of(alloc: Global, formula: &Formula, net: &Net) -> Result<Rows, AllocError> {
+        let alone = rows_alone(alloc, net, formula.rows())?;
+        let upper = upper_of(alloc, formula, &alone)?;
+        Ok(Rows {
+            alone,
+            upper,
+            places: places_of(alloc, net, false)?,
+        })
+    }
+
+    /// The rows of a splitter, and the comparisons of its edges.
+    fn at_splitter(
+        &self,
+        alloc: Global,
+        line: &Line,
+        flow: &Flow,
+        side: &Side,
+        splitter: usize,
+    ) -> Result<Vec<usize>, AllocError> {
+        let place = self.places.get(splitter).copied().unwrap_or(0);
+        let mut rows = Vec::from_slice(alloc, list_at(&line.scopes, place))?;
+        for edge in flow.graph.ins(splitter) {
+            add_rows(&mut rows, side.compared(*edge))?;
+        }
+        for edge in flow.graph.outs(splitter) {
+            add_rows(&mut rows, side.compared(*edge))?;
+        }
+        add_rows(&mut rows, side.sum(splitter))?;
+        Ok(rows)
+    }
+
+    /// The rows of the edges of a splitter that lead to a side: what each carries, compared with the ends.
+    fn at_edges(
+        &self,
+        alloc: Global,
+        flow: &Flow,
+        side: &Side,
+        splitter: usize,
+    ) -> Result<Vec<usize>, AllocError> {
+        let mut rows = Vec::new(alloc);
+        for edge in side.near(flow, splitter) {
+            rows.extend_from_slice(list_at(&self.alone, *edge))?;
+            add_rows(&mut rows, side.compared(*edge))?;
+            if let Some(beyond) = side.beyond(flow, *edge) {
+                self.add_upper(&mut rows, side.mean(beyond))?;
+            }
+        }
+        in_order(&mut rows)?;
+        Ok(rows)
+    }
+
+    /// Adds the rows that say what the columns of terms are at most.
+    fn add_upper(&self, rows: &mut Vec<usize>, terms: &[Term]) -> Result<(), AllocError> {
+        for term in terms {
+            rows.extend_from_slice(list_at(&self.upper, term.column))?;
+        }
+        Ok(())
+    }
+}
+
+/// Adds the rows of a comparison, where there is one.
+pub fn add_rows(rows: &mut Vec<usize>, compared: Option<Compared>) -> Result<(), AllocError> {
+    match compared {
+        Some(compared) => compared.add_rows(rows),
+        None => Ok(()),
+    }
+}
+
+/// For each edge the rows that say what its flow, or the load or the room at its end, is at most.
+fn upper_of(
+    alloc: Global,
+    formula: &Formula,
+    alone: &[Vec<usize>],
+) -> Result<Vec<Vec<usize>>, AllocError> {
+    let mut upper = Vec::new(alloc);
+    for list in alone {
+        upper.push(upper_among(alloc, formula, list)?)?;
+    }
+    Ok(upper)
+}
+
+/// The rows of a list whose first coefficient is negative.
+fn upper_among(alloc: Global, formula: &Formula, list: &[usize]) -> Result<Vec<usize>, AllocError> {
+    let mut rows = Vec::new(alloc);
+    for row in list {
+        if is_upper(formula, *row) {
+            rows.push(*row)?;
+        }
+    }
+    Ok(rows)
+}
+
+/// Whether the first coefficient of a row is negative.
+fn is_upper(formula: &Formula, row: usize) -> bool {
+    match formula.rows().get(row) {
+        Some(row) => match row.terms().first() {
+            Some((_, coefficient)) => coefficient.numerator() < 0,
+            None => false,
+        },
+        None => false,
+    }
+}

@@ -1,0 +1,192 @@
+//! The state in which all edges are free and each splitter divides evenly what comes, or all are backed and it draws evenly.
+use bt_frac::Frac;
+use hint_equations::Equations;
+use hint_graphs::{Graph, ends_of};
+use std::alloc::{AllocError, Global};
+
+/// The most edges times ends for which the state is looked for.
+const MOST_WORK: usize = 1 << 16;
+
+/// A state as sums: for each edge the loads, or where all are backed the rooms, with their coefficients. The columns ascend.
+#[derive(Drop)]
+pub struct Dividing {
+    sums: Vec<Vec<(usize, Frac)>>,
+}
+
+impl Dividing {
+    /// The state, where it is found.
+    pub fn of(alloc: Global, graph: &Graph, backed: bool) -> Result<Option<Dividing>, AllocError> {
+        let ends = ends_of(alloc, graph, backed)?;
+        if ends.len().saturating_mul(graph.edges()) > MOST_WORK {
+            return Ok(None);
+        }
+        let mut dividing = Dividing {
+            sums: no_sums(alloc, graph.edges())?,
+        };
+        if dividing.fill(alloc, graph, backed, &ends)? {
+            Ok(Some(dividing))
+        } else {
+            Ok(None)
+        }
+    }
+
+    /// Takes in what each edge carries of what comes at ends. Tells whether that was found.
+    fn fill(
+        &mut self,
+        alloc: Global,
+        graph: &Graph,
+        backed: bool,
+        ends: &[usize],
+    ) -> Result<bool, AllocError> {
+        for end in ends {
+            match numbers_of(alloc, graph, backed, *end)? {
+                Some(numbers) => self.add_all(end_column(graph, *end, backed), &numbers)?,
+                None => return Ok(false),
+            }
+        }
+        Ok(true)
+    }
+
+    /// Adds the numbers of a column.
+    fn add_all(&mut self, column: usize, numbers: &[Frac]) -> Result<(), AllocError> {
+        for edge in 0..self.sums.len() {
+            if let Some(number) = numbers.get(edge) {
+                if number.numerator() != 0 {
+                    self.sums[edge].push((column, *number))?;
+                }
+            }
+        }
+        Ok(())
+    }
+
+    /// The sum of an edge.
+    pub fn sum(&self, edge: usize) -> &[(usize, Frac)] {
+        match self.sums.get(edge) {
+            Some(sum) => sum,
+            None => &[],
+        }
+    }
+
+    /// Whether some edges have the same sum.
+    pub fn are_even(&self, edges: &[usize]) -> bool {
+        match edges.first() {
+            Some(first) => edges
+                .iter()
+                .all(|edge| are_same(self.sum(*first), self.sum(*edge))),
+            None => false,
+        }
+    }
+}
+
+/// So many empty sums.
+fn no_sums(alloc: Global, count: usize) -> Result<Vec<Vec<(usize, Frac)>>, AllocError> {
+    let mut sums = Vec::new(alloc);
+    for _ in 0..count {
+        sums.push(Vec::new(alloc))?;
+    }
+    Ok(sums)
+}
+
+/// Whether two sums are the same.
+fn are_same(first: &[(usize, Frac)], second: &[(usize, Frac)]) -> bool {
+    if first.len() != second.len() {
+        return false;
+    }
+    for (one, other) in first.iter().zip(second) {
+        if one.0 != other.0 || one.1 != other.1 {
+            return false;
+        }
+    }
+    true
+}
+
+/// The column of the load at an edge, or of the room.
+fn end_column(graph: &Graph, edge: usize, backed: bool) -> usize {
+    let number = graph.end(edge, backed).unwrap_or(0);
+    let before = if backed {
+        graph.net.inputs() as usize
+    } else {
+        0
+    };
+    graph.edges().saturating_add(before).saturating_add(number)
+}
+
+/// What each edge carries where this one carries 1, and no other one at an end.
+fn numbers_of(
+    alloc: Global,
+    graph: &Graph,
+    backed: bool,
+    end: usize,
+) -> Result<Option<Vec<Frac>>, AllocError> {
+    let edges = graph.edges();
+    let mut equations = Equations::new(alloc, edges)?;
+    for edge in 0..edges {
+        let terms = terms_of(alloc, graph, backed, end, edge)?;
+        equations.add(alloc, &terms)?;
+    }
+    equations.solve(alloc, vec![in alloc; Frac::whole(0); edges]?)
+}
+
+/// The terms that say what an edge carries.
+fn terms_of(
+    alloc: Global,
+    graph: &Graph,
+    backed: bool,
+    end: usize,
+    edge: usize,
+) -> Result<Vec<(usize, Frac)>, AllocError> {
+    let splitter = if backed {
+        graph.target(edge)
+    } else {
+        graph.start(edge)
+    };
+    let Some(splitter) = splitter else {
+        return end_terms(alloc, graph.edges(), edge, edge == end);
+    };
+    let ins = graph.ins(splitter);
+    let outs = graph.outs(splitter);
+    if backed {
+        shared_terms(alloc, edge, outs, ins.len())
+    } else {
+        shared_terms(alloc, edge, ins, outs.len())
+    }
+}
+
+/// The terms that say that an edge carries its part of what others carry, among so many.
+fn shared_terms(
+    alloc: Global,
+    edge: usize,
+    others: &[usize],
+    among: usize,
+) -> Result<Vec<(usize, Frac)>, AllocError> {
+    let mut terms = Vec::new(alloc);
+    terms.push((edge, whole(among)))?;
+    for other in others {
+        terms.push((*other, Frac::whole(-1)))?;
+    }
+    Ok(terms)
+}
+
+/// The terms that say that an edge carries 1, which is the number of a column, or nothing.
+fn end_terms(
+    alloc: Global,
+    column: usize,
+    edge: usize,
+    carries: bool,
+) -> Result<Vec<(usize, Frac)>, AllocError> {
+    let mut terms = Vec::new(alloc);
+    terms.push((edge, Frac::whole(1)))?;
+    if carries {
+        terms.push((column, Frac::whole(-1)))?;
+    }
+    Ok(terms)
+}
+
+/// One or two.
+fn whole(count: usize) -> Frac {
+    if count == 2 {
+        Frac::whole(2)
+    } else {
+        Frac::whole(1)
+    }
+}

@@ -1,0 +1,274 @@
+//! Plans of layouts: splitters in rows, and chains between them.
+use crate::climbing::moved;
+use crate::lines::View;
+use crate::ordering::{Rows, orders, ranked};
+use crate::random::Random;
+use crate::seats::stands_of;
+use bt_model::Request;
+use bt_parts::{Cell, DIRS, Dir, Kind, Part, Tier};
+use hint_numbering::{Numbered, goes_north, number_by_structure};
+use hint_routing::{Chain, Negotiated, Stand, Step, negotiate};
+use std::alloc::{AllocError, Global};
+
+/// How often splitters are placed at most.
+const SEEDS: usize = 400;
+
+/// How many chains are laid at most, but for those of the last placing.
+const MOST_CHAINS: u32 = 40_000;
+
+/// How many of them are kept for moves of the best placing.
+const CLIMBING_CHAINS: u32 = 30_000;
+
+/// How many moves are tried at most.
+const MOVES: usize = 4096;
+
+/// The state of the generator that moves splitters.
+const FIRST_STATE: u64 = 5;
+
+/// A plan is looked for only where there are so many cells for each splitter.
+const LEAST_ROOM: u64 = 8;
+
+/// A plan of a layout.
+#[derive(Drop)]
+pub struct Sketch {
+    /// The splitters, each with its number in the network.
+    pub splitters: Vec<(usize, Part)>,
+    /// The belts and underground pieces.
+    pub others: Vec<Part>,
+}
+
+/// Adds a belt or an underground piece.
+fn push_part(
+    parts: &mut Vec<Part>,
+    tier: Tier,
+    kind: Kind,
+    cell: Cell,
+    dir: Dir,
+) -> Result<(), AllocError> {
+    parts.push(Part {
+        kind,
+        tier,
+        dir,
+        cell,
+    })?;
+    Ok(())
+}
+
+/// Adds an entrance, and its exit so far ahead.
+fn push_pair(
+    parts: &mut Vec<Part>,
+    tier: Tier,
+    cell: Cell,
+    dir: Dir,
+    length: u32,
+) -> Result<(), AllocError> {
+    let mut exit = cell;
+    for _ in 0..length {
+        exit = exit.next(dir);
+    }
+    push_part(parts, tier, Kind::Entrance, cell, dir)?;
+    push_part(parts, tier, Kind::Exit, exit, dir)
+}
+
+/// Adds the parts of a chain.
+fn push_chain(parts: &mut Vec<Part>, tier: Tier, chain: &Chain) -> Result<(), AllocError> {
+    for step in &chain.steps {
+        match *step {
+            Step::Belt(cell, dir) => push_part(parts, tier, Kind::Belt, cell, dir)?,
+            Step::Pair(cell, dir, length) => push_pair(parts, tier, cell, dir, length)?,
+        }
+    }
+    Ok(())
+}
+
+/// The parts of chains.
+fn others_of(alloc: Global, tier: Tier, chains: &[Option<Chain>]) -> Result<Vec<Part>, AllocError> {
+    let mut parts = Vec::new(alloc);
+    for chain in chains {
+        if let Some(chain) = chain {
+            push_chain(&mut parts, tier, chain)?;
+        }
+    }
+    Ok(parts)
+}
+
+/// The splitters that stand so, with these numbers.
+fn splitters_of(
+    alloc: Global,
+    tier: Tier,
+    numbers: &[usize],
+    stands: &[Stand],
+) -> Result<Vec<(usize, Part)>, AllocError> {
+    let mut splitters = Vec::new(alloc);
+    for (number, stand) in numbers.iter().zip(stands.iter()) {
+        let Stand { cell, dir } = *stand;
+        let part = Part {
+            kind: Kind::Splitter,
+            tier,
+            dir,
+            cell,
+        };
+        splitters.push((*number, part))?;
+    }
+    Ok(splitters)
+}
+
+/// What placing splitters came to so far.
+#[derive(Drop)]
+struct Progress {
+    /// How many chains may still be laid.
+    left: u32,
+    /// The least number of claims that were shared, and where the splitters stood.
+    shared: usize,
+    stands: Vec<Stand>,
+}
+
+/// The plan in which the splitters stand so, where no chains share a claim. Else they may be the best so far.
+fn sketch_with(
+    alloc: Global,
+    request: &Request,
+    network: &Numbered,
+    progress: &mut Progress,
+    stands: Vec<Stand>,
+) -> Result<Option<Sketch>, AllocError> {
+    let tier = request.tier();
+    match negotiate(alloc, request, &network.edges, &stands, &mut progress.left)? {
+        Negotiated::Settled(chains) => Ok(Some(Sketch {
+            splitters: splitters_of(alloc, tier, &network.splitters, &stands)?,
+            others: others_of(alloc, tier, &chains)?,
+        })),
+        Negotiated::Shared(shared) => {
+            if shared <= progress.shared {
+                progress.shared = shared;
+                progress.stands = stands;
+            }
+            Ok(None)
+        }
+    }
+}
+
+/// The view of a seed: all goes to the north where it may, or by turns in each direction.
+fn view_of(request: &Request, seed: usize) -> View {
+    let dir = if goes_north(request) {
+        Dir::North
+    } else {
+        match DIRS.get(seed % 4) {
+            Some(dir) => *dir,
+            None => Dir::North,
+        }
+    };
+    View {
+        rect: request.rect(),
+        dir,
+    }
+}
+
+/// The order of a seed: each serves four times before the next one does.
+fn order_of(orders: &[Rows], seed: usize) -> Option<&Rows> {
+    orders.get((seed / 4) % orders.len().max(1))
+}
+
+/// The plan of a seed, where one is found.
+fn sketch_by(
+    alloc: Global,
+    request: &Request,
+    network: &Numbered,
+    orders: &[Rows],
+    progress: &mut Progress,
+    seed: usize,
+) -> Result<Option<Sketch>, AllocError> {
+    let Some(rows) = order_of(orders, seed) else {
+        return Ok(None);
+    };
+    let view = view_of(request, seed);
+    let moves = if goes_north(request) { seed } else { seed / 4 };
+    let splitters = network.splitters.len();
+    match stands_of(alloc, request, view, rows, splitters, moves)? {
+        Some(stands) => sketch_with(alloc, request, network, progress, stands),
+        None => Ok(None),
+    }
+}
+
+/// A plan by the first seed that comes to one.
+fn sketch_by_seeds(
+    alloc: Global,
+    request: &Request,
+    network: &Numbered,
+    orders: &[Rows],
+    progress: &mut Progress,
+) -> Result<Option<Sketch>, AllocError> {
+    let seeds = if network.splitters.is_empty() {
+        1
+    } else {
+        SEEDS
+    };
+    for seed in 0..seeds {
+        if progress.left <= CLIMBING_CHAINS {
+            break;
+        }
+        let found = sketch_by(alloc, request, network, orders, progress, seed)?;
+        if found.is_some() {
+            return Ok(found);
+        }
+    }
+    Ok(None)
+}
+
+/// A plan in which splitters stand where they stood at best, but for some that are moved one by one: a move is kept where
+/// no more claims are shared after it.
+fn sketch_by_moves(
+    alloc: Global,
+    request: &Request,
+    network: &Numbered,
+    progress: &mut Progress,
+) -> Result<Option<Sketch>, AllocError> {
+    let mut random = Random::new(FIRST_STATE);
+    for _ in 0..MOVES {
+        if progress.left == 0 || progress.stands.is_empty() {
+            break;
+        }
+        let stands = moved(alloc, request, &progress.stands, &mut random)?;
+        let found = sketch_with(alloc, request, network, progress, stands)?;
+        if found.is_some() {
+            return Ok(found);
+        }
+    }
+    Ok(None)
+}
+
+/// A plan by a seed, or else by moves of the best placing that seeds came to.
+fn sketch_of(
+    alloc: Global,
+    request: &Request,
+    network: &Numbered,
+    orders: &[Rows],
+) -> Result<Option<Sketch>, AllocError> {
+    let mut progress = Progress {
+        left: MOST_CHAINS,
+        shared: usize::MAX,
+        stands: Vec::new(alloc),
+    };
+    let found = sketch_by_seeds(alloc, request, network, orders, &mut progress)?;
+    if found.is_some() {
+        return Ok(found);
+    }
+    sketch_by_moves(alloc, request, network, &mut progress)
+}
+
+/// Whether there is room for belts beside the splitters.
+fn has_room(request: &Request) -> bool {
+    let rect = request.rect();
+    let cells = u64::from(rect.width).saturating_mul(u64::from(rect.height));
+    cells >= u64::from(request.net().splitters()).saturating_mul(LEAST_ROOM)
+}
+
+/// A plan of a layout of a request, where one is found.
+pub fn find_sketch(alloc: Global, request: &Request) -> Result<Option<Sketch>, AllocError> {
+    if !has_room(request) {
+        return Ok(None);
+    }
+    let network = number_by_structure(alloc, request)?;
+    let ranks = ranked(alloc, &network.edges, network.splitters.len())?;
+    let orders = orders(alloc, &network.edges, &ranks)?;
+    sketch_of(alloc, request, &network, &orders)
+}

@@ -1,0 +1,198 @@
+//! Chains that negotiate for cells: each is laid anew at the prices of the day, until no two have the same.
+use crate::ends::{Ends, ends_of};
+use crate::finding::{Chain, cheapest};
+use crate::ledger::{Claim, Ledger};
+use crate::poses::{Pose, poses_of};
+use crate::stand::Stand;
+use bt_model::Request;
+use bt_net::Edge;
+use bt_parts::{Cell, Rect, inside};
+use hint_numbering::{is_blocked, leaving};
+use std::alloc::{AllocError, Global};
+
+/// The most rounds.
+const ROUNDS: usize = 50;
+
+/// After so many rounds in which no fewer claims are shared than in an earlier one no more are made.
+const PATIENCE: usize = 8;
+
+/// What a round comes to.
+#[derive(Clone, Copy)]
+enum Round {
+    /// No two chains claim the same.
+    Settled,
+    /// So many claims are shared.
+    Shared(usize),
+    /// An edge has no chain.
+    Stuck,
+}
+
+/// What chains come to.
+#[derive(Drop)]
+pub enum Negotiated {
+    /// No two of the chains of the edges claim the same.
+    Settled(Vec<Option<Chain>>),
+    /// At best so many claims were shared.
+    Shared(usize),
+}
+
+/// A rectangle with its poses, and how long an underground pair may be.
+#[derive(Clone, Copy)]
+struct Ground<'a> {
+    rect: Rect,
+    poses: &'a [Pose],
+    reach: u32,
+}
+
+/// Closes the ground of a cell.
+fn close_ground(ledger: &mut Ledger, rect: Rect, cell: Cell) {
+    if inside(&rect, cell) {
+        ledger.close(Claim::Ground(cell));
+    }
+}
+
+/// Closes the cells of a splitter, and those in front of it where no edge leaves it.
+fn close_stand(ledger: &mut Ledger, rect: Rect, stand: Stand, is_last: bool) {
+    for half in &stand.halves() {
+        close_ground(ledger, rect, *half);
+        if is_last {
+            close_ground(ledger, rect, stand.front(*half));
+        }
+    }
+}
+
+/// Closes the blocks of a request.
+fn close_blocks(ledger: &mut Ledger, request: &Request, poses: &[Pose]) {
+    for pose in poses {
+        if inside(&request.rect(), pose.cell) && is_blocked(request, pose.cell) {
+            ledger.close(Claim::Ground(pose.cell));
+        }
+    }
+}
+
+/// The ledger before the first round.
+fn first_ledger(
+    alloc: Global,
+    request: &Request,
+    edges: &[Edge],
+    stands: &[Stand],
+    poses: &[Pose],
+) -> Result<Ledger, AllocError> {
+    let rect = request.rect();
+    let mut ledger = Ledger::new(alloc, rect)?;
+    for (splitter, stand) in stands.iter().enumerate() {
+        close_stand(&mut ledger, rect, *stand, leaving(edges, splitter) == 0);
+    }
+    if !request.blocks().is_empty() {
+        close_blocks(&mut ledger, request, poses);
+    }
+    Ok(ledger)
+}
+
+/// Lays the chain of an edge anew, where it has none or shares a claim. Whether it has one then.
+fn lay_anew(
+    alloc: Global,
+    ledger: &mut Ledger,
+    ground: Ground,
+    ends: &Ends,
+    chain: &mut Option<Chain>,
+) -> Result<bool, AllocError> {
+    if let Some(before) = chain {
+        if !ledger.is_shared(&before.claims) {
+            return Ok(true);
+        }
+        ledger.give_back(&before.claims);
+    }
+    let Ground { rect, poses, reach } = ground;
+    let next = cheapest(alloc, rect, ledger, poses, ends, reach)?;
+    if let Some(after) = &next {
+        ledger.take(&after.claims);
+    }
+    *chain = next;
+    Ok(chain.is_some())
+}
+
+/// A round over all edges.
+fn lay_round(
+    alloc: Global,
+    ledger: &mut Ledger,
+    ground: Ground,
+    ends: &[Ends],
+    chains: &mut [Option<Chain>],
+) -> Result<Round, AllocError> {
+    for (ends, chain) in ends.iter().zip(chains.iter_mut()) {
+        if !lay_anew(alloc, ledger, ground, ends, chain)? {
+            return Ok(Round::Stuck);
+        }
+    }
+    let count = ledger.raise();
+    if count > 0 {
+        Ok(Round::Shared(count))
+    } else {
+        Ok(Round::Settled)
+    }
+}
+
+/// Rounds until no two chains claim the same, or no fewer do. The least number of claims that were shared after a round.
+fn rounds(
+    alloc: Global,
+    ledger: &mut Ledger,
+    ground: Ground,
+    ends: &[Ends],
+    chains: &mut [Option<Chain>],
+) -> Result<usize, AllocError> {
+    let (mut least, mut idle) = (usize::MAX, 0usize);
+    for _ in 0..ROUNDS {
+        let shared = match lay_round(alloc, ledger, ground, ends, chains)? {
+            Round::Settled => 0,
+            Round::Shared(count) => count,
+            Round::Stuck => break,
+        };
+        idle = if shared < least {
+            0
+        } else {
+            idle.saturating_add(1)
+        };
+        least = least.min(shared);
+        if least == 0 || idle >= PATIENCE {
+            break;
+        }
+    }
+    Ok(least)
+}
+
+/// No chain for each of so many edges.
+fn no_chains(alloc: Global, count: usize) -> Result<Vec<Option<Chain>>, AllocError> {
+    let mut chains = Vec::new(alloc);
+    for _ in 0..count {
+        chains.push(None)?;
+    }
+    Ok(chains)
+}
+
+/// Lays chains for the edges of a network whose splitters stand so. How many chains are laid is taken from what is left.
+pub fn negotiate(
+    alloc: Global,
+    request: &Request,
+    edges: &[Edge],
+    stands: &[Stand],
+    left: &mut u32,
+) -> Result<Negotiated, AllocError> {
+    let rect = request.rect();
+    let poses = poses_of(alloc, rect)?;
+    let ends = ends_of(alloc, request, edges, stands)?;
+    let mut ledger = first_ledger(alloc, request, edges, stands, &poses)?;
+    let mut chains = no_chains(alloc, edges.len())?;
+    let ground = Ground {
+        rect,
+        poses: &poses,
+        reach: request.tier().reach(),
+    };
+    let shared = rounds(alloc, &mut ledger, ground, &ends, &mut chains)?;
+    *left = left.saturating_sub(ledger.taken().max(1));
+    if shared == 0 {
+        Ok(Negotiated::Settled(chains))
+    } else {
+        Ok(Negotiated::Shared(shared))
+    }
+}

@@ -1,0 +1,204 @@
+//! The placement formula of a request, in which layouts are looked for that are near one that is there.
+use crate::around::{cell_of, count};
+use crate::board::Board;
+use crate::contents::contents;
+use crate::pairing::add_pairs;
+use crate::turned::add_turned;
+use bt_facts::{Content, Fact};
+use bt_model::Request;
+use bt_parts::{Cell, DIRS, Dir, Rect};
+use bt_place::{Numbers, encode_place};
+use hint_numbering::{Named, name_by_structure};
+use hint_solver::{Answer, Literal, Random, Solver, load};
+use std::alloc::{AllocError, Global};
+
+/// So many scores are raised by chance before a trial.
+const RAISED: usize = 200;
+
+/// As many conflicts take as long as taking literals for granted does.
+const GRANTING: u64 = 20;
+
+/// As many conflicts take as long as a trial that has none.
+const TRYING: u64 = 5;
+
+/// Which layouts are looked for.
+#[derive(Clone, Copy, PartialEq, Eq)]
+pub enum Likeness {
+    /// Any.
+    Any,
+    /// Those that half a turn of the rectangle maps onto themselves.
+    Turned,
+}
+
+/// The placement formula of a request, and a search of it.
+#[derive(Drop)]
+pub struct Field {
+    named: Named,
+    numbers: Numbers,
+    solver: Solver,
+    contents: Vec<Content>,
+    /// What was spent beside conflicts, in conflicts.
+    beside: u64,
+}
+
+/// Has cells stay empty where they can, which is chosen first.
+fn wish_empty(solver: &mut Solver, numbers: &Numbers, rect: Rect) {
+    for place in 0..count(rect) {
+        let fact = Fact::Kind(cell_of(rect, place), Content::Empty);
+        if let Some(variable) = numbers.find(fact) {
+            solver.wish(variable);
+        }
+    }
+}
+
+/// The search of a request's placement formula, with more clauses.
+fn solver_of(
+    alloc: Global,
+    request: &Request,
+    numbers: &Numbers,
+    likeness: Likeness,
+) -> Result<Solver, AllocError> {
+    let formula = encode_place(alloc, request)?;
+    let mut solver = load(alloc, &formula)?;
+    let mut clause = Vec::new(alloc);
+    add_pairs(&mut clause, &mut solver, numbers, request)?;
+    if likeness == Likeness::Turned {
+        add_turned(alloc, &mut solver, numbers, request)?;
+    }
+    wish_empty(&mut solver, numbers, request.rect());
+    Ok(solver)
+}
+
+/// The field of a request with numbers by the structure.
+fn field_of(alloc: Global, named: Named, likeness: Likeness) -> Result<Field, AllocError> {
+    let numbers = Numbers::new(alloc, &named.request)?;
+    let solver = solver_of(alloc, &named.request, &numbers, likeness)?;
+    let contents = contents(alloc)?;
+    Ok(Field {
+        named,
+        numbers,
+        solver,
+        contents,
+        beside: 0,
+    })
+}
+
+impl Field {
+    /// The field of a request in a rectangle, where it has one there.
+    pub fn new(
+        alloc: Global,
+        request: &Request,
+        rect: Rect,
+        likeness: Likeness,
+    ) -> Result<Option<Field>, AllocError> {
+        match name_by_structure(alloc, request, rect)? {
+            Some(named) => Ok(Some(field_of(alloc, named, likeness)?)),
+            None => Ok(None),
+        }
+    }
+
+    /// The rectangle.
+    pub fn rect(&self) -> Rect {
+        self.named.request.rect()
+    }
+
+    /// The number of a splitter in the network of the first request.
+    pub fn first_number(&self, splitter: usize) -> usize {
+        self.named.first_number(splitter)
+    }
+
+    /// How long its searches took, in conflicts.
+    pub fn effort(&self) -> u64 {
+        self.solver.conflicts().saturating_add(self.beside)
+    }
+
+    /// The literal that is true where a fact holds, or where it doesn't; none where it has no variable.
+    fn literal(&self, fact: Fact, holds: bool) -> Option<Literal> {
+        Literal::new(self.numbers.find(fact)?, holds)
+    }
+
+    /// Adds that a cell holds this, or that it doesn't.
+    pub fn push(
+        &self,
+        literals: &mut Vec<Literal>,
+        cell: Cell,
+        content: Content,
+        holds: bool,
+    ) -> Result<(), AllocError> {
+        if let Some(literal) = self.literal(Fact::Kind(cell, content), holds) {
+            literals.push(literal)?;
+        }
+        Ok(())
+    }
+
+    /// Whether a fact holds in the model that was found last.
+    fn says(&self, fact: Fact) -> bool {
+        match self.literal(fact, true) {
+            Some(literal) => self.solver.is_true(literal),
+            None => false,
+        }
+    }
+
+    /// What a cell holds in the model that was found last.
+    fn content(&self, cell: Cell) -> Content {
+        for content in &self.contents {
+            if self.says(Fact::Kind(cell, *content)) {
+                return *content;
+            }
+        }
+        Content::Empty
+    }
+
+    /// What all cells hold in the model that was found last.
+    pub fn board(&self, alloc: Global) -> Result<Board, AllocError> {
+        let mut board = Board::new(alloc, self.rect())?;
+        for place in 0..count(self.rect()) {
+            let cell = cell_of(self.rect(), place);
+            board.put(cell, self.content(cell));
+        }
+        Ok(board)
+    }
+
+    /// The direction of a splitter whose lesser half stands on a cell in the model that was found last; none where it
+    /// doesn't stand there.
+    fn turned(&self, splitter: usize, cell: Cell) -> Option<Dir> {
+        for dir in &DIRS {
+            if self.says(Fact::At(splitter, cell, *dir)) {
+                return Some(*dir);
+            }
+        }
+        None
+    }
+
+    /// Where a splitter stands in the model that was found last.
+    pub fn stand(&self, splitter: usize) -> Option<(Cell, Dir)> {
+        for place in 0..count(self.rect()) {
+            let cell = cell_of(self.rect(), place);
+            if let Some(dir) = self.turned(splitter, cell) {
+                return Some((cell, dir));
+            }
+        }
+        None
+    }
+
+    /// Takes literals for granted until this is called again. Whether that can be.
+    pub fn grant(&mut self, alloc: Global, literals: &[Literal]) -> Result<bool, AllocError> {
+        self.beside = self.beside.saturating_add(GRANTING);
+        self.solver.grant(alloc, literals)
+    }
+
+    /// Whether a layout has what is taken for granted and these literals, as at most so many conflicts show.
+    pub fn has_layout(
+        &mut self,
+        alloc: Global,
+        literals: &[Literal],
+        conflicts: u64,
+        random: &mut Random,
+    ) -> Result<bool, AllocError> {
+        self.beside = self.beside.saturating_add(TRYING);
+        let answer = self
+            .solver
+            .attempt(alloc, literals, conflicts, RAISED, random)?;
+        Ok(answer == Answer::Found)
+    }
+}

@@ -1,0 +1,81 @@
+//! Laying a window anew.
+use crate::board::Board;
+use crate::field::Field;
+use crate::window::{Window, filled_cells, outside};
+use bt_facts::Content;
+use bt_parts::Cell;
+use hint_solver::{Literal, Random};
+use std::alloc::{AllocError, Global};
+
+/// How many trials are made in a window.
+const TRIALS: usize = 8;
+
+/// The most conflicts of a trial.
+const CONFLICTS: u64 = 30;
+
+/// So many cells more may be filled after a trial, now and then.
+const MORE: usize = 2;
+
+/// One in so many trials may fill more cells.
+const SELDOM: usize = 4;
+
+/// What a trial wants of a cell that isn't empty: in one of four that it is, in two that it holds something else.
+fn wanted(
+    alloc: Global,
+    field: &Field,
+    cell: Cell,
+    content: Content,
+    random: &mut Random,
+) -> Result<Vec<Literal>, AllocError> {
+    let mut literals = Vec::new(alloc);
+    match random.below(4) {
+        0 => field.push(&mut literals, cell, Content::Empty, true)?,
+        1 | 2 => field.push(&mut literals, cell, content, false)?,
+        _ => {}
+    }
+    Ok(literals)
+}
+
+/// Whether a layout with so many filled cells may take the place of one with so many.
+fn is_taken(before: usize, after: usize, random: &mut Random) -> bool {
+    after <= before || after <= before.saturating_add(MORE) && random.below(SELDOM) == 0
+}
+
+/// One trial in a window, with what lies outside taken for granted.
+fn try_once(
+    alloc: Global,
+    field: &mut Field,
+    board: &mut Board,
+    window: Window,
+    random: &mut Random,
+) -> Result<(), AllocError> {
+    let cells = filled_cells(alloc, board, window)?;
+    let Some(cell) = cells.get(random.below(cells.len())) else {
+        return Ok(());
+    };
+    let literals = wanted(alloc, field, *cell, board.get(*cell), random)?;
+    if field.has_layout(alloc, &literals, CONFLICTS, random)? {
+        let after = field.board(alloc)?;
+        if is_taken(board.filled(), after.filled(), random) {
+            *board = after;
+        }
+    }
+    Ok(())
+}
+
+/// Lays a window by chance anew, more than once.
+pub fn lay_anew(
+    alloc: Global,
+    field: &mut Field,
+    board: &mut Board,
+    random: &mut Random,
+) -> Result<(), AllocError> {
+    let window = Window::by_chance(random, board.rect());
+    let literals = outside(alloc, field, board, window)?;
+    if field.grant(alloc, &literals)? {
+        for _ in 0..TRIALS {
+            try_once(alloc, field, board, window, random)?;
+        }
+    }
+    Ok(())
+}
