@@ -115,7 +115,7 @@ class Differ:
 def formula_text(net, formula):
     """The text of a flow formula."""
     columns = [*(f"f{e}" for e in range(len(net.edges))), *(f"c{i}" for _, i in net.ends("i")),
-               *(f"d{o}" for _, o in net.ends("o"))]
+               *(f"d{o}" for _, o in net.ends("o")), "x"]
     rows = [["c row", variable, relation, bound, *(f"{number}*{columns[column]}" for column, number in terms)]
             for variable, (terms, relation, bound) in formula.rows.items()]
     clauses = [[*clause, 0] for clause in formula.clauses]

@@ -38,11 +38,18 @@ class Model:
     def __init__(self, formula, columns, marks):
         self.columns, self.truths = list(columns), dict(enumerate(marks, 1))
         self.learn(formula)
+        self.deny(formula)
 
     def learn(self, formula):
         """Takes each variable of a row that is new to be true just where the row is met."""
         rows = {variable: row for variable, row in formula.rows.items() if variable not in self.truths}
         self.truths.update({variable: is_met(row, self.columns) for variable, row in rows.items()})
+
+    def deny(self, formula):
+        """Takes each variable of a row to be false that would imply another which is false, as of ends that aren't short."""
+        for clause in formula.clauses:
+            if len(clause) == 2 and -clause[0] in formula.rows and not self.is_true(clause[1]):
+                self.truths[-clause[0]] = False
 
     def is_true(self, literal):
         return self.truths[abs(literal)] == (literal > 0)
@@ -91,7 +98,7 @@ class Extending:
         """A state that is a model of the formula of a property, or of none, and definitions of it."""
         loads, rooms, flows, backed = state
         formula = opinion.FlowFormula(net, prop)
-        model, lines = Model(formula, [*flows, *loads, *rooms], backed), []
+        model, lines = Model(formula, [*flows, *loads, *rooms, *simplest.level(net, prop, flows)], backed), []
         if not model.meets(formula):
             self.fail(f"no model of the formula, {prop}", net, lines)
         model.weaken(chance, formula)

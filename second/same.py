@@ -80,12 +80,17 @@ def check_pair(nets, pair):
     need(shown, 54, "NotBreaking", "kept", 0)
 
 
+def caps_at_ends(net):
+    """The caps of the edges of inputs and of outputs, each in the order of their numbers."""
+    return [[net.edges[edge].cap for edge in edges] for edges in (net.input_edges(), net.output_edges())]
+
+
 def check_same(text):
     """Ends with an Answer to two designs and a certificate."""
-    first, _, _, behind = opinion.read_design(text, opinion.Extras.NOTHING)
+    first, _, _, behind = opinion.read_design(text, opinion.Extras.NOTHING, in_basic_belts=True)
     text = text[behind:]
-    second, _, _, behind = opinion.read_design(text, opinion.Extras.NOTHING)
-    need(all(first.counts[letter] == second.counts[letter] for letter in "io"), 47, "Ends")
+    second, _, _, behind = opinion.read_design(text, opinion.Extras.NOTHING, in_basic_belts=True)
+    need(caps_at_ends(first) == caps_at_ends(second), 47, "Ends")
     lines = opinion.lines_of(text[behind:])
     if lines[0] == "same":
         opinion.check_steps(same_formula(first, second), "same", lines)

@@ -119,12 +119,23 @@ def passes(net, prop, loads, rooms, flows, backed):
     return all(passed for _, _, passed in opinion.tests(net, prop, loads, rooms, flows, backed))
 
 
+def level(net, prop, flows):
+    """The level with which a property compares ends, where it does: the greatest flow among them."""
+    if prop not in opinion.FAIR:
+        return []
+    return [max(flows[e] for e in ends_of(net)[prop == "fair"])]
+
+
 def loss(net, prop, loads, rooms, flows):
     """By how much the property fails."""
     inputs, outputs = ends_of(net)
     if prop in ("balanced", "drawn-evenly"):
         shown = [flows[e] for e in (outputs if prop == "balanced" else inputs)]
         return max(shown) - min(shown)
+    if prop in opinion.FAIR:
+        most, = level(net, prop, flows)
+        ends = zip(outputs, rooms) if prop == "fair" else zip(inputs, loads)
+        return max(min(amount, most) - flows[e] for e, amount in ends)
     return min(sum(loads), sum(rooms)) - sum(flows[e] for e in outputs)
 
 

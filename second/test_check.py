@@ -19,6 +19,7 @@ HERE = Path(__file__).resolve().parent
 sys.path.insert(0, str(HERE))
 
 import opinion
+import simplest
 
 BELT = "net 1 1 0\nedge i0 o0\nend\n"
 SPLITTER = "net 2 2 1\nedge i0 s0\nedge i1 s0\nedge s0 o0\nedge s0 o1\nend\n"
@@ -27,6 +28,7 @@ BUTTERFLY = ("net 4 4 4\nedge i0 s0\nedge i1 s0\nedge i2 s1\nedge i3 s1\nedge s0
              "edge s1 s2\nedge s1 s3\nedge s2 o0\nedge s2 o1\nedge s3 o2\nedge s3 o3\nend\n")
 FIRST = "net 1 2 1\nedge i0 s0\nedge s0 o0\nedge s0 o1\ngive s0 1\nend\n"
 TAKEN = "net 2 1 1\nedge i0 s0\nedge i1 s0\nedge s0 o0\ntake s0 0\nend\n"
+UNEVEN = "net 1 3 2\nedge i0 s0\nedge s0 o0\nedge s0 s1\nedge s1 o1\nedge s1 o2\nend\n"
 EXPRESS = "net 1 2 1\nedge i0 s0 4\nedge s0 o0\nedge s0 o1 4\nend\n"
 PINNED = "net 1 1 0\nedge i0 o0\npin i0 0 0\npin o0 2 0\nblock 1 0\nend\n"
 WIDE = "1/85070591730234615865843651857942052864"
@@ -37,6 +39,8 @@ BREAKING = [
     (TAKEN, "drawn-evenly", "1 1", "1", "1 0 1", "b b b"),
     ("net 2 2 2\nedge i0 s0\nedge i1 s0\nedge s0 s1\nedge s1 o0\nedge s1 o1\nend\n", "full", "1 1", "1 1",
      "1/2 1/2 1 1/2 1/2", "b b f f f"),
+    (UNEVEN, "fair", "1", "1/2 1 1", "1 1/2 1/2 1/4 1/4", "f f f f f"), (FIRST, "fair", "1", "1 1", "1 1 0", "f f f"),
+    (TAKEN, "drawn-fairly", "1 1", "1", "1 0 1", "b b b"),
 ]
 YES = ["yes unlimited", "f -10 -16 0 1 1", "f -12 -17 0 1 1", "r 0 14 15 16 17 11 13 0", "end"]
 VERSIONS = {1: 281479271677952, 2: 562949953421312}
@@ -143,6 +147,10 @@ class States(unittest.TestCase):
             (BELT, "full", ("1", "1", "2", "f"), 9, refused + "range 0"),
             (BELT, "unlimited", ("1", "1/2", "1/2", "b"), 9, refused + "kept 0"),
             (BELT, "unlimited", ("1", "1/2", "1", "b"), 9, refused + "output 0"),
+            (UNEVEN, "fair", ("1", "1/8 1 1", "1 1/8 7/8 7/16 7/16", "f b f f f"), 9, refused + "kept 0"),
+            (UNEVEN, "fair", ("1", "1 0 1", "1 1/2 1/2 0 1/2", "f f f b f"), 9, refused + "kept 0"),
+            (UNEVEN, "fair", ("1", "1/2 1 1", "1 1/2 1/2 1/4 1/4", "f f f f f"), 0, breaks),
+            (UNEVEN, "balanced", ("1", "1/2 1 1", "1 1/2 1/2 1/4 1/4", "f f f f f"), 9, refused + "room 0"),
             (LOOP, "unlimited", (*loop[:3], "b f f b b f f"), 9, refused + "even-out 1"),
             (LOOP, "unlimited", (*loop[:3], "b b f f b f f"), 9, refused + "backing 1"),
         ]
@@ -238,9 +246,10 @@ class Formulas(unittest.TestCase):
                     near = chance.choice(lists)
                     near[chance.randrange(len(near))] = chance.choice((*near, *lists[2], Fraction(0), Fraction(1)))
                     backed[chance.randrange(len(backed))] ^= chance.randrange(3) == 0
-                columns = lists[2] + lists[0] + lists[1]
+                columns = lists[2] + lists[0] + lists[1] + simplest.level(net, prop, lists[2])
                 true = {n + 1 for n, mark in enumerate(backed) if mark}
                 true |= {variable for variable, row in formula.rows.items() if holds(row, columns)}
+                true -= {-c[0] for c in formula.clauses if len(c) == 2 and -c[0] in formula.rows and c[1] not in true}
                 meets = all(any((literal > 0) == (abs(literal) in true) for literal in c) for c in formula.clauses)
                 breaks = all(passed for _, _, passed in opinion.tests(net, prop, *lists, backed))
                 self.assertEqual(meets, breaks, (text, prop, lists, backed))

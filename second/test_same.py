@@ -59,13 +59,29 @@ class Sameness(unittest.TestCase):
                          (5, "wide second conserve 0\n"))
 
     def test_refused(self):
-        for lines, refused in (((*BELT, *BELTS), "47 Ends"), ((*BELT[:-1], "net"), "40 NetLine 3"),
+        fast = (BELT[0], f"{BELT[1]} 2", BELT[2])
+        for lines, refused in (((*BELT, *BELTS), "47 Ends"), ((*BELT, *fast), "47 Ends"), ((*fast, *BELT), "47 Ends"), ((*BELT[:-1], "net"), "40 NetLine 3"),
                                ((*BELT, "net"), "40 NetLine 1"), ((*BELT, "", *BELTS[:2], "end"), "40 NetLine 3"),
                                ((*PREFERRING, *SPLITTER), "40 NetLine 6"), ((*SPLITTER, *PREFERRING), "40 NetLine 6"),
                                ((*BELT[:-1], "pin i0 0 0", "end"), "40 NetLine 3"), ((*BELT, "{}"), "20 NotBlueprint"),
                                ((*BELT, " {1}"), "10 Json 1"), ((*BELT,), "40 NetLine 1")):
             self.assertEqual(answer(*lines), (3, f"refused {refused}\n"), lines)
         self.assertEqual(answer(*BELT, *BELT, *BELT), (9, "refused 50 CertLine 1\n"))
+
+    def test_tiers(self):
+        def belts(*tiers):
+            return '{"blueprint":{"entities":[' + ",".join(
+                f'{{"name":"{tier}transport-belt","position":{{"x":0.5,"y":{y}.5}}}}' for y, tier in enumerate(tiers)) + "]}}"
+
+        differ = ("differ", "load 2", "room 2", "flow 2", "mark f", "flow 2", "mark f", "end")
+        for first, second, told in ((("fast-",), ("fast-", "fast-"), (9, "refused 54 NotBreaking kept 0\n")),
+                                    (("",), ("fast-",), (3, "refused 47 Ends\n")),
+                                    (("fast-", "fast-"), ("fast-", ""), (3, "refused 47 Ends\n")),
+                                    (("", "fast-"), ("", ""), (9, "refused 54 NotBreaking first load 0\n"))):
+            self.assertEqual(answer(belts(*first), belts(*second), *differ), told, (first, second))
+        self.assertEqual(answer(belts("fast-"), *BELT, *differ), (3, "refused 47 Ends\n"))
+        self.assertEqual(answer(belts("fast-"), BELT[0], f"{BELT[1]} 2", BELT[2], *differ),
+                         (9, "refused 54 NotBreaking kept 0\n"))
 
     def test_partners(self):
         chance = random.Random(1)

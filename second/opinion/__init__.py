@@ -10,7 +10,7 @@ each byte. To be read in this order:
     parts           the belts, underground pieces and splitters of a blueprint
     recovery        the network that they show
     designs         a network, by its text or by a blueprint
-    properties      the four properties
+    properties      the six properties
     states          the laws of a steady state, and when a property fails in it
     formula         the flow formula, which says the same in clauses and rows
     definitions     rows, columns and variables that a certificate brings
@@ -30,7 +30,7 @@ from opinion.lines import lines_of, nothing_after
 from opinion.networks import WAYS, Edge, Extras, Net, Pin, read_net
 from opinion.numbers import fraction_of, plus
 from opinion.parts import BELT, ENTRANCE, EXIT, SIDES, SPLITTER, STEPS, Part, moved, parts_of
-from opinion.properties import FULL_LOADS, FULL_ROOMS, PROPERTIES
+from opinion.properties import FAIR, FULL_LOADS, FULL_ROOMS, PROPERTIES
 from opinion.recovery import recover
 from opinion.states import read_state, tests
 from opinion.words import run

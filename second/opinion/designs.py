@@ -8,18 +8,19 @@ from opinion.parts import parts_of
 from opinion.recovery import recover
 
 
-def read_design(text, extras=Extras.PRIORITIES, alone=False):
+def read_design(text, extras=Extras.PRIORITIES, alone=False, in_basic_belts=False):
     """The network at the front of a text, and the place behind it and the blanks there.
 
     What begins with a brace, behind blanks or not, is a blueprint, and all else a network text.
-    A design that stands alone has nothing but blanks behind it.
+    A design that stands alone has nothing but blanks behind it. The caps of a blueprint may be
+    asked in basic belts.
     """
     start = past_blanks(text, 0)
     is_blueprint = text[start:start + 1] == "{"
     if is_blueprint:
         root, behind = json_value(text, start)
         parts = parts_of(root, extras is Extras.PRIORITIES)
-        read = Read(recover(parts)[0], [], [], behind)
+        read = Read(recover(parts, in_basic_belts)[0], [], [], behind)
     else:
         read = read_net(text, extras)
     rest = past_blanks(text, read.behind)
@@ -28,3 +29,13 @@ def read_design(text, extras=Extras.PRIORITIES, alone=False):
     elif alone:
         need(rest == len(text), 40, "NetLine", text.count("\n", 0, rest) + 1)
     return read._replace(behind=rest)
+
+
+def own_tier(text):
+    """The tier of all parts of the blueprint at the front of a text, or the slowest one where they
+    have several; and that of a network text."""
+    start = past_blanks(text, 0)
+    if text[start:start + 1] != "{":
+        return 0
+    tiers = {part.tier for part in parts_of(json_value(text, start)[0], False)}
+    return tiers.pop() if len(tiers) == 1 else 0

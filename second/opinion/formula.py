@@ -7,7 +7,7 @@ comparison of flows, loads and rooms. What refutes the formula shows that the pr
 from collections import Counter
 from itertools import product
 
-from opinion.properties import EVEN, FULL_LOADS, FULL_ROOMS
+from opinion.properties import EVEN, FAIR, FULL_LOADS, FULL_ROOMS
 
 
 class Formula:
@@ -53,7 +53,8 @@ class Formula:
 class FlowFormula(Formula):
     """The flow formula of a network and a property; of no property it says the laws alone.
 
-    Columns are the flows, then the loads, then the rooms.
+    Columns are the flows, then the loads, then the rooms, and of a property that compares ends
+    where some are short, a level.
     """
 
     def __init__(self, net, prop):
@@ -75,6 +76,8 @@ class FlowFormula(Formula):
         self.ends_are_full(prop)
         if prop in EVEN:
             self.is_uneven(self.rooms if prop == "balanced" else self.loads)
+        elif prop in FAIR:
+            self.is_unfair(self.rooms if prop == "fair" else self.loads)
         elif prop:
             self.is_less()
 
@@ -154,6 +157,16 @@ class FlowFormula(Formula):
         first, *others = [edge for _, edge in ends]
         pairs = [pair for other in others for pair in ((first, other), (other, first))]
         self.clause([self.row([more], [less], ">") for more, less in pairs])
+
+    def is_unfair(self, ends):
+        """The property fails: an end that is short is below a level, and another reaches it."""
+        level = len(self.net.edges) + len(self.loads) + len(self.rooms)
+        below = [self.row([level], [edge], ">") for _, edge in ends]
+        short = [self.row([column], [edge], ">") for column, edge in ends]
+        self.clause(below)
+        for is_below, is_short in zip(below, short):
+            self.clause([-is_below, is_short])
+        self.clause([self.row([edge], [level]) for _, edge in ends])
 
     def is_less(self):
         """The property fails: the loads are more than what outputs carry, and the rooms too."""

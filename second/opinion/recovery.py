@@ -22,7 +22,7 @@ class Chain(NamedTuple):
     place: tuple  # None where the chain is an output
 
 
-def recover(parts):
+def recover(parts, in_basic_belts=False):
     """The network that parts show, the first part of each input, and the last of each output.
 
     Splitters are numbered in the order of their entities; inputs and outputs from west to east,
@@ -45,7 +45,7 @@ def recover(parts):
     most = max(len(firsts), len(lasts), len(splitters), len(chains))
     need(most <= MOST, 41, "TooLarge")
     need(firsts and lasts, 42, "NoEnds")
-    net = net_of(parts, chains, splitters, firsts, lasts)
+    net = net_of(parts, chains, splitters, firsts, lasts, in_basic_belts)
     return net, [parts[i] for i in firsts], [parts[i] for i in lasts]
 
 
@@ -140,14 +140,15 @@ def chains_of(onto, firsts, splitters):
     return chains
 
 
-def net_of(parts, chains, splitters, firsts, lasts):
+def net_of(parts, chains, splitters, firsts, lasts, in_basic_belts):
     """The network of chains, each of which is an edge.
 
     Where all parts are of one tier, each cap is 1, else that of the slowest part of the chain
-    and of the splitters at its ends. The edge at a half that a splitter prefers comes first.
+    and of the splitters at its ends, as it always is in basic belts. The edge at a half that a
+    splitter prefers comes first.
     """
     net = Net(len(firsts), len(lasts), len(splitters))
-    is_one_tier = len({part.tier for part in parts}) == 1
+    is_one_tier = len({part.tier for part in parts}) == 1 and not in_basic_belts
     starts = {**splitters, **{i: ("i", n) for n, i in enumerate(firsts)}}
     targets = {**splitters, **{i: ("o", n) for n, i in enumerate(lasts)}}
     for edge, ((i, half), pieces, place) in enumerate(chains):

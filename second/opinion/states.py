@@ -12,7 +12,7 @@ from typing import NamedTuple
 from opinion.answers import WIDE_STATE, Answer, need
 from opinion.lines import nothing_after
 from opinion.numbers import fraction_of, plus
-from opinion.properties import EVEN, FULL_LOADS, FULL_ROOMS
+from opinion.properties import EVEN, FAIR, FULL_LOADS, FULL_ROOMS
 
 MARKS = {"f": 0, "b": 1}  # free, backed
 
@@ -79,6 +79,8 @@ def tests(net, prop, loads, rooms, flows, backed):
     yield from outputs_take(state, outputs)
     if prop in EVEN:
         yield from is_uneven(state, outputs if prop == "balanced" else inputs)
+    elif prop in FAIR:
+        yield from is_unfair(state, outputs if prop == "fair" else inputs)
     elif prop:
         yield from is_less(state, outputs)
 
@@ -144,6 +146,12 @@ def outputs_take(state, outputs):
 def is_uneven(state, ends):
     """`balanced` fails where two outputs carry unlike flows, `drawn-evenly` where inputs do."""
     yield "kept", 0, len({state.flows[end.edge] for end in ends}) > 1
+
+
+def is_unfair(state, ends):
+    """`fair` fails where an output that is short carries less than another; or an input does."""
+    most = max(state.flows[end.edge] for end in ends)
+    yield "kept", 0, any(state.flows[end.edge] < min(end.amount, most) for end in ends)
 
 
 def is_less(state, outputs):

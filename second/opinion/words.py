@@ -5,7 +5,7 @@ import re
 from opinion.answers import EVIDENCE_REFUSED, INPUT_REFUSED, TOO_LONG, UNREADABLE, USAGE
 from opinion.answers import Answer, need
 from opinion.certificates import check_steps, read_dimacs
-from opinion.designs import read_design
+from opinion.designs import own_tier, read_design
 from opinion.formula import FlowFormula
 from opinion.json_text import json_value
 from opinion.layouts import lays, read_request
@@ -68,18 +68,19 @@ def text_of(read, most):
 def words_of_laid(words):
     """The rectangle, the tier and the request's path: `--grid WxH [--tier TIER] REQUEST`.
 
-    They stand in this order. An option may be one word, `--grid=WxH`, or two.
+    They stand in this order. An option may be one word, `--grid=WxH`, or two. Where no tier is
+    named, it is the request's own.
     """
     grid, rest = option("--grid", words)
     tier, behind = option("--tier", rest)
     if tier in TIERS and behind:
         rest = behind
     else:
-        tier = TIERS[0]
+        tier = None
     rectangle = GRID.fullmatch(grid or "")
     if not rectangle or len(rest) != 1 or not rest[0]:
         raise Answer(USAGE, "usage")
-    return (int(rectangle[1]), int(rectangle[2])), TIERS.index(tier), rest[0]
+    return (int(rectangle[1]), int(rectangle[2])), tier and TIERS.index(tier), rest[0]
 
 
 def option(name, words):
@@ -133,10 +134,11 @@ def laid(request, rectangle, tier, blueprint):
 
     The blueprint is evidence, so a refusal of it has that status, with the same words.
     """
-    request = read_request(request, *rectangle)
+    wanted = read_request(request, *rectangle)
+    tier = own_tier(request) if tier is None else tier
     try:
         root, behind = json_value(blueprint, 0)
-        is_laid = lays(*request, *rectangle, tier, parts_of(root, False))
+        is_laid = lays(*wanted, *rectangle, tier, parts_of(root, False))
         rest = past_blanks(blueprint, behind)
         need(rest == len(blueprint), 10, "Json", rest)
     except Answer as refused:

@@ -1,4 +1,5 @@
--- Certificates: the lines of definitions, and then those of steps, each of which is valid in its turn, the line `end`, and blanks.
+-- Certificates: the lines of definitions, and then those of steps, each of which is valid in its turn, the line `end`,
+-- and blanks.
 use Rattle.std.specs.Prelude.{◌≡◌, ◌≢◌, ℕ, ◌+◌, ◌-◌, ◌<◌, ◌⊎◌, List, [], ◌∷◌, ◌++◌, All, length, map, codes, Result, Ok, Err}
 use Rattle.bt_text.specs.Blanks.{IsBlank}
 use Rattle.bt_text.specs.Lines.{IsFirstLine, BeginsWithLines, line_feeds}
@@ -115,7 +116,8 @@ pub record EndsOpen (f : FormulaParts) (text : List ℕ) : Type 0 where
   pub comes : ComesTo f text steps end_line after
   pub open_end : EndsEmpty (log_of steps) → ⊥
 
--- the right answer to a text of steps, whose first line has this number: it spells a log that refutes the formula; or this
+-- the right answer to a text of steps, whose first line has this number: it spells a log that refutes the formula; or
+-- this
 -- comes first in it for which it doesn't
 abbrev pub AreStepsRead : ℕ → FormulaParts → List ℕ → Result (Unit {0}) CertFault → Type 0
 AreStepsRead first f text (Ok done) = SpellsRefutation f text
@@ -134,7 +136,8 @@ IsOfVariable (Comparison form) = ⊥
 IsOfVariable (Cases var first second) = ⊥
 IsOfVariable (Disjunction lits) = Unit {0}
 
--- the definition may stand in a certificate where this is the formula so far: it may be written and may extend the formula,
+-- the definition may stand in a certificate where this is the formula so far: it may be written and may extend the
+-- formula,
 -- and where the formula has no rows, it is of a variable
 pub record MayStand (f : FormulaParts) (d : Definition) : Type 0 where
   pub written : MayBeWritten d
@@ -156,7 +159,8 @@ AreDefined most f text [] rest = (rest ≡ text) × ((most ≡ 0) ⊎ NoneComesF
 AreDefined most f text (d ∷ ds) rest =
     (0 < most) × (after : List ℕ) × ComesFirst f text d after × AreDefined (most - 1) (with_definition f d) after ds rest
 
--- the right answer to a text: definitions come first, and then the right answer to steps over the formula that they extend,
+-- the right answer to a text: definitions come first, and then the right answer to steps over the formula that they
+-- extend,
 -- whose lines go on behind those of the definitions
 pub record IsCertRead (f : FormulaParts) (text : List ℕ) (answer : Result (Unit {0}) CertFault) : Type 0 where
   pub definitions : List Definition

@@ -4,9 +4,13 @@
 mod active;
 mod asking;
 mod choosers;
+mod focus;
 mod law;
 mod order;
+mod pace;
 mod plan;
+mod score;
+mod waiting;
 
 pub use active::{Active, FIRST_BUMP, MOST_BUMP, MOST_SCORE};
 pub use asking::ask;

@@ -2,6 +2,7 @@
 ghost use Rattle.std.specs.Prelude.{IfSome};
 ghost use Rattle.bt_cnf.specs.Truths.{LacksValue};
 
+use crate::focus::Focus;
 use bt_cnf::{Lit, Values, is_lit_false, lacks_value};
 use std::alloc::{AllocError, Global};
 
@@ -126,6 +127,7 @@ impl Restarts {
 pub struct Plan {
     parts: Vec<Part>,
     restarts: Restarts,
+    focus: Option<Focus>,
 }
 
 impl Plan {
@@ -135,7 +137,22 @@ impl Plan {
         Plan {
             parts: Vec::new(alloc),
             restarts: Restarts::by(unit),
+            focus: None,
         }
+    }
+
+    /// A plan without parts by which the conflicts of the search decide next, and when it restarts, over so many variables.
+    pub fn by_conflicts(alloc: Global, variables: usize) -> Result<Plan, AllocError> {
+        Ok(Plan {
+            parts: Vec::new(alloc),
+            restarts: Restarts::by(0),
+            focus: Some(Focus::new(alloc, variables)?),
+        })
+    }
+
+    /// Whether conflicts decide.
+    pub fn is_by_conflicts(&self) -> bool {
+        self.focus.is_some()
     }
 
     /// Adds a part behind the others.
@@ -144,7 +161,7 @@ impl Plan {
         Ok(())
     }
 
-    /// The literal of the first part that has one after so many steps.
+    /// The literal of the first part that has one after so many steps, or else the one that conflicts decide.
     pub fn pick(&mut self, steps: u64, values: &Values) -> Option<Lit>
         ensures { IfSome result (λ l. LacksValue values.now l.var) }
     {
@@ -155,7 +172,25 @@ impl Plan {
                 }
             }
         }
-        None
+        match &mut self.focus {
+            Some(focus) => focus.pick(values),
+            None => None,
+        }
+    }
+
+    /// Takes which variables a conflict met, and at how many levels the literals of the clause became false that is learnt
+    /// from it.
+    pub fn learn(&mut self, met: &[usize], levels: u32) {
+        if let Some(focus) = &mut self.focus {
+            focus.learn(met, levels);
+        }
+    }
+
+    /// Takes the literals of the trail from a place on, which are going to be unset.
+    pub fn release(&mut self, trail: &[Lit], from: usize) {
+        if let Some(focus) = &mut self.focus {
+            focus.release(trail, from);
+        }
     }
 
     /// Has each part begin with its first literal again, since literals may be unset by now.
@@ -167,6 +202,10 @@ impl Plan {
 
     /// Whether the search restarts after so many steps.
     pub fn is_restart_due(&mut self, steps: u64) -> bool {
-        self.restarts.is_due(steps)
+        let is_due = match &mut self.focus {
+            Some(focus) => focus.is_restart_due(),
+            None => false,
+        };
+        self.restarts.is_due(steps) || is_due
     }
 }

@@ -28,7 +28,8 @@ atoms_in places = atoms_from 0 places
 abbrev pub parts_of : List (Option ℕ) → List (List Lit) → List ℕ → List RowParts → FormulaParts
 parts_of places clauses atoms rows = record { vars = length places; clauses = clauses; atoms = zip atoms rows }
 
--- these fields keep a formula: each atom has a row, each variable the place of its row, and the end of all columns is known
+-- these fields keep a formula: each atom has a row, each variable the place of its row, and the end of all columns is
+-- known
 pub record IsStored (places : List (Option ℕ)) (clauses : List (List Lit)) (atoms : List ℕ) (rows : List RowParts) (columns : ℕ) : Type 0 where
   pub formula : IsFormula (parts_of places clauses atoms rows)
   pub paired : length atoms ≡ length rows

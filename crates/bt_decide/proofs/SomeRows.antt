@@ -6,12 +6,16 @@ use Rattle.bt_frac.specs.Rows.{RowParts}
 use Rattle.bt_net.specs.Network.{Network, IsNetwork, is_input}
 use Rattle.bt_net.specs.declared.network.Edge.{Edge}
 use Rattle.bt_flow.specs.declared.property.Property.{Property}
+use Rattle.bt_flow.specs.declared.property.Property.TheVariants.{Balanced, DrawnEvenly, Unlimited, Full, Fair, DrawnFairly}
+use Rattle.bt_flow.specs.declared.ports.End.TheVariants.{Input, Output}
+use Rattle.bt_cnf.specs.Formulas.{FormulaParts}
 use Rattle.bt_fenc.specs.declared.state_literal.StateLiteral.{StateLiteral}
 use Rattle.bt_fenc.specs.declared.clause_family.ClauseFamily.{ClauseFamily}
 use Rattle.bt_fenc.specs.declared.clause_family.ClauseFamily.TheVariants.{Flows, Loads, Rooms, Conserve}
 use Rattle.bt_fenc.specs.Families.{clauses_at, family_clauses, pair_families, laws}
-use Rattle.bt_fenc.specs.FlowFormula.{flow_formula, steady_formula, steady_clauses}
-use Rattle.bt_fenc.specs.Numbering.{rows_in, atoms_from}
+use Rattle.bt_fenc.specs.FlowFormula.{flow_formula, steady_formula, steady_clauses, flow_clauses, leveled, variable_of}
+use Rattle.bt_fenc.specs.Levels.{level_rows}
+use Rattle.bt_fenc.specs.Numbering.{rows_in, atoms_from, formula_of}
 use Rattle.bt_fenc.specs.Properties.{property_clauses}
 use Rattle.bt_same.specs.declared.shift.Shift.{Shift}
 use Rattle.bt_same.specs.SameFormula.{same_formula, first_shift, second_vars, second_columns, moved_atoms, difference_formula}
@@ -46,8 +50,17 @@ module _ (n : Network) (is : IsNetwork n) where
       flow_rows n some.0 (more ++ rest)
       (subst (λ k. rows_in (first k ++ (more ++ rest)) ≡ []) some.1 (subst (λ cs. rows_in cs ≡ []) (append_assoc (first (length n.edges)) more rest) e))
 
+  -- a level has rows of its own behind those of a formula
+  before_level : (p : Property) (f : FormulaParts) → (leveled n p f).atoms ≡ [] → f.atoms ≡ []
+  before_level Balanced f e = e
+  before_level DrawnEvenly f e = e
+  before_level Unlimited f e = e
+  before_level Full f e = e
+  before_level Fair f e = none_before f.atoms (atoms_from f.vars (level_rows n Output)) e
+  before_level DrawnFairly f e = none_before f.atoms (atoms_from f.vars (level_rows n Input)) e
+
   pub flow_formula_has_rows : (p : Property) → (flow_formula n p).atoms ≡ [] → ⊥
-  flow_formula_has_rows p e = clauses_mention (property_clauses n p) (no_atoms (length n.edges) _ e)
+  flow_formula_has_rows p e = clauses_mention (property_clauses n p) (no_atoms (length n.edges) _ (before_level p (formula_of (variable_of n) (length n.edges) (flow_clauses n p)) e))
 
   pub steady_formula_has_rows : (steady_formula n).atoms ≡ [] → ⊥
   steady_formula_has_rows e = clauses_mention [] (subst (λ cs. rows_in cs ≡ []) (sym (append-nil (steady_clauses n))) (no_atoms (length n.edges) _ e))

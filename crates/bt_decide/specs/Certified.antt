@@ -13,7 +13,8 @@ use Rattle.bt_same.specs.SameFormula.{same_formula}
 use Rattle.bt_theory.specs.Outcomes.{IsRefutation}
 use Rattle.bt_decide.specs.Verdicts.{AreMade, splitters_of_both}
 
--- what is printed of definitions that are made for a flow formula, and of a log that refutes the formula as they extend it, and
+-- what is printed of definitions that are made for a flow formula, and of a log that refutes the formula as they extend
+-- it, and
 -- whose sums fit, is a certificate, where it has fewer than 10 ^ 17 steps
 abbrev pub YesIsCertificate : Type 0
 YesIsCertificate = (n : Network) (p : Property) (definitions : List Definition) (steps : List Step) → IsNetwork n → AreMade n.splitters (flow_formula n p) definitions

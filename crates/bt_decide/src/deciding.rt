@@ -2,7 +2,7 @@
 ghost use Rattle.std.specs.Prelude.{◌≡◌, IfOk, IfSome};
 ghost use Rattle.bt_decide.specs.Verdicts.{IsVerdict};
 ghost use Rattle.bt_decide.specs.inner.Outcomes.{IsVerdictOf};
-ghost use Rattle.hint_simulation.specs.Simulations.{IsBreaking};
+ghost use Rattle.bt_flow.specs.Properties.{IsBreaking};
 
 use crate::arguing::argument_for;
 use crate::verdict::Verdict;

@@ -57,7 +57,8 @@ abbrev pub side_of : List Demand → End → Option Dir
 side_of [] e = None
 side_of (d ∷ demands) e = side_by d e (side_of demands e)
 
--- the class of an edge from the one to the other: that of the splitter which it leaves; where its input isn't pinned, that of
+-- the class of an edge from the one to the other: that of the splitter which it leaves; where its input isn't pinned,
+-- that of
 -- the splitter into which it goes and of the side at which its input is to stand; and else one of its own
 abbrev pub class_between : List Demand → Start → Target → Class
 class_between demands (from.Split s) target = Split s

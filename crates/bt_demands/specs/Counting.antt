@@ -18,7 +18,8 @@ halves_of r = r.net.splitters * 2
 abbrev pub inputs_apart : LayoutRequest → ℕ
 inputs_apart r = count_by (λ i. not (is_through r i)) (range_with_len 0 r.net.inputs)
 
--- the number of cells that ends need: each has one of its own, but an input and the output to which it leads may share theirs
+-- the number of cells that ends need: each has one of its own, but an input and the output to which it leads may share
+-- theirs
 abbrev pub ends_apart : LayoutRequest → ℕ
 ends_apart r = r.net.outputs + inputs_apart r
 

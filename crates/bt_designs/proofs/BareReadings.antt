@@ -1,4 +1,5 @@
--- Texts in which nothing or sides alone may stand behind the edges, as they are read where pins, sides and blocks may stand.
+-- Texts in which nothing or sides alone may stand behind the edges, as they are read where pins, sides and blocks may
+-- stand.
 use Rattle.std.proofs.Common.{◌≡◌, ℕ, List, [], ◌∷◌, ◌+◌, length, Ok, refl}
 use Rattle.bt_net.specs.declared.network.Admitted.{Admitted}
 use Rattle.bt_net.specs.declared.network.Admitted.TheVariants.{Nothing, All}

@@ -1,4 +1,5 @@
--- A design behind blanks: it is that of the text, so many bytes later, where that is JSON; and other text is refused there.
+-- A design behind blanks: it is that of the text, so many bytes later, where that is JSON; and other text is refused
+-- there.
 use Rattle.std.proofs.Common.{◌≡◌, ◌⊎◌, ℕ, ◌+◌, ◌<◌, ◌≤◌, true, List, [], ◌∷◌, ◌++◌, length, get_or, Some, Result, Ok, Err, refl, sym, ◌∙◌, ap, subst, inl, inr, arith, append_assoc, length-append}
 use Rattle.std.specs.Prelude.{All, slice_get}
 use Rattle.std.proofs.lemmas.List.{length-drop}
@@ -29,12 +30,13 @@ use Rattle.bt_net.specs.Network.{Network}
 use Rattle.bt_net.specs.Refusals.{IsHeader}
 use Rattle.bt_net.specs.PinRefusals.{RefusesAll}
 use Rattle.bt_net.specs.PriorityRefusals.{Refuses}
+use Rattle.bt_designs.specs.declared.design.Laid.{Laid}
 use Rattle.bt_designs.specs.declared.fault.DesignFault.{DesignFault}
 use Rattle.bt_designs.specs.declared.fault.DesignFault.TheVariants as design
 use Rattle.bt_designs.specs.declared.refusal.Refusal.TheVariants as refusal
-use Rattle.bt_designs.specs.Designs.{IsJsonText, IsPlacedNet, IsLayoutNet, IsBlueprintNet, IsPlacedWith, IsLayoutWith, IsPreferringNet, IsJsonNet, IsDesign, IsBareDesign}
+use Rattle.bt_designs.specs.Designs.{IsJsonText, IsPlacedNet, IsLayoutNet, IsTieredLayout, IsTieredBlueprint, IsPlacedWith, IsLayoutWith, IsPreferringNet, IsJsonOf, IsToldOfLayout, IsDesign, IsBareDesign, in_basic_belts}
 use Rattle.bt_designs.specs.Refusals.{json_told, entity_told, grid_told, layout_told, net_told}
-use Rattle.bt_designs.specs.Requested.{PinnedNet, pinned_net, IsPinnedJson, IsPinned}
+use Rattle.bt_designs.specs.Requested.{PinnedNet, pinned_laid, pinned_net, IsPinned}
 use Rattle.bt_designs.specs.Steps.{stopped, went_on}
 use Rattle.bt_designs.specs.inner.Moved.{moved_fault, moved_told, moved, IsFaultWithin}
 use Rattle.bt_designs.proofs.InTurns.{not_both}
@@ -143,9 +145,13 @@ laid_none : (parts : List Part) (fault : DesignFault) → IsLayoutNet parts (Err
 laid_none parts fault (stopped f h e) = told_none fault (grid_told f) (grid_none f) e
 laid_none parts fault (went_on placed h k) = placed_none placed fault k
 
-blueprint_none : (value : Json) (fault : DesignFault) → IsBlueprintNet value (Err fault) → NoOffset fault
+tiered_none : (parts : List Part) (fault : DesignFault) → IsTieredLayout parts (Err fault) → NoOffset fault
+tiered_none parts fault (stopped f h e) = told_none fault f (laid_none parts f h) e
+tiered_none parts fault (went_on net h (tier, is, e)) = absurd (not_both _ fault (sym e))
+
+blueprint_none : (value : Json) (fault : DesignFault) → IsTieredBlueprint value (Err fault) → NoOffset fault
 blueprint_none value fault (stopped f h e) = told_none fault (entity_told f) (entity_none f) e
-blueprint_none value fault (went_on parts h k) = laid_none parts fault k
+blueprint_none value fault (went_on parts h k) = tiered_none parts fault k
 
 placed_with_none : (priorities : List Priority) (parts : List Part) (fault : DesignFault) → IsPlacedWith priorities parts (Err fault) → NoOffset fault
 placed_with_none priorities parts fault (stopped f h e) = told_none fault (layout_told f) (layout_none f) e
@@ -189,27 +195,40 @@ read_within bytes (json.DuplicateKey at) r =
     omega (arith, begins, long, both, left)
 read_within bytes json.Memory r = tt
 
-module _ (IsNetOf : Json → Result Network DesignFault → Type 0) (none : (value : Json) (fault : DesignFault) → IsNetOf value (Err fault) → NoOffset fault) where
-  seen_moved : (n used : ℕ) (value : Json) (found : Result Network DesignFault) → IsNetOf value found → moved n (seen (λ m. (m, used)) found) ≡ seen (λ m. (m, n + used)) found
+module _ {X : Type 0} (IsOf : Json → Result X DesignFault → Type 0) (none : (value : Json) (fault : DesignFault) → IsOf value (Err fault) → NoOffset fault) where
+  seen_moved : (n used : ℕ) (value : Json) (found : Result X DesignFault) → IsOf value found → moved n (seen (λ (m : X). (m, used)) found) ≡ seen (λ (m : X). (m, n + used)) found
   seen_moved n used value (Ok m) k = refl
   seen_moved n used value (Err fault) k = ap Err (unmoved n fault (none value fault k))
 
   -- what comes of JSON text behind blanks
-  pub json_behind : (blanks bytes : List ℕ) (answer : Result (Network × ℕ) DesignFault) → All IsBlank blanks → IsJsonNet IsNetOf bytes answer → IsJsonNet IsNetOf (blanks ++ bytes) (moved (length blanks) answer)
+  pub json_behind : (blanks bytes : List ℕ) (answer : Result (X × ℕ) DesignFault) → All IsBlank blanks → IsJsonOf IsOf bytes answer → IsJsonOf IsOf (blanks ++ bytes) (moved (length blanks) answer)
   json_behind blanks bytes answer are (stopped f h e) =
       stopped (moved_fault (length blanks) f) (behind_blanks_is_read blanks bytes (Err f) (blanks_are blanks are) h) (ap (moved (length blanks)) e ∙ ap Err (json_moved (length blanks) f))
   json_behind blanks bytes answer are (went_on read h k) =
       went_on (read.0, length blanks + read.1) (behind_blanks_is_read blanks bytes (Ok read) (blanks_are blanks are) h)
       (k.0, k.1, ap (moved (length blanks)) k.2 ∙ seen_moved (length blanks) read.1 read.0 k.0 k.1)
 
-  seen_within : (n used : ℕ) (value : Json) (fault : DesignFault) (found : Result Network DesignFault) → IsNetOf value found → ◌≡◌ {A = Result (Network × ℕ) DesignFault} (Err fault) (seen (λ m. (m, used)) found) → IsFaultWithin n fault
+  seen_within : (n used : ℕ) (value : Json) (fault : DesignFault) (found : Result X DesignFault) → IsOf value found → ◌≡◌ {A = Result (X × ℕ) DesignFault} (Err fault) (seen (λ (m : X). (m, used)) found) → IsFaultWithin n fault
   seen_within n used value fault (Ok m) k e = absurd (not_both (m, used) fault (sym e))
   seen_within n used value fault (Err g) k e = none_within n fault (told_none fault g (none value g k) e)
 
   -- the offset of its refusal is within the text
-  pub json_fault_within : (bytes : List ℕ) (fault : DesignFault) → IsJsonNet IsNetOf bytes (Err fault) → IsFaultWithin (length bytes) fault
+  pub json_fault_within : (bytes : List ℕ) (fault : DesignFault) → IsJsonOf IsOf bytes (Err fault) → IsFaultWithin (length bytes) fault
   json_fault_within bytes fault (stopped f h e) = subst (IsFaultWithin (length bytes)) (sym (same_fault_of fault (json_told f) e)) (read_within bytes f h)
   json_fault_within bytes fault (went_on read h k) = seen_within (length bytes) read.1 read.0 fault k.0 k.1 k.2
+
+-- what is told of the layout that comes of JSON text behind blanks
+module _ {Y : Type 0} (told : Laid → Y) (bytes : List ℕ) where
+  pub told_behind : (blanks : List ℕ) (answer : Result (Y × ℕ) DesignFault) → All IsBlank blanks → IsToldOfLayout told bytes answer → IsToldOfLayout told (blanks ++ bytes) (moved (length blanks) answer)
+  told_behind blanks answer are (stopped fault k e) =
+      stopped (moved_told (length blanks) fault) (json_behind IsTieredBlueprint blueprint_none blanks bytes (Err fault) are k) (ap (moved (length blanks)) e)
+  told_behind blanks answer are (went_on found k e) =
+      went_on (found.0, length blanks + found.1) (json_behind IsTieredBlueprint blueprint_none blanks bytes (Ok found) are k) (ap (moved (length blanks)) e)
+
+  -- the offset of its refusal is within the text
+  pub told_fault_within : (fault : DesignFault) → IsToldOfLayout told bytes (Err fault) → IsFaultWithin (length bytes) fault
+  told_fault_within fault (stopped g h e) = subst (IsFaultWithin (length bytes)) (sym (same_fault_of fault g e)) (json_fault_within IsTieredBlueprint blueprint_none bytes g h)
+  told_fault_within fault (went_on found h e) = absurd (not_both (told found.0, found.1) fault (sym e))
 
 -- ---- network text
 
@@ -248,17 +267,11 @@ module _ (blanks bytes : List ℕ) (are : All IsBlank blanks) where
   design_behind answer is (inr h) = absurd (h.0 is)
 
   pub bare_behind : (answer : Result (Network × ℕ) DesignFault) → IsJsonText bytes → IsBareDesign bytes answer → IsBareDesign (blanks ++ bytes) (moved (length blanks) answer)
-  bare_behind answer is (inl h) = inl (json_behind_blanks blanks bytes are is, json_behind IsBlueprintNet blueprint_none blanks bytes answer are h.1)
+  bare_behind answer is (inl h) = inl (json_behind_blanks blanks bytes are is, told_behind in_basic_belts bytes blanks answer are h.1)
   bare_behind answer is (inr h) = absurd (h.0 is)
 
-  pinned_json_behind : (answer : Result (PinnedNet × ℕ) DesignFault) → IsPinnedJson bytes answer → IsPinnedJson (blanks ++ bytes) (moved (length blanks) answer)
-  pinned_json_behind answer (stopped fault k e) =
-      stopped (moved_told (length blanks) fault) (json_behind IsBlueprintNet blueprint_none blanks bytes (Err fault) are k) (ap (moved (length blanks)) e)
-  pinned_json_behind answer (went_on found k e) =
-      went_on (found.0, length blanks + found.1) (json_behind IsBlueprintNet blueprint_none blanks bytes (Ok found) are k) (ap (moved (length blanks)) e)
-
   pub pinned_behind : (answer : Result (PinnedNet × ℕ) DesignFault) → IsJsonText bytes → IsPinned bytes answer → IsPinned (blanks ++ bytes) (moved (length blanks) answer)
-  pinned_behind answer is (inl h) = inl (json_behind_blanks blanks bytes are is, pinned_json_behind answer h.1)
+  pinned_behind answer is (inl h) = inl (json_behind_blanks blanks bytes are is, told_behind pinned_laid bytes blanks answer are h.1)
   pinned_behind answer is (inr h) = absurd (h.0 is)
 
   module _ (some : 0 < length blanks) (other : IsJsonText bytes → ⊥) where
@@ -285,12 +298,11 @@ module _ (bytes : List ℕ) (fault : DesignFault) where
   design_fault_within (inr (none, went_on read h e)) = absurd (not_both (read.net, read.used) fault (sym e))
 
   pub bare_fault_within : IsBareDesign bytes (Err fault) → IsFaultWithin (length bytes) fault
-  bare_fault_within (inl h) = json_fault_within IsBlueprintNet blueprint_none bytes fault h.1
+  bare_fault_within (inl h) = told_fault_within in_basic_belts bytes fault h.1
   bare_fault_within (inr (none, stopped f h e)) = net_within f e
   bare_fault_within (inr (none, went_on read h e)) = absurd (not_both (read.net, read.used) fault (sym e))
 
   pub pinned_fault_within : IsPinned bytes (Err fault) → IsFaultWithin (length bytes) fault
-  pinned_fault_within (inl (is, stopped g h e)) = subst (IsFaultWithin (length bytes)) (sym (same_fault_of fault g e)) (json_fault_within IsBlueprintNet blueprint_none bytes g h)
-  pinned_fault_within (inl (is, went_on found h e)) = absurd (not_both (pinned_net found.0 [] [], found.1) fault (sym e))
+  pinned_fault_within (inl h) = told_fault_within pinned_laid bytes fault h.1
   pinned_fault_within (inr (none, stopped f h e)) = net_within f e
   pinned_fault_within (inr (none, went_on read h e)) = absurd (not_both (pinned_net read.net read.demands read.blocks, read.used) fault (sym e))

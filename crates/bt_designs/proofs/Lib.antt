@@ -1,4 +1,6 @@
 pub mod InTurns
+mod CappedNets
+mod JsonRefused
 pub mod Blanks
 pub mod BareReadings
 pub mod OneDesign

@@ -22,11 +22,12 @@ use Rattle.bt_net.specs.NetText.{header}
 use Rattle.bt_net.specs.Readings.{Reading, IsPlainRead}
 use Rattle.bt_net.specs.Longer.{with_line_feed, StaysRefused}
 use Rattle.bt_net.proofs.Longer.{plain_stays, plain_stays_refused}
+use Rattle.bt_designs.specs.declared.design.Laid.{Laid}
 use Rattle.bt_designs.specs.declared.fault.DesignFault.{DesignFault}
 use Rattle.bt_designs.specs.declared.fault.DesignFault.TheVariants.{Refused}
 use Rattle.bt_designs.specs.declared.refusal.Refusal.TheVariants.{NetLine}
 use Rattle.bt_designs.specs.declared.refusal.Refusal.TheVariants as refusal
-use Rattle.bt_designs.specs.Designs.{IsJsonText, IsPreferringNet, IsJsonNet, IsTextDesign, IsDesign}
+use Rattle.bt_designs.specs.Designs.{IsJsonText, IsJsonOf, IsPreferringNet, IsTieredBlueprint, IsTextDesign, IsDesign, IsToldOfLayout}
 use Rattle.bt_designs.specs.Longer.{DesignStays, IsOtherText, IsSettled, RefusalStays}
 use Rattle.bt_designs.specs.Refusals.{json_told, net_told}
 use Rattle.bt_designs.specs.Steps.{InTurn, stopped, went_on}
@@ -104,10 +105,10 @@ ends_anyhow bytes v after (rest, s) front =
     all_blank (x ∷ xs) all = (blank_is x all.0, all_blank xs all.1)
 
 -- what comes of the JSON text of longer bytes
-pub json_design_stays : (IsNetOf : Json → Result Network DesignFault → Type 0) (bytes more : List ℕ) (answer : Result (Network × ℕ) DesignFault) → IsJsonText bytes → ((fault : JsonFault) → answer ≡ Err (json_told fault) → fault ≢ json.Json (length bytes))
-    → IsJsonNet IsNetOf bytes answer → IsJsonNet IsNetOf (bytes ++ more) answer
-json_design_stays IsNetOf bytes more answer is settled (stopped fault h e) = stopped fault (fault_stays bytes more fault (settled fault e) h) e
-json_design_stays IsNetOf bytes more answer is settled (went_on read h k) = went_on read (value_stays bytes more read.0 read.1 (ends_anyhow bytes read.0 read.1 is h.front) h) k
+pub json_of_stays : {X : Type 0} (IsOf : Json → Result X DesignFault → Type 0) (bytes more : List ℕ) (answer : Result (X × ℕ) DesignFault) → IsJsonText bytes → ((fault : JsonFault) → answer ≡ Err (json_told fault) → fault ≢ json.Json (length bytes))
+    → IsJsonOf IsOf bytes answer → IsJsonOf IsOf (bytes ++ more) answer
+json_of_stays IsOf bytes more answer is settled (stopped fault h e) = stopped fault (fault_stays bytes more fault (settled fault e) h) e
+json_of_stays IsOf bytes more answer is settled (went_on read h k) = went_on read (value_stays bytes more read.0 read.1 (ends_anyhow bytes read.0 read.1 is h.front) h) k
 
 -- ---- network text
 
@@ -130,11 +131,11 @@ net_first (b ∷ bytes) rest n ls begins =
 
 -- ---- designs
 
-pub json_within : (IsNetOf : Json → Result Network DesignFault → Type 0) (bytes : List ℕ) (n : Network) (used : ℕ) → IsJsonNet IsNetOf bytes (Ok (n, used)) → used ≤ length bytes
-json_within IsNetOf bytes n used (stopped fault h e) = absurd (not_both (n, used) (json_told fault) e)
-json_within IsNetOf bytes n used (went_on read h k) =
-    let net = seen_ok (λ m. (m, read.1)) k.0 (n, used) k.2 in
-    let same = ap (λ (x : Network × ℕ). x.1) net.2 in
+pub json_within : {X : Type 0} (IsOf : Json → Result X DesignFault → Type 0) (bytes : List ℕ) (n : X) (used : ℕ) → IsJsonOf IsOf bytes (Ok (n, used)) → used ≤ length bytes
+json_within {X} IsOf bytes n used (stopped fault h e) = absurd (not_both (n, used) (json_told fault) e)
+json_within {X} IsOf bytes n used (went_on read h k) =
+    let found = seen_ok (λ (m : X). (m, read.1)) k.0 (n, used) k.2 in
+    let same = ap (λ (x : X × ℕ). x.1) found.2 in
     omega (arith, same, h.front.within)
 
 text_within : (bytes : List ℕ) (n : Network) (used : ℕ) → IsTextDesign bytes (Ok (n, used)) → used ≤ length bytes
@@ -169,7 +170,7 @@ module _ (bytes : List ℕ) (n : Network) (used : ℕ) where
 
   design_stays_of : IsDesign bytes (Ok (n, used)) → Stays
   design_stays_of (inl (is, h)) =
-      inl (λ more. inl (json_text_stays bytes more is, json_design_stays IsPreferringNet bytes more (Ok (n, used)) is (λ fault e. absurd (not_both (n, used) (json_told fault) e)) h))
+      inl (λ more. inl (json_text_stays bytes more is, json_of_stays IsPreferringNet bytes more (Ok (n, used)) is (λ fault e. absurd (not_both (n, used) (json_told fault) e)) h))
   design_stays_of (inr (none, h)) = text_stays h
 
 -- a design at the front of bytes stands at the front of longer ones
@@ -198,13 +199,35 @@ read_refused IsRead stays value bytes more lines fault is other (stopped why h e
 pub json_settled : {A : Type 0} (bytes : List ℕ) (fault : DesignFault) → fault ≢ Refused (refusal.Json (length bytes)) → (why : JsonFault) → ◌≡◌ {A = Result A DesignFault} (Err fault) (Err (json_told why)) → why ≢ json.Json (length bytes)
 json_settled bytes fault other why e same = other (same_fault_of fault (json_told why) e ∙ ap json_told same)
 
+-- what is told of the layout that comes of JSON text
+module _ {Y : Type 0} (told : Laid → Y) (bytes : List ℕ) where
+  -- it stands at the front of longer bytes
+  pub told_stays : (more : List ℕ) (y : Y) (used : ℕ) → IsJsonText bytes → IsToldOfLayout told bytes (Ok (y, used)) → IsToldOfLayout told (bytes ++ more) (Ok (y, used))
+  told_stays more y used is (stopped fault h e) = absurd (not_both (y, used) fault e)
+  told_stays more y used is (went_on found h e) =
+      went_on found (json_of_stays IsTieredBlueprint bytes more (Ok found) is (λ fault other. absurd (not_both found _ other)) h) e
+
+  -- ends within the bytes
+  pub told_within : (y : Y) (used : ℕ) → IsToldOfLayout told bytes (Ok (y, used)) → used ≤ length bytes
+  told_within y used (stopped fault h e) = absurd (not_both (y, used) fault e)
+  told_within y used (went_on found h e) =
+      let same : used ≡ found.1 = ap (λ (x : Y × ℕ). x.1) (same_value (y, used) (told found.0, found.1) e) in omega (arith, same, json_within IsTieredBlueprint bytes found.0 found.1 h)
+
+  -- and is refused alike there
+  pub told_refused : (more : List ℕ) (fault : DesignFault) → IsJsonText bytes → fault ≢ Refused (refusal.Json (length bytes)) → IsToldOfLayout told bytes (Err fault)
+      → IsToldOfLayout told (bytes ++ more) (Err fault)
+  told_refused more fault is other (went_on found h e) = absurd (not_both (told found.0, found.1) fault (sym e))
+  told_refused more fault is other (stopped why h e) =
+      let same : why ≡ fault = sym (same_fault_of {A = Y × ℕ} fault why e) in
+      stopped why (json_of_stays IsTieredBlueprint bytes more (Err why) is (json_settled bytes why (subst (λ f. f ≢ Refused (refusal.Json (length bytes))) (sym same) other)) h) e
+
 -- other text is no JSON text
 pub not_json : (bytes : List ℕ) → IsOtherText bytes → IsJsonText bytes → ⊥
 not_json bytes (byte, rest, s, unlike) (after, t) = let same : byte ∷ rest ≡ 123 ∷ after = one_rest bytes (byte ∷ rest) (123 ∷ after) s t in unlike cc
 
 module _ (bytes more : List ℕ) (fault : DesignFault) where
   refusal_stays_of : IsSettled bytes fault → IsDesign bytes (Err fault) → IsDesign (bytes ++ more) (Err fault)
-  refusal_stays_of (inl (is, other)) (inl (json, h)) = inl (json_text_stays bytes more is, json_design_stays IsPreferringNet bytes more (Err fault) is (json_settled bytes fault other) h)
+  refusal_stays_of (inl (is, other)) (inl (json, h)) = inl (json_text_stays bytes more is, json_of_stays IsPreferringNet bytes more (Err fault) is (json_settled bytes fault other) h)
   refusal_stays_of (inl (is, other)) (inr (none, h)) = absurd (none is)
   refusal_stays_of (inr (text, (lines, e), other)) (inl (is, h)) = absurd (not_json bytes text is)
   refusal_stays_of (inr (text, (lines, e), other)) (inr (none, h)) =

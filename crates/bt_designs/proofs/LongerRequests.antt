@@ -1,20 +1,17 @@
 -- A network with pins, sides and blocks at the front of longer bytes.
-use Rattle.std.proofs.Common.{◌≡◌, ◌≢◌, ◌⊎◌, ℕ, ◌+◌, ◌<◌, ◌≤◌, List, [], ◌∷◌, ◌++◌, length, drop, Result, Ok, Err, ◌∙◌, ap, sym, subst, inl, inr, arith}
+use Rattle.std.proofs.Common.{◌≡◌, ◌⊎◌, ℕ, ◌+◌, ◌<◌, ◌≤◌, List, [], ◌∷◌, ◌++◌, length, drop, Result, Ok, Err, ◌∙◌, ap, inl, inr, arith}
 use Rattle.std.specs.Prelude.{codes}
 use Rattle.bt_net.specs.declared.network.Admitted.TheVariants.{All}
 use Rattle.bt_net.specs.Readings.{IsNetRead}
 use Rattle.bt_net.specs.Longer.{with_line_feed}
 use Rattle.bt_net.proofs.Longer.{reading_stays, stays_refused}
 use Rattle.bt_designs.specs.declared.fault.DesignFault.{DesignFault}
-use Rattle.bt_designs.specs.declared.fault.DesignFault.TheVariants.{Refused}
-use Rattle.bt_designs.specs.declared.refusal.Refusal.TheVariants as refusal
-use Rattle.bt_designs.specs.Designs.{IsJsonText, IsBlueprintNet}
 use Rattle.bt_designs.specs.Longer.{IsSettled}
 use Rattle.bt_designs.specs.Refusals.{net_told}
-use Rattle.bt_designs.specs.Requested.{PinnedNet, pinned_net, IsPinnedText, IsPinnedJson, IsPinned}
+use Rattle.bt_designs.specs.Requested.{PinnedNet, pinned_laid, pinned_net, IsPinnedText, IsPinned}
 use Rattle.bt_designs.specs.Steps.{stopped, went_on}
 use Rattle.bt_designs.proofs.InTurns.{same_value, not_both}
-use Rattle.bt_designs.proofs.LongerDesigns.{json_text_stays, other_text_stays, json_design_stays, net_first, json_within, json_settled, not_json, read_refused, same_fault_of}
+use Rattle.bt_designs.proofs.LongerDesigns.{json_text_stays, other_text_stays, net_first, not_json, read_refused, told_refused, told_stays, told_within}
 
 place_of : (n m : PinnedNet) (used end : ℕ) → ◌≡◌ {A = Result (PinnedNet × ℕ) DesignFault} (Ok (n, used)) (Ok (m, end)) → used ≡ end
 place_of n m used end e = ap (λ (x : PinnedNet × ℕ). x.1) (same_value (n, used) (m, end) e)
@@ -39,20 +36,10 @@ module _ (bytes : List ℕ) (n : PinnedNet) (used : ℕ) where
             λ more. inr (other_text_stays bytes (10 ∷ more) other, went_on (with_line_feed read) (fed more) (ap (λ (x : PinnedNet × ℕ). Ok (x.0, x.1 + 1)) same)),
           )
 
-  pinned_json_stays : IsJsonText bytes → IsPinnedJson bytes (Ok (n, used)) → (more : List ℕ) → IsPinnedJson (bytes ++ more) (Ok (n, used))
-  pinned_json_stays is (stopped fault h e) more = absurd (not_both (n, used) fault e)
-  pinned_json_stays is (went_on found h e) more =
-      went_on found (json_design_stays IsBlueprintNet bytes more (Ok found) is (λ fault other. absurd (not_both found _ other)) h) e
-
   -- it stands at the front of longer ones
   pub pinned_stays : IsPinned bytes (Ok (n, used)) → PinnedStays
-  pinned_stays (inl (is, h)) = inl (λ more. inl (json_text_stays bytes more is, pinned_json_stays is h more))
+  pinned_stays (inl (is, h)) = inl (λ more. inl (json_text_stays bytes more is, told_stays pinned_laid bytes more n used is h))
   pinned_stays (inr (none, h)) = pinned_text_stays h
-
-  pinned_json_within : IsPinnedJson bytes (Ok (n, used)) → used ≤ length bytes
-  pinned_json_within (stopped fault h e) = absurd (not_both (n, used) fault e)
-  pinned_json_within (went_on found h e) =
-      let same = place_of n (pinned_net found.0 [] []) used found.1 e in omega (arith, same, json_within IsBlueprintNet bytes found.0 found.1 h)
 
   pinned_text_within : IsPinnedText All bytes (Ok (n, used)) → used ≤ length bytes
   pinned_text_within (stopped fault h e) = absurd (not_both (n, used) (net_told fault) e)
@@ -61,7 +48,7 @@ module _ (bytes : List ℕ) (n : PinnedNet) (used : ℕ) where
 
   -- it ends within the bytes
   pub pinned_within : IsPinned bytes (Ok (n, used)) → used ≤ length bytes
-  pinned_within (inl h) = pinned_json_within h.1
+  pinned_within (inl h) = told_within pinned_laid bytes n used h.1
   pinned_within (inr h) = pinned_text_within h.1
 
 -- a network with pins, sides and blocks that ends before the bytes do is that of the bytes and whatever follows
@@ -74,14 +61,8 @@ pinned_goes_on bytes more found h few = by (pinned_stays bytes found.0 found.1 h
 
 -- a settled refusal is that of all longer bytes
 module _ (bytes more : List ℕ) (fault : DesignFault) where
-  pinned_json_refused : IsJsonText bytes → fault ≢ Refused (refusal.Json (length bytes)) → IsPinnedJson bytes (Err fault) → IsPinnedJson (bytes ++ more) (Err fault)
-  pinned_json_refused is other (went_on found h e) = absurd (not_both (pinned_net found.0 [] [], found.1) fault (sym e))
-  pinned_json_refused is other (stopped why h e) =
-      let same : why ≡ fault = sym (same_fault_of {A = PinnedNet × ℕ} fault why e) in
-      stopped why (json_design_stays IsBlueprintNet bytes more (Err why) is (json_settled bytes why (subst (λ f. f ≢ Refused (refusal.Json (length bytes))) (sym same) other)) h) e
-
   pub pinned_refusal_stays : IsSettled bytes fault → IsPinned bytes (Err fault) → IsPinned (bytes ++ more) (Err fault)
-  pinned_refusal_stays (inl (is, other)) (inl (json, h)) = inl (json_text_stays bytes more is, pinned_json_refused is other h)
+  pinned_refusal_stays (inl (is, other)) (inl (json, h)) = inl (json_text_stays bytes more is, told_refused pinned_laid bytes more fault is other h)
   pinned_refusal_stays (inl (is, other)) (inr (none, h)) = absurd (none is)
   pinned_refusal_stays (inr (text, (lines, e), other)) (inl (is, h)) = absurd (not_json bytes text is)
   pinned_refusal_stays (inr (text, (lines, e), other)) (inr (none, h)) =

@@ -1,5 +1,5 @@
 -- Bytes have one design at their front, or one refusal.
-use Rattle.std.proofs.Common.{◌≡◌, ℕ, List, Result, Ok, Err, inl, inr, refl, ap, sym, subst, ◌∙◌}
+use Rattle.std.proofs.Common.{◌≡◌, ℕ, List, [], ◌∷◌, Option, Some, None, Result, Ok, Err, inl, inr, refl, ap, sym, subst, ◌∙◌, arith}
 use Rattle.bt_answers.specs.Answers.{HasOneAnswer, seen}
 use Rattle.bt_json.specs.Json.{Json}
 use Rattle.bt_json.specs.Answers.{IsRead}
@@ -13,13 +13,15 @@ use Rattle.bt_net.proofs.OnePlain.{one_plain}
 use Rattle.bt_net.proofs.OneReading.{one_read as one_net_read}
 use Rattle.bt_hands.specs.declared.hand.Priority.{Priority}
 use Rattle.bt_parts.specs.declared.part.Part.{Part}
+use Rattle.bt_parts.specs.declared.part.Tier.{Tier}
 use Rattle.bt_grid.specs.Placing.{IsPlaced}
 use Rattle.bt_grid.proofs.OneAnswer.{one_placed}
 use Rattle.bt_recover.specs.Recovered.{IsRecovered}
 use Rattle.bt_recover.specs.Preferred.{IsRecoveredWith}
 use Rattle.bt_recover.proofs.OneRecovery.{one_recovery}
 use Rattle.bt_recover.proofs.PreferLemmas.{one_recovery_with}
-use Rattle.bt_designs.specs.Designs.{IsPlacedNet, IsLayoutNet, IsBlueprintNet, IsPlacedWith, IsLayoutWith, IsPreferringNet, IsJsonNet, IsJsonDesign, IsJsonLayout, IsTextDesign, IsDesign, IsBareText, IsBareDesign}
+use Rattle.bt_designs.specs.Designs.{HaveTier, IsTierOf, IsPlacedNet, IsLayoutNet, IsTieredLayout, IsTieredBlueprint, IsPlacedWith, IsLayoutWith, IsPreferringNet, IsJsonOf, IsJsonDesign, IsJsonLayout, IsToldOfLayout, IsTextDesign, IsDesign, IsBareText, IsBareDesign, in_basic_belts}
+use Rattle.bt_designs.specs.declared.design.Laid.{Laid}
 use Rattle.bt_designs.specs.declared.fault.DesignFault.{DesignFault}
 use Rattle.bt_designs.specs.Refusals.{json_told, entity_told, grid_told, layout_told, net_told}
 use Rattle.bt_designs.specs.Steps.{stopped, went_on}
@@ -31,8 +33,23 @@ one_placed_net parts = one_in_turn (IsRecovered parts) _ _ (one_recovery parts) 
 one_layout_net : (parts : List Part) → HasOneAnswer (IsLayoutNet parts)
 one_layout_net parts = one_in_turn (IsPlaced parts) _ _ (one_placed parts) one_placed_net
 
-one_blueprint_net : (value : Json) → HasOneAnswer (IsBlueprintNet value)
-one_blueprint_net value = one_in_turn (IsPartsOf value) _ _ (one_parts value) one_layout_net
+-- parts have one tier at most
+same_tier : (parts : List Part) (one other : Tier) → HaveTier parts one → HaveTier parts other → one ≡ other
+same_tier [] one other is also = absurd (omega (arith, is.some))
+same_tier (p ∷ ps) one other is also = sym (is.all 0 p is.some) ∙ also.all 0 p also.some
+
+one_tier : (parts : List Part) (one other : Option Tier) → IsTierOf parts one → IsTierOf parts other → one ≡ other
+one_tier parts None None is also = refl
+one_tier parts None (Some other) is also = absurd (is other also)
+one_tier parts (Some one) None is also = absurd (also one is)
+one_tier parts (Some one) (Some other) is also = ap (λ t. Some t) (same_tier parts one other is also)
+
+one_tiered_layout : (parts : List Part) → HasOneAnswer (IsTieredLayout parts)
+one_tiered_layout parts = one_in_turn (IsLayoutNet parts) Err _ (one_layout_net parts)
+    (λ net a b h k. h.2 ∙ ap (λ tier. Ok (record { net = net; tier = tier })) (one_tier parts h.0 k.0 h.1 k.1) ∙ sym k.2)
+
+one_blueprint : (value : Json) → HasOneAnswer (IsTieredBlueprint value)
+one_blueprint value = one_in_turn (IsPartsOf value) _ _ (one_parts value) one_tiered_layout
 
 one_placed_with : (priorities : List Priority) (parts : List Part) → HasOneAnswer (IsPlacedWith priorities parts)
 one_placed_with priorities parts = one_in_turn (IsRecoveredWith parts priorities) _ _ (one_recovery_with parts priorities) (λ found a b h k. h ∙ sym k)
@@ -44,15 +61,18 @@ one_preferring_net : (value : Json) → HasOneAnswer (IsPreferringNet value)
 one_preferring_net value = one_in_turn (IsPrioritisedOf value) _ _ (one_reading value) one_layout_with
 
 -- two right answers to JSON text are equal
-one_json_net : (IsNetOf : Json → Result Network DesignFault → Type 0) → ((value : Json) → HasOneAnswer (IsNetOf value)) → (bytes : List ℕ) → HasOneAnswer (IsJsonNet IsNetOf bytes)
-one_json_net IsNetOf one bytes = one_in_turn (IsRead bytes) _ _ (one_read bytes)
-    (λ read a b h k. h.2 ∙ ap (seen (λ n. (n, read.1))) (one read.0 h.0 k.0 h.1 k.1) ∙ sym k.2)
+one_json_of : {X : Type 0} (IsOf : Json → Result X DesignFault → Type 0) → ((value : Json) → HasOneAnswer (IsOf value)) → (bytes : List ℕ) → HasOneAnswer (IsJsonOf IsOf bytes)
+one_json_of {X} IsOf one bytes = one_in_turn (IsRead bytes) _ _ (one_read bytes)
+    (λ read a b h k. h.2 ∙ ap (seen (λ (n : X). (n, read.1))) (one read.0 h.0 k.0 h.1 k.1) ∙ sym k.2)
 
 pub one_json_design : (bytes : List ℕ) → HasOneAnswer (IsJsonDesign bytes)
-one_json_design bytes = one_json_net IsPreferringNet one_preferring_net bytes
+one_json_design bytes = one_json_of IsPreferringNet one_preferring_net bytes
 
-pub one_json_layout : (bytes : List ℕ) → HasOneAnswer (IsJsonLayout bytes)
-one_json_layout bytes = one_json_net IsBlueprintNet one_blueprint_net bytes
+one_json_layout : (bytes : List ℕ) → HasOneAnswer (IsJsonLayout bytes)
+one_json_layout bytes = one_json_of IsTieredBlueprint one_blueprint bytes
+
+pub one_told_of_layout : {Y : Type 0} (told : Laid → Y) (bytes : List ℕ) → HasOneAnswer (IsToldOfLayout told bytes)
+one_told_of_layout told bytes = one_in_turn (IsJsonLayout bytes) Err _ (one_json_layout bytes) (λ found a b h k. h ∙ sym k)
 
 -- two right answers to network text are equal
 pub one_text_design : (bytes : List ℕ) → HasOneAnswer (IsTextDesign bytes)
@@ -71,7 +91,7 @@ one_bare_text bytes = one_in_turn (IsNetRead Nothing bytes) _ _ (one_net_read No
 
 -- and to the bytes of one
 pub one_bare_design : (bytes : List ℕ) → HasOneAnswer (IsBareDesign bytes)
-one_bare_design bytes a b (inl h) (inl k) = one_json_layout bytes a b h.1 k.1
+one_bare_design bytes a b (inl h) (inl k) = one_told_of_layout in_basic_belts bytes a b h.1 k.1
 one_bare_design bytes a b (inl h) (inr k) = absurd (k.0 h.0)
 one_bare_design bytes a b (inr h) (inl k) = absurd (h.0 k.0)
 one_bare_design bytes a b (inr h) (inr k) = one_bare_text bytes a b h.1 k.1

@@ -14,7 +14,7 @@ use Rattle.bt_designs.specs.declared.fault.DesignFault.TheVariants as design
 use Rattle.bt_designs.specs.declared.held.Held.{Held}
 use Rattle.bt_designs.specs.declared.refusal.Refusal.{Refusal}
 use Rattle.bt_designs.specs.declared.refusal.Refusal.TheVariants as refusal
-use Rattle.bt_designs.specs.Designs.{IsJsonText, IsBlueprintNet, IsDesign, IsBareDesign}
+use Rattle.bt_designs.specs.Designs.{IsJsonText, IsDesign, IsBareDesign, in_basic_belts}
 use Rattle.bt_designs.specs.Longer.{IsOtherText, IsSettled}
 use Rattle.bt_designs.specs.Requested.{IsPinned}
 use Rattle.bt_designs.specs.Told.{MayFollow, LastsBehind, IsAtHand, TellsFront}
@@ -22,7 +22,7 @@ use Rattle.bt_designs.specs.inner.ToldParts.{IsToldText, IsToldPart, IsTextPart,
 use Rattle.bt_designs.specs.inner.Moved.{moved, moved_told, moved_refusal, IsFaultWithin}
 use Rattle.bt_designs.proofs.Blanks.{nil_of}
 use Rattle.bt_designs.proofs.BlankDesigns.{design_behind, design_indented, design_fault_within, bare_behind, bare_indented, bare_fault_within, pinned_behind, pinned_indented, pinned_fault_within}
-use Rattle.bt_designs.proofs.LongerDesigns.{Stays, design_stays, json_text_stays, json_design_stays, json_settled, not_json, other_text_stays, read_refused, refusal_stays}
+use Rattle.bt_designs.proofs.LongerDesigns.{Stays, design_stays, json_text_stays, not_json, other_text_stays, read_refused, refusal_stays, told_refused}
 use Rattle.bt_designs.proofs.LongerRequests.{pinned_goes_on, pinned_refusal_stays}
 use Rattle.bt_designs.proofs.TwoFollowed.{bare_goes_on}
 
@@ -94,7 +94,8 @@ module _ (held : Held) where
 
 -- ---- what is read of a part
 
--- what is read at the front of bytes is read of longer ones, where it doesn't rest on where they end; and behind blanks, so many bytes later, where it is JSON text, and else it is refused there
+-- what is read at the front of bytes is read of longer ones, where it doesn't rest on where they end; and behind
+-- blanks, so many bytes later, where it is JSON text, and else it is refused there
 pub record IsLasting {X : Type 0} (IsFront : List ℕ → Result (X × ℕ) DesignFault → Type 0) (Settled : List ℕ → DesignFault → Type 0) : Type 0 where
   pub goes_on : (bytes more : List ℕ) (found : X × ℕ) → IsFront bytes (Ok found) → found.1 < length bytes → IsFront (bytes ++ more) (Ok found)
   pub stays : (bytes more : List ℕ) (fault : DesignFault) → Settled bytes fault → IsFront bytes (Err fault) → IsFront (bytes ++ more) (Err fault)
@@ -222,7 +223,7 @@ pinned_last = record {
 
 -- a settled refusal of a bare design is that of all longer bytes
 bare_stays : (bytes more : List ℕ) (fault : DesignFault) → IsSettled bytes fault → IsBareDesign bytes (Err fault) → IsBareDesign (bytes ++ more) (Err fault)
-bare_stays bytes more fault (inl (is, other)) (inl h) = inl (json_text_stays bytes more is, json_design_stays IsBlueprintNet bytes more (Err fault) is (json_settled bytes fault other) h.1)
+bare_stays bytes more fault (inl (is, other)) (inl h) = inl (json_text_stays bytes more is, told_refused in_basic_belts bytes more fault is other h.1)
 bare_stays bytes more fault (inl (is, other)) (inr h) = absurd (h.0 is)
 bare_stays bytes more fault (inr (text, (lines, e), other)) (inl h) = absurd (not_json bytes text h.0)
 bare_stays bytes more fault (inr (text, (lines, e), other)) (inr h) =

@@ -3,39 +3,42 @@ use Rattle.std.proofs.Common.{◌≡◌, ◌⊎◌, ℕ, zero, suc, ◌+◌, ◌
 use Rattle.std.specs.Prelude.{codes, slice_index}
 use Rattle.std.proofs.lemmas.List.{append_assoc, length-drop, take-append-drop, drop-append-le}
 use Rattle.bt_text.specs.Blanks.{IsBlank, SkipsBlanks}
+use Rattle.bt_net.specs.declared.network.Admitted.TheVariants.{All}
 use Rattle.bt_net.specs.Network.{Network, IsNetwork}
 use Rattle.bt_designs.proofs.BareReadings.{nothing_read, bare_is_read, read_is_bare}
 use Rattle.bt_same.specs.Sameness.{HaveEqualEnds}
 use Rattle.bt_designs.specs.Alone.{IsAlone}
-use Rattle.bt_designs.specs.Designs.{IsJsonLayout, IsBareDesign}
+use Rattle.bt_designs.specs.Designs.{IsBareText, IsBareDesign, in_basic_belts, sped}
 use Rattle.bt_designs.specs.Refusals.{net_told}
-use Rattle.bt_designs.specs.Requested.{PinnedNet, pinned_net, IsPinned}
+use Rattle.bt_designs.specs.Requested.{PinnedNet, pinned_laid, pinned_net, IsPinned, IsPinnedText}
 use Rattle.bt_designs.specs.Steps.{stopped, went_on}
-use Rattle.bt_designs.specs.TwoDesigns.{IsTwoNets, IsFrontNets}
+use Rattle.bt_designs.specs.TwoDesigns.{HaveSameEnds, IsTwoNets, IsFrontNets}
 use Rattle.bt_designs.proofs.BareNets.{bare_network, paired}
 use Rattle.bt_designs.proofs.Followed.{StandsAlone, IsFollowed, is_followed, stands_alone}
 use Rattle.bt_designs.proofs.InTurns.{same_value, not_both}
-use Rattle.bt_designs.proofs.LongerDesigns.{net_first}
-use Rattle.bt_designs.proofs.LongerRequests.{PinnedStays, pinned_stays, pinned_within, pinned_goes_on}
+use Rattle.bt_designs.proofs.LongerDesigns.{json_text_stays, net_first, told_stays, told_within}
+use Rattle.bt_designs.proofs.LongerRequests.{PinnedStays, pinned_stays, pinned_within}
 
--- ---- a bare design is one that asks for nothing
+-- ---- the text of a bare design is one that asks for nothing
 
 module _ (bytes : List ℕ) (n : Network) (used : ℕ) where
-  to_pinned : IsBareDesign bytes (Ok (n, used)) → IsPinned bytes (Ok (pinned_net n [] [], used))
-  to_pinned (inl (is, h)) = inl (is, went_on (n, used) h refl)
-  to_pinned (inr (none, stopped fault h e)) = absurd (not_both (n, used) (net_told fault) e)
-  to_pinned (inr (none, went_on read h e)) =
+  to_pinned : IsBareText bytes (Ok (n, used)) → IsPinnedText All bytes (Ok (pinned_net n [] [], used))
+  to_pinned (stopped fault h e) = absurd (not_both (n, used) (net_told fault) e)
+  to_pinned (went_on read h e) =
       let same = same_value (n, used) (read.net, read.used) e in
       let bare = nothing_read bytes read h in
       let demands = sym bare.0 in
       let blocks = sym bare.1 in
-      inr (none, went_on read (bare_is_read bytes read h) (λ i. Ok (pinned_net (same i).0 (demands i) (blocks i), (same i).1)))
+      went_on read (bare_is_read bytes read h) (λ i. Ok (pinned_net (same i).0 (demands i) (blocks i), (same i).1))
 
   from_pinned : IsPinned bytes (Ok (pinned_net n [] [], used)) → IsBareDesign bytes (Ok (n, used))
   from_pinned (inl (is, stopped fault h e)) = absurd (not_both (pinned_net n [] [], used) fault e)
   from_pinned (inl (is, went_on found h e)) =
-      let same = same_value (pinned_net n [] [], used) (pinned_net found.0 [] [], found.1) e in
-      inl (is, subst (λ (x : Network × ℕ). IsJsonLayout bytes (Ok x)) (ap (λ (x : PinnedNet × ℕ). (x.0.net, x.1)) (sym same)) h)
+      let same = same_value (pinned_net n [] [], used) (pinned_laid found.0, found.1) e in
+      let net = ap (λ (x : PinnedNet × ℕ). x.0.net) same in
+      let tier = ap (λ (x : PinnedNet × ℕ). x.0.tier) same in
+      let end = ap (λ (x : PinnedNet × ℕ). x.1) same in
+      inl (is, went_on found h (λ i. Ok (sped (net i) (tier i), end i)))
   from_pinned (inr (none, stopped fault h e)) = absurd (not_both (pinned_net n [] [], used) _ e)
   from_pinned (inr (none, went_on read h e)) =
       let same = same_value (pinned_net n [] [], used) (pinned_net read.net read.demands read.blocks, read.used) e in
@@ -46,22 +49,27 @@ module _ (bytes : List ℕ) (n : Network) (used : ℕ) where
             (ap (λ (x : PinnedNet × ℕ). Ok (x.0.net, x.1)) same),
       )
 
-module _ (bytes : List ℕ) (n : Network) (used : ℕ) (h : IsBareDesign bytes (Ok (n, used))) where
-  abbrev BareStays : Type 0
-  BareStays = ((more : List ℕ) → IsBareDesign (bytes ++ more) (Ok (n, used))) ⊎ ((used ≡ length bytes) × ((more : List ℕ) → IsBareDesign (bytes ++ 10 ∷ more) (Ok (n, used + 1))))
+abbrev BareStays : List ℕ → Network → ℕ → Type 0
+BareStays bytes n used = ((more : List ℕ) → IsBareDesign (bytes ++ more) (Ok (n, used))) ⊎ ((used ≡ length bytes) × ((more : List ℕ) → IsBareDesign (bytes ++ 10 ∷ more) (Ok (n, used + 1))))
 
-  bare_within : used ≤ length bytes
-  bare_within = pinned_within bytes (pinned_net n [] []) used (to_pinned bytes n used h)
+bare_within : (bytes : List ℕ) (n : Network) (used : ℕ) → IsBareDesign bytes (Ok (n, used)) → used ≤ length bytes
+bare_within bytes n used (inl h) = told_within in_basic_belts bytes n used h.1
+bare_within bytes n used (inr (none, h)) = pinned_within bytes (pinned_net n [] []) used (inr (none, to_pinned bytes n used h))
 
-  bare_stays : BareStays
-  bare_stays = by (pinned_stays bytes (pinned_net n [] []) used (to_pinned bytes n used h))
-    where
-      by : PinnedStays bytes (pinned_net n [] []) used → BareStays
-      by (inl stays) = inl (λ more. from_pinned (bytes ++ more) n used (stays more))
-      by (inr (all, fed)) = inr (all, λ more. from_pinned (bytes ++ 10 ∷ more) n (used + 1) (fed more))
+bare_stays : (bytes : List ℕ) (n : Network) (used : ℕ) → IsBareDesign bytes (Ok (n, used)) → BareStays bytes n used
+bare_stays bytes n used (inl (is, h)) = inl (λ more. inl (json_text_stays bytes more is, told_stays in_basic_belts bytes more n used is h))
+bare_stays bytes n used (inr (none, h)) = by (pinned_stays bytes (pinned_net n [] []) used (inr (none, to_pinned bytes n used h)))
+  where
+    by : PinnedStays bytes (pinned_net n [] []) used → BareStays bytes n used
+    by (inl stays) = inl (λ more. from_pinned (bytes ++ more) n used (stays more))
+    by (inr (all, fed)) = inr (all, λ more. from_pinned (bytes ++ 10 ∷ more) n (used + 1) (fed more))
 
-  pub bare_goes_on : (more : List ℕ) → used < length bytes → IsBareDesign (bytes ++ more) (Ok (n, used))
-  bare_goes_on more few = from_pinned (bytes ++ more) n used (pinned_goes_on bytes more (pinned_net n [] [], used) (to_pinned bytes n used h) few)
+pub bare_goes_on : (bytes : List ℕ) (n : Network) (used : ℕ) → IsBareDesign bytes (Ok (n, used)) → (more : List ℕ) → used < length bytes → IsBareDesign (bytes ++ more) (Ok (n, used))
+bare_goes_on bytes n used h more few = by (bare_stays bytes n used h)
+  where
+    by : BareStays bytes n used → IsBareDesign (bytes ++ more) (Ok (n, used))
+    by (inl stays) = stays more
+    by (inr (all, fed)) = absurd (omega (arith, all, few))
 
 -- no design is empty
 never_empty : (n : Network) (used : ℕ) → IsBareDesign [] (Ok (n, used)) → ⊥
@@ -77,7 +85,8 @@ drop_past [] back k m e = ap (λ x. drop x back) (omega (arith, e))
 drop_past (b ∷ front) back k zero e = absurd (omega (arith, e))
 drop_past (b ∷ front) back k (suc m) e = drop_past front back k m (omega (arith, e))
 
--- where a line feed and this text follow the bytes, two designs stand at the front, and the text follows them and blanks
+-- where a line feed and this text follow the bytes, two designs stand at the front, and the text follows them and
+-- blanks
 pub record AreFollowed (bytes text : List ℕ) (nets : Network × Network) : Type 0 where
   pub used : ℕ
   pub front : IsFrontNets (bytes ++ 10 ∷ text) (Ok (nets, used))
@@ -137,7 +146,7 @@ module _ (bytes text : List ℕ) (starts : 0 < length text → IsBlank (slice_in
         let l = length-append (take used bytes ++ skips.blanks) (second ++ 10 ∷ text) in
         omega (arith, e, l)
 
-    pub two_followed : HaveEqualEnds a b → AreFollowed bytes text (a, b)
+    pub two_followed : HaveSameEnds a b → AreFollowed bytes text (a, b)
     two_followed ends = record {
       used = before + on.used;
       front = went_on (a, used) (bare_goes_on bytes a used h (10 ∷ text) few) (second ++ 10 ∷ text, skipped, went_on (b, on.used) on.front (Ok (a, b), inl (ends, refl), refl));
@@ -154,4 +163,4 @@ module _ (bytes text : List ℕ) (starts : 0 < length text → IsBlank (slice_in
       let here = two_followed found.0 found.1 h second skips b lone is.0 in
       let alone = stands_alone IsBareDesign second b lone in
       subst (λ (x : Network × Network). AreFollowed bytes text x × IsNetwork x.0 × IsNetwork x.1 × HaveEqualEnds x.0 x.1) (sym is.1)
-      (here, bare_network bytes found h, bare_network second (b, alone.used) alone.front, is.0)
+      (here, bare_network bytes found h, bare_network second (b, alone.used) alone.front, is.0.counts)

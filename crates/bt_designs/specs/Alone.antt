@@ -18,15 +18,18 @@ line_at bytes at = line_feeds (take at bytes) + 1
 abbrev pub IsRefusedAt : List ℕ → ℕ → Refusal → Type 0
 IsRefusedAt bytes at r = (IsJsonText bytes × (r ≡ Json at)) ⊎ ((IsJsonText bytes → ⊥) × (r ≡ NetLine (line_at bytes at)))
 
--- what comes where this was found and this is what follows it and blanks: what was found where that is nothing, else its refusal
+-- what comes where this was found and this is what follows it and blanks: what was found where that is nothing, else
+-- its refusal
 abbrev pub IsEnded : {X : Type 0} → List ℕ → X → List ℕ → Result X DesignFault → Type 0
 IsEnded bytes found text answer = ((text ≡ []) × (answer ≡ Ok found))
     ⊎ ((0 < length text) × (r : Refusal) × IsRefusedAt bytes (length bytes - length text) r × (answer ≡ Err (Refused r)))
 
--- what comes of bytes at whose front something is to stand alone: why it doesn't stand there, or what stands there where only blanks follow it, or the refusal of the first byte that is none
+-- what comes of bytes at whose front something is to stand alone: why it doesn't stand there, or what stands there
+-- where only blanks follow it, or the refusal of the first byte that is none
 abbrev pub IsAlone : {X : Type 0} → (List ℕ → Result (X × ℕ) DesignFault → Type 0) → List ℕ → Result X DesignFault → Type 0
 IsAlone {X} IsFront bytes = InTurn (IsFront bytes) Err (λ (found : X × ℕ) answer. (text : List ℕ) × SkipsBlanks (drop found.1 bytes) text × IsEnded bytes found.0 text answer)
 
--- what comes of bytes that are to be a design alone: the refusal of the design at their front, or the design's network where only blanks follow it, or the refusal of the first byte that is none
+-- what comes of bytes that are to be a design alone: the refusal of the design at their front, or the design's network
+-- where only blanks follow it, or the refusal of the first byte that is none
 abbrev pub IsLoneNet : List ℕ → Result Network DesignFault → Type 0
 IsLoneNet bytes = IsAlone IsDesign bytes

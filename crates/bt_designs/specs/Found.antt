@@ -3,15 +3,15 @@ use Rattle.std.specs.Prelude.{ℕ}
 use Rattle.bt_net.specs.Network.{Network}
 use Rattle.bt_designs.specs.declared.design.Design as read
 use Rattle.bt_designs.specs.declared.request.PinnedDesign.{PinnedDesign}
-use Rattle.bt_designs.specs.Requested.{PinnedNet, pinned_net}
+use Rattle.bt_designs.specs.Requested.{PinnedNet}
 
 -- a design's network, and how many bytes it has
 abbrev pub net_and_used : read.Design → Network × ℕ
 net_and_used design = (design.net, design.used)
 
--- a design's network, with its pins, its sides and its blocks
+-- a design's network, with its pins, its sides, its blocks and its tier
 abbrev pub pinned_of : PinnedDesign → PinnedNet
-pinned_of design = pinned_net design.net design.demands.items design.blocks.items
+pinned_of design = record { net = design.net; demands = design.demands.items; blocks = design.blocks.items; tier = design.tier }
 
 -- the same, and how many bytes the design has
 abbrev pub pinned_and_used : PinnedDesign → PinnedNet × ℕ

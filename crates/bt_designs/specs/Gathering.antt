@@ -8,7 +8,8 @@ use Rattle.bt_io.specs.declared.fault.ReadAll.{ReadAll}
 use Rattle.bt_designs.specs.declared.held.Gathered.{Gathered}
 use Rattle.bt_designs.specs.declared.held.TheConstants.{MOST_CHECKED}
 
--- a piece of the source was put behind the bytes, or dropped with them as blanks; and it has ended, or the piece isn't empty
+-- a piece of the source was put behind the bytes, or dropped with them as blanks; and it has ended, or the piece isn't
+-- empty
 pub record IsGathered (old : Gathered) (source : Passage) (new : Gathered) : Type 0 where
   pub piece : List ℕ
   pub taken : Consumes source.before source.after piece

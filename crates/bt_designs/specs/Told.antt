@@ -22,7 +22,8 @@ LastsBehind Right held answer = (blanks : List ℕ) → All IsBlank blanks → l
 abbrev pub IsAtHand : Bool → List ℕ → Type 0
 IsAtHand ended bytes = (ended ≡ true) ⊎ (0 < length bytes)
 
--- what is told of something that is to stand at the front: this stands there, and so much of the bytes is it; or more has to be read; or it is refused
+-- what is told of something that is to stand at the front: this stands there, and so much of the bytes is it; or more
+-- has to be read; or it is refused
 abbrev pub TellsFront : {X D : Type 0} → (List ℕ → Result (X × ℕ) DesignFault → Type 0) → (D → X × ℕ) → Held → Result (Option D) DesignFault → Type 0
 TellsFront IsFront of held (Ok (Some d)) =
     IsAtHand held.ended held.bytes.now × ((of d).1 ≤ length held.bytes.now) × LastsBehind IsFront held (Ok ((of d).0, held.skipped + (of d).1))

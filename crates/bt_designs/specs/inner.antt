@@ -2,5 +2,4 @@
 pub mod Behind
 pub mod Dropping
 pub mod Moved
-pub mod ReadBy
 pub mod ToldParts

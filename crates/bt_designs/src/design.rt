@@ -2,33 +2,41 @@
 //!
 //! JSON goes through four layers (its text, the blueprint, the places of parts, the layout), network
 //! text through one. Each step stands in a function of its own, whose fault is told as a refusal.
-ghost use Rattle.std.specs.Prelude.{◌≡◌, ◌↔◌, ◌≤◌, ◌∷◌, ℕ, IsTrue, List, IfOk, length};
+ghost use Rattle.std.specs.Prelude.{◌≡◌, ◌↔◌, ◌≤◌, ◌∷◌, ℕ, IsTrue, List, IfOk, length, map};
 ghost use Rattle.bt_answers.specs.Answers.{UnlessMemory, seen};
 ghost use Rattle.bt_parts.specs.Layouts.{AreInRange};
+ghost use Rattle.bt_net.specs.Network.{IsCap};
 ghost use Rattle.bt_json.specs.Stands.{json_of};
 ghost use Rattle.bt_entities.specs.Answers.{parts_and_priorities_in};
 ghost use Rattle.bt_designs.specs.Found.{net_and_used};
-ghost use Rattle.bt_designs.specs.inner.ReadBy.{net_by};
-ghost use Rattle.bt_designs.specs.Designs.{IsJsonText, IsPlacedNet, IsLayoutNet, IsBlueprintNet};
-ghost use Rattle.bt_designs.specs.Designs.{IsPlacedWith, IsLayoutWith, IsPreferringNet, IsJsonNet, IsTextDesign, IsDesign};
-ghost use Rattle.bt_designs.specs.Designs.{IsBareText, IsBareDesign};
+ghost use Rattle.bt_designs.specs.Designs.{IsJsonText, IsPlacedNet, IsLayoutNet, IsTieredLayout, IsTieredBlueprint, IsTierOf};
+ghost use Rattle.bt_designs.specs.Designs.{IsPlacedWith, IsLayoutWith, IsPreferringNet, IsTextDesign, IsDesign};
+ghost use Rattle.bt_designs.specs.Designs.{IsBareText, IsBareDesign, IsJsonDesign, IsJsonLayout, IsToldOfLayout};
+ghost use Rattle.bt_designs.specs.Designs.{in_basic_belts, with_cap, with_caps};
 
 use crate::fault::DesignFault;
 use bt_entities::{Prioritised, parts_and_priorities, parts_of};
 use bt_grid::Grid;
 use bt_hands::Priority;
 use bt_json::Tree;
-use bt_net::{Admitted, Net};
-use bt_parts::Part;
+use bt_net::{Admitted, Edge, Net};
+use bt_parts::{Part, Tier};
 use bt_recover::{Traced, recover, recover_with};
 use bt_text::skip_blanks;
-use std::alloc::Global;
+use std::alloc::{AllocError, Global};
 
 /// A design's network, and how many bytes the design has.
 #[derive(Drop)]
 pub struct Design {
     pub net: Net,
     pub used: usize,
+}
+
+/// The network of a layout, and the tier of all its parts, where they have one.
+#[derive(Drop)]
+pub struct Laid {
+    pub net: Net,
+    pub tier: Option<Tier>,
 }
 
 /// Whether a design at the front of these bytes is JSON: its first byte that isn't blank is `{`.
@@ -53,7 +61,7 @@ pub fn read_design(alloc: Global, bytes: &[u8]) -> Result<Design, DesignFault>
     ensures within { IfOk result (λ design. design.used ≤ length bytes.now) }
 {
     if is_json(bytes) {
-        read_json(alloc, Reading::Design, bytes)
+        read_json(alloc, bytes)
     } else {
         read_text(alloc, bytes)
     }
@@ -74,13 +82,13 @@ pub fn read_text(alloc: Global, bytes: &[u8]) -> Result<Design, DesignFault>
 }
 
 /// The bare design at the front of the bytes: no splitter of it prefers a side or an edge, and its text names neither
-/// pins, sides nor blocks.
+/// pins, sides nor blocks. The network of JSON text is told in basic belts.
 pub fn read_bare(alloc: Global, bytes: &[u8]) -> Result<Design, DesignFault>
     ensures design { UnlessMemory DesignFault.Memory (IsBareDesign bytes.now) (seen net_and_used result) }
     ensures within { IfOk result (λ design. design.used ≤ length bytes.now) }
 {
     if is_json(bytes) {
-        read_json(alloc, Reading::Layout, bytes)
+        read_bare_json(alloc, bytes)
     } else {
         read_bare_text(alloc, bytes)
     }
@@ -100,37 +108,80 @@ fn read_bare_text(alloc: Global, bytes: &[u8]) -> Result<Design, DesignFault>
     }
 }
 
-/// For what a blueprint is read.
-#[derive(Clone, Copy)]
-pub enum Reading {
-    /// As a design, whose splitters may prefer sides.
-    Design,
-    /// As a layout that is asked for, whose splitters prefer none.
-    Layout,
-}
-
-/// The network whose JSON text stands at the front of the bytes, read so.
-pub fn read_json(alloc: Global, reading: Reading, bytes: &[u8]) -> Result<Design, DesignFault>
-    ensures design { UnlessMemory DesignFault.Memory (IsJsonNet (net_by reading) bytes.now)
+/// The bare design whose JSON text stands at the front of the bytes, in basic belts.
+fn read_bare_json(alloc: Global, bytes: &[u8]) -> Result<Design, DesignFault>
+    ensures design { UnlessMemory DesignFault.Memory (IsToldOfLayout in_basic_belts bytes.now)
         (seen net_and_used result) }
     ensures within { IfOk result (λ design. design.used ≤ length bytes.now) }
 {
-    match bt_json::read(alloc, bytes) {
-        Ok((tree, used)) => match net_of_tree(alloc, reading, tree) {
+    match read_json_layout(alloc, bytes) {
+        Ok((laid, used)) => match in_basic_belts(alloc, laid) {
             Ok(net) => Ok(Design { net, used }),
+            Err(_) => Err(DesignFault::Memory),
+        },
+        Err(fault) => Err(fault),
+    }
+}
+
+/// A layout's network in the unit of a basic belt.
+fn in_basic_belts(alloc: Global, laid: Laid) -> Result<Net, AllocError>
+    ensures { IfOk result (λ net. net ≡ in_basic_belts laid) }
+{
+    let Laid { net, tier } = laid;
+    match tier {
+        Some(tier) => with_caps(alloc, &net, tier.speed()),
+        None => Ok(net),
+    }
+}
+
+/// A network with the same edges, each with this cap.
+fn with_caps(alloc: Global, net: &Net, cap: u32) -> Result<Net, AllocError>
+    requires { IsCap cap }
+    ensures { IfOk result (λ capped. capped ≡ with_caps cap net.now) }
+{
+    let edges = capped(alloc, net.edges(), cap)?;
+    match Net::new(net.inputs(), net.outputs(), net.splitters(), edges) {
+        Ok(net) => Ok(net),
+        Err(_) => Err(AllocError),
+    }
+}
+
+/// The same edges with this cap.
+fn capped(alloc: Global, edges: &[Edge], cap: u32) -> Result<Vec<Edge>, AllocError>
+    ensures { IfOk result (λ capped. capped.items ≡ map (with_cap cap) edges.now) }
+{
+    edges
+        .iter()
+        .map(|edge| Edge { cap, ..*edge })
+        .collect(alloc)
+}
+
+/// The layout whose JSON text stands at the front of the bytes, in which no splitter prefers a side, and how many bytes
+/// it has.
+pub fn read_json_layout(alloc: Global, bytes: &[u8]) -> Result<(Laid, usize), DesignFault>
+    ensures layout { UnlessMemory DesignFault.Memory (IsJsonLayout bytes.now) result }
+    ensures within { IfOk result (λ found. found.1 ≤ length bytes.now) }
+{
+    match bt_json::read(alloc, bytes) {
+        Ok((tree, used)) => match laid_of_blueprint(alloc, tree) {
+            Ok(laid) => Ok((laid, used)),
             Err(fault) => Err(fault),
         },
         Err(fault) => Err(fault.into()),
     }
 }
 
-/// The network of a blueprint, read so.
-fn net_of_tree(alloc: Global, reading: Reading, tree: Tree) -> Result<Net, DesignFault>
-    ensures { UnlessMemory DesignFault.Memory (net_by reading (json_of tree)) result }
+/// The network whose JSON text stands at the front of the bytes.
+fn read_json(alloc: Global, bytes: &[u8]) -> Result<Design, DesignFault>
+    ensures design { UnlessMemory DesignFault.Memory (IsJsonDesign bytes.now) (seen net_and_used result) }
+    ensures within { IfOk result (λ design. design.used ≤ length bytes.now) }
 {
-    match reading {
-        Reading::Design => net_of_design(alloc, tree),
-        Reading::Layout => net_of_blueprint(alloc, tree),
+    match bt_json::read(alloc, bytes) {
+        Ok((tree, used)) => match net_of_design(alloc, tree) {
+            Ok(net) => Ok(Design { net, used }),
+            Err(fault) => Err(fault),
+        },
+        Err(fault) => Err(fault.into()),
     }
 }
 
@@ -168,16 +219,43 @@ fn net_of_grid_with(alloc: Global, grid: &Grid, priorities: &[Priority]) -> Resu
     }
 }
 
-/// The network of a blueprint whose splitters prefer no side.
-fn net_of_blueprint(alloc: Global, tree: Tree) -> Result<Net, DesignFault>
-    ensures { UnlessMemory DesignFault.Memory (IsBlueprintNet (json_of tree)) result }
+/// The layout of a blueprint whose splitters prefer no side.
+fn laid_of_blueprint(alloc: Global, tree: Tree) -> Result<Laid, DesignFault>
+    ensures { UnlessMemory DesignFault.Memory (IsTieredBlueprint (json_of tree)) result }
 {
     let parts = parts_of(alloc, &tree);
     drop(tree);
     match parts {
-        Ok(parts) => net_of_layout(alloc, parts),
+        Ok(parts) => laid_out(alloc, parts),
         Err(fault) => Err(fault.into()),
     }
+}
+
+/// The network of a layout, and the tier of its parts.
+fn laid_out(alloc: Global, parts: Vec<Part>) -> Result<Laid, DesignFault>
+    requires { AreInRange parts.items }
+    ensures { UnlessMemory DesignFault.Memory (IsTieredLayout parts.items) result }
+{
+    let tier = tier_of(&parts);
+    match net_of_layout(alloc, parts) {
+        Ok(net) => Ok(Laid { net, tier }),
+        Err(fault) => Err(fault),
+    }
+}
+
+/// The tier of all parts, where they have one.
+fn tier_of(parts: &[Part]) -> Option<Tier>
+    ensures { IsTierOf parts.now result }
+{
+    let Some(first) = parts.first() else {
+        return None;
+    };
+    for part in parts {
+        if part.tier != first.tier {
+            return None;
+        }
+    }
+    Some(first.tier)
 }
 
 /// The network of a layout.

@@ -21,7 +21,7 @@ use std::alloc::{AllocError, Global};
 pub fn read_kept_request(
     alloc: Global,
     rect: Rect,
-    tier: Tier,
+    tier: Option<Tier>,
     bytes: &[u8],
 ) -> Result<Request, DesignFault>
     requires { IsGrid rect }
@@ -37,7 +37,7 @@ pub fn read_kept_request(
 fn kept_request_for(
     alloc: Global,
     rect: Rect,
-    tier: Tier,
+    tier: Option<Tier>,
     bytes: &[u8],
     design: PinnedDesign,
 ) -> Result<Request, DesignFault>
@@ -54,18 +54,7 @@ fn kept_request_for(
 fn with_demands(design: PinnedDesign, demands: Vec<Demand>) -> PinnedDesign
     ensures { pinned_of result ≡ record (pinned_of design) { demands = demands.items } }
 {
-    let PinnedDesign {
-        net,
-        blocks,
-        used,
-        ..
-    } = design;
-    PinnedDesign {
-        net,
-        demands,
-        blocks,
-        used,
-    }
+    PinnedDesign { demands, ..design }
 }
 
 /// The sides at which the ends of the blueprint stand that stands at the front of the bytes. It was read of them

@@ -53,6 +53,7 @@ pub enum Refusal {
     /// The block of this line, from 1, names a cell outside the grid, the cell of a pin, or that of a block
     /// of an earlier line.
     Block(usize),
-    /// Two networks that are to be compared have other numbers of inputs or of outputs.
+    /// Two networks that are to be compared have other numbers of inputs or of outputs, or other caps at ends of one
+    /// number.
     Ends,
 }

@@ -6,22 +6,24 @@ ghost use Rattle.bt_model.specs.Requests.{IsGrid};
 ghost use Rattle.bt_designs.specs.Found.{pinned_and_used, pinned_of};
 ghost use Rattle.bt_designs.specs.Alone.{IsAlone};
 ghost use Rattle.bt_designs.specs.Requested.{IsPinned, IsPinnedJson, IsPinnedText};
-ghost use Rattle.bt_designs.specs.Requested.{IsLoneRequest, IsRequestFor, IsSidedRequest};
+ghost use Rattle.bt_designs.specs.Requested.{IsLoneRequest, IsRequestFor, IsSidedRequest, tier_for};
 
 use crate::alone::refused_behind;
-use crate::design::{Design, Reading, is_json, read_json};
+use crate::design::{Laid, is_json, read_json_layout};
 use crate::fault::DesignFault;
 use bt_model::Request;
 use bt_net::{Admitted, Block, Demand, Net};
 use bt_parts::{Rect, Tier};
 use std::alloc::Global;
 
-/// A design's network with its pins, its sides and its blocks, and how many bytes the design has.
+/// A design's network with its pins, its sides, its blocks and its tier, and how many bytes the design has.
 #[derive(Drop)]
 pub struct PinnedDesign {
     pub net: Net,
     pub demands: Vec<Demand>,
     pub blocks: Vec<Block>,
+    /// The tier of its own parts, where it is laid out and they have one.
+    pub tier: Option<Tier>,
     pub used: usize,
 }
 
@@ -29,7 +31,7 @@ pub struct PinnedDesign {
 pub fn read_lone_request(
     alloc: Global,
     rect: Rect,
-    tier: Tier,
+    tier: Option<Tier>,
     bytes: &[u8],
 ) -> Result<Request, DesignFault>
     requires { IsGrid rect }
@@ -41,8 +43,13 @@ pub fn read_lone_request(
     }
 }
 
-/// The request for a design in the rectangle, of parts of the tier.
-pub fn request_for(rect: Rect, tier: Tier, design: PinnedDesign) -> Result<Request, DesignFault>
+/// The request for a design in the rectangle, of parts of the tier: where none is asked for, of the design's own, or else
+/// of the basic one.
+pub fn request_for(
+    rect: Rect,
+    tier: Option<Tier>,
+    design: PinnedDesign,
+) -> Result<Request, DesignFault>
     requires { IsGrid rect }
     ensures { UnlessMemory DesignFault.Memory (IsRequestFor rect tier (pinned_of design)) result }
 {
@@ -50,12 +57,20 @@ pub fn request_for(rect: Rect, tier: Tier, design: PinnedDesign) -> Result<Reque
         net,
         demands,
         blocks,
+        tier: own,
         ..
     } = design;
-    match Request::new(net, rect, tier, demands, blocks) {
+    match Request::new(net, rect, tier_for(tier, own), demands, blocks) {
         Ok(request) => Ok(request),
         Err(fault) => Err(fault.into()),
     }
+}
+
+/// The tier of a request.
+fn tier_for(asked: Option<Tier>, own: Option<Tier>) -> Tier
+    ensures { result ≡ tier_for asked own }
+{
+    asked.unwrap_or(own.unwrap_or(Tier::Basic))
 }
 
 /// The design that the bytes are, with its pins, its sides and its blocks, and blanks behind it.
@@ -87,7 +102,7 @@ pub fn read_pinned(alloc: Global, bytes: &[u8]) -> Result<PinnedDesign, DesignFa
 pub fn read_sided_request(
     alloc: Global,
     rect: Rect,
-    tier: Tier,
+    tier: Option<Tier>,
     bytes: &[u8],
 ) -> Result<Request, DesignFault>
     requires { IsGrid rect }
@@ -128,6 +143,7 @@ fn read_pinned_text(
             net: read.net,
             demands: read.demands,
             blocks: read.blocks,
+            tier: None,
             used: read.used,
         }),
         Err(fault) => Err(fault.into()),
@@ -139,14 +155,15 @@ fn read_pinned_json(alloc: Global, bytes: &[u8]) -> Result<PinnedDesign, DesignF
     ensures design { UnlessMemory DesignFault.Memory (IsPinnedJson bytes.now) (seen pinned_and_used result) }
     ensures within { IfOk result (λ design. design.used ≤ length bytes.now) }
 {
-    match read_json(alloc, Reading::Layout, bytes) {
-        Ok(Design { net, used }) => {
+    match read_json_layout(alloc, bytes) {
+        Ok((Laid { net, tier }, used)) => {
             let demands = Vec::new(alloc);
             let blocks = Vec::new(alloc);
             Ok(PinnedDesign {
                 net,
                 demands,
                 blocks,
+                tier,
                 used,
             })
         }

@@ -1,5 +1,5 @@
 -- The texts of a formula's rows and clauses.
-use Rattle.std.specs.Prelude.{ℕ, ◌+◌, ◌-◌, nat_lt, List, [], ◌∷◌, ◌++◌, length, if◌then◌else◌, codes, decimal}
+use Rattle.std.specs.Prelude.{ℕ, ◌+◌, ◌-◌, nat_lt, List, [], ◌∷◌, ◌++◌, length, Option, None, Some, if◌then◌else◌, codes, decimal}
 use Rattle.std.specs.List.{flat_map}
 use Rattle.bt_text.specs.Lines.{line}
 use Rattle.bt_frac.specs.Ratio.{Ratio}
@@ -18,12 +18,19 @@ relation_text AtLeast = codes ">="
 relation_text Above = codes ">"
 relation_text Equal = codes "="
 
--- a column: `f` and the number of an edge, whose flow it is; or `c` and that of an input, whose load it is; or `d` and that of an output, whose room it is
+-- the number of a column among those of its kind, where the kind has several
+abbrev pub number_text : Option ℕ → List ℕ
+number_text None = []
+number_text (Some number) = decimal number
+
+-- a column: `f` and the number of an edge, whose flow it is; or `c` and that of an input, whose load it is; or `d` and
+-- that of an output, whose room it is; or `x`, a level with which ends are compared
 abbrev pub column_text : Columns → ℕ → List ℕ
 column_text columns column =
     if nat_lt column columns.edges then codes "f" ++ decimal column
     else (if nat_lt (column - columns.edges) columns.inputs then codes "c" ++ decimal (column - columns.edges)
-    else codes "d" ++ decimal (column - columns.edges - columns.inputs))
+    else (if nat_lt (column - columns.edges - columns.inputs) columns.outputs then codes "d" ++ decimal (column - columns.edges - columns.inputs)
+    else codes "x"))
 
 -- a term: its coefficient, `*`, and its column
 abbrev pub term_text : Columns → ℕ × Ratio → List ℕ

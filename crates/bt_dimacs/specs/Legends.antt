@@ -25,7 +25,8 @@ block from end meaning = record { from = from; end = end; meaning = meaning }
 abbrev pub mark_block : Columns → BlockParts
 mark_block columns = block 0 columns.edges (codes "mark edge")
 
--- the blocks of a placement formula: the facts that they say, and of what each has one for each, the first of these outermost
+-- the blocks of a placement formula: the facts that they say, and of what each has one for each, the first of these
+-- outermost
 abbrev pub place_blocks : Starts → List BlockParts
 place_blocks s =
     block 0 s.halves (codes "carries cell class") ∷

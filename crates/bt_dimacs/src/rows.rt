@@ -113,10 +113,15 @@ fn print_term<K: Sink>(
     let mut coefficient = [0; TEXT_MAX];
     let mut number = Buffer::new();
     let len = term.1.text(&mut coefficient);
-    let name = columns.name(term.0);
-    let letter = name.0.as_bytes();
-    let number = number.format(name.1).as_bytes();
-    write_pieces(sink, &[b" ", &coefficient[..len], b"*", letter, number])
+    let (letter, place) = columns.name(term.0);
+    let letter = letter.as_bytes();
+    match place {
+        Some(place) => {
+            let number = number.format(place).as_bytes();
+            write_pieces(sink, &[b" ", &coefficient[..len], b"*", letter, number])
+        }
+        None => write_pieces(sink, &[b" ", &coefficient[..len], b"*", letter]),
+    }
 }
 
 /// The word for how a row stands to its bound.

@@ -20,12 +20,14 @@ parts_in v = v.items
 abbrev pub parts_and_priorities_in : Prioritised → List Part × List Priority
 parts_and_priorities_in read = (read.parts.items, read.priorities.items)
 
--- the root is a blueprint of these parts, whose coordinates are in range, and of which no splitter prefers a side; or it is refused with this fault
+-- the root is a blueprint of these parts, whose coordinates are in range, and of which no splitter prefers a side; or
+-- it is refused with this fault
 abbrev pub IsPartsOf : Json → Result (List Part) EntityFault → Type 0
 IsPartsOf root (Ok parts) = IsBlueprintOf special_in_layouts root parts × AreInRange parts
 IsPartsOf root (Err fault) = IsRefused special_in_layouts root fault
 
--- the root is a blueprint of these parts, whose coordinates are in range, its entities have these priorities, and none of these members of them is special; or it is refused with this fault
+-- the root is a blueprint of these parts, whose coordinates are in range, its entities have these priorities, and none
+-- of these members of them is special; or it is refused with this fault
 abbrev pub IsReadOf : List Member → Json → Result (List Part × List Priority) EntityFault → Type 0
 IsReadOf members root (Ok read) = IsBlueprintOf members root read.0 × HavePriorities root read.1 × AreInRange read.0
 IsReadOf members root (Err fault) = IsRefused members root fault

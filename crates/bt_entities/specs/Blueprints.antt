@@ -35,7 +35,8 @@ pub record IsBlueprint (root : Json) (major : ℕ) (entities : List Json) : Type
 abbrev pub HasEntity : List Json → ℕ → Json → Type 0
 HasEntity entities i v = slice_get entities i ≡ Some v
 
--- the entities stand for these parts, in their order, the first of them sets the grid of all, and none of these members is special
+-- the entities stand for these parts, in their order, the first of them sets the grid of all, and none of these members
+-- is special
 pub record AreParts (members : List Member) (major : ℕ) (entities : List Json) (parts : List Part) : Type 0 where
   pub same_length : length parts ≡ length entities
   pub each : (first v : Json) (part : Part) (i : ℕ) → HasEntity entities 0 first → HasEntity entities i v
@@ -46,7 +47,8 @@ pub record ArePriorities (entities : List Json) (priorities : List Priority) : T
   pub same_length : length priorities ≡ length entities
   pub each : (v : Json) (priority : Priority) (i : ℕ) → HasEntity entities i v → slice_get priorities i ≡ Some priority → HasPriority v priority
 
--- the root has a blueprint of no more than the most entities, which stand for these parts, and of which none of these members is special
+-- the root has a blueprint of no more than the most entities, which stand for these parts, and of which none of these
+-- members is special
 pub record IsBlueprintOf (members : List Member) (root : Json) (parts : List Part) : Type 0 where
   pub major : ℕ
   pub entities : List Json

@@ -149,7 +149,8 @@ IsFirstSpecial members v member = IsFirst (IsSpecial v) members member
 abbrev pub IsPlain : List Member → Json → Type 0
 IsPlain members v = (member : Member) → ¬ IsFirstSpecial members v member
 
--- the value is an entity that stands for this part, in a blueprint whose entity 0 is the first, and none of these members of it is special
+-- the value is an entity that stands for this part, in a blueprint whose entity 0 is the first, and none of these
+-- members of it is special
 pub record IsEntity (members : List Member) (major : ℕ) (first v : Json) (part : Part) : Type 0 where
   pub has_kind : HasKind v part.kind
   pub has_tier : HasTier v part.tier

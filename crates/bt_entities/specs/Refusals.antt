@@ -24,7 +24,8 @@ HasWrong v name IsRight = (m : Json) × HasMember v name m × ¬ IsRight m
 abbrev pub IsList : Json → Type 0
 IsList v = (items : Items) × (v ≡ list items)
 
--- the root is no object, or has neither a blueprint nor a book, or the blueprint is no object, or its entities are no list, or its version is no whole number that fits 64 bits
+-- the root is no object, or has neither a blueprint nor a book, or the blueprint is no object, or its entities are no
+-- list, or its version is no whole number that fits 64 bits
 abbrev pub IsNotBlueprint : Json → Type 0
 IsNotBlueprint root = (¬ IsObject root)
     ⊎ (Lacks root (codes "blueprint") × Lacks root (codes "blueprint_book"))
@@ -64,7 +65,8 @@ tested_members = Entity ∷ Name ∷ Position ∷ Direction ∷ PieceType ∷ In
 abbrev pub IsBadMember : ℕ → Json → Member → Type 0
 IsBadMember major v member = IsFirst (IsWrong major v) tested_members member
 
--- no cell is the entity's on the grid of entity 0: a coordinate is no multiple of a half or too great, or the halves don't
+-- no cell is the entity's on the grid of entity 0: a coordinate is no multiple of a half or too great, or the halves
+-- don't
 -- agree with entity 0's, or entity 0 stands on no grid
 abbrev pub IsOffGrid : ℕ → Json → Json → Type 0
 IsOffGrid major first v = (cell : Cell) → ¬ IsInCell major first v cell
@@ -111,7 +113,8 @@ pub record IsFirstFault (members : List Member) (root : Json) (fault : EntityFau
   pub few : length entities ≤ MOST_ENTITIES
   pub first : IsFirstOf members major entities fault
 
--- the root is refused with this fault, where these members may not be special; want of memory refuses nothing, since no entity has it
+-- the root is refused with this fault, where these members may not be special; want of memory refuses nothing, since no
+-- entity has it
 abbrev pub IsRefused : List Member → Json → EntityFault → Type 0
 IsRefused members root NotBlueprint = IsNotBlueprint root
 IsRefused members root Book = IsBook root

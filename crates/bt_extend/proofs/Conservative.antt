@@ -57,7 +57,8 @@ later_true assignment l lits some = (suc some.0, some.1, (let inside = some.2 in
 
 -- ---- comparisons
 
--- with a comparison the values stay, the variables of the formula stay, and where the form reaches its number, the first of the
+-- with a comparison the values stay, the variables of the formula stay, and where the form reaches its number, the
+-- first of the
 -- two new variables is true
 record Compared (f : FormulaParts) (form : FormParts) (assignment : ℕ → Bool) (values : ℕ → Ratio) : Type 0 where
   other : ℕ → Bool

@@ -24,7 +24,8 @@ lit_of l = record { var = l.var; positive = l.positive }
 abbrev pub opposite_of : NamedLit → Lit
 opposite_of l = record { var = l.var; positive = not l.positive }
 
--- with a comparison: two more variables, whose atoms say that the form's terms reach its number and that they don't, and the
+-- with a comparison: two more variables, whose atoms say that the form's terms reach its number and that they don't,
+-- and the
 -- clause of both
 abbrev pub with_comparison : FormulaParts → FormParts → FormulaParts
 with_comparison f form = record {
@@ -37,7 +38,8 @@ with_comparison f form = record {
 abbrev pub with_column : FormulaParts → ℕ → FormParts → FormulaParts
 with_column f column form = with_comparison (with_comparison f (column_less column form)) (less_column column form)
 
--- with one more column, which is the first form, number included, where the variable is true, and else the second: of the
+-- with one more column, which is the first form, number included, where the variable is true, and else the second: of
+-- the
 -- comparisons with both, eight more variables, the variable chooses which hold
 abbrev pub with_cases : FormulaParts → ℕ → FormParts → FormParts → FormulaParts
 with_cases f var first second =
@@ -75,7 +77,8 @@ abbrev pub BeginsWithNone : FormulaParts → List Definition → Type 0
 BeginsWithNone f [] = Unit {0}
 BeginsWithNone f (d ∷ ds) = IsDefinition f d → ⊥
 
--- of the definitions that were given these were taken: all in front of the first that may not extend the formula with those
+-- of the definitions that were given these were taken: all in front of the first that may not extend the formula with
+-- those
 -- before it
 pub record AreTaken (f : FormulaParts) (given taken : List Definition) : Type 0 where
   pub are : AreDefinitions f taken

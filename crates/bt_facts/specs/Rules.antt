@@ -34,7 +34,8 @@ exactly_one facts = some_of facts ∷ at_most_one facts
 abbrev pub equals_one : Fact → List Fact → List Rule
 equals_one fact facts = rule (fact ∷ []) facts ∷ map (λ one. rule (one ∷ []) (fact ∷ [])) facts
 
--- where it is this half of which the fact tells, and these hold, one of those does: the lesser one where the fact holds, else
+-- where it is this half of which the fact tells, and these hold, one of those does: the lesser one where the fact
+-- holds, else
 -- the greater one
 abbrev pub rule_by : Half → Fact → List Fact → List Fact → Rule
 rule_by Lesser by_lesser given one_of = rule (by_lesser ∷ given) one_of

@@ -4,7 +4,7 @@ use Rattle.std.specs.List.{AllByRecursion, flat_map, range_with_len}
 use Rattle.std.proofs.lemmas.Int.{ints}
 use Rattle.std.proofs.Math.Bool.{not}
 use Rattle.std.proofs.lemmas.Bool.{ltb-false, cases_eq}
-use Rattle.std.proofs.lemmas.List.{get_or_append_left, get_or-append-add}
+use Rattle.std.proofs.lemmas.List.{get_or_append_left, get_or-append-add, get_or_default}
 use Rattle.std.proofs.lemmas.Option.{slice_get-get_or, slice_get_within}
 use Rattle.bt_frac.specs.Values.{RowHolds}
 use Rattle.bt_net.specs.declared.network.Edge.{Edge}
@@ -31,35 +31,37 @@ use Rattle.bt_fenc.proofs.Sides.{at_side, side_edges, side_ascends, preferred_is
 use Rattle.bt_fenc.proofs.RowValues as rows
 use Rattle.bt_fenc.proofs.Withins.{each-flat_map, each-map, each-range, each_any}
 
--- the whole number in a column
-abbrev pub column_of : Flows → ℕ → ℤ
-column_of s c = get_or (s.flows ++ s.loads ++ s.rooms) c (pos 0)
+-- the whole number in a column; behind the columns of the state stands a level
+abbrev pub column_of : Flows → ℤ → ℕ → ℤ
+column_of s level c = get_or (s.flows ++ s.loads ++ s.rooms) c level
 
-module _ (n : Network) (is : IsNetwork n) (s : Flows) (state : IsStateOf n s) where
+module _ (n : Network) (is : IsNetwork n) (s : Flows) (state : IsStateOf n s) (level : ℤ) where
   abbrev pub w : ℕ → ℤ
-  w = column_of s
+  w = column_of s level
 
   pub flow_column : (a : ℕ) → a < length n.edges → w a ≡ flow_at s a
   flow_column a l =
       let f = state.flows in
       let more = length-append s.flows s.loads in
-      get_or_append_left (s.flows ++ s.loads) s.rooms (pos 0) a (omega (arith, f, more, l)) ∙ get_or_append_left s.flows s.loads (pos 0) a (omega (arith, f, l))
+      get_or_append_left (s.flows ++ s.loads) s.rooms level a (omega (arith, f, more, l)) ∙ get_or_append_left s.flows s.loads level a (omega (arith, f, l))
+      ∙ get_or_default s.flows a level (pos 0) (omega (arith, f, l))
 
   pub load_column_is : (i : ℕ) → i < n.inputs → w (load_column n i) ≡ load_at s i
   load_column_is i l =
       let f = state.flows in
       let g = state.loads in
       let more = length-append s.flows s.loads in
-      get_or_append_left (s.flows ++ s.loads) s.rooms (pos 0) (length n.edges + i) (omega (arith, f, g, more, l))
-      ∙ ap (λ k. get_or (s.flows ++ s.loads) (k + i) (pos 0)) (sym f) ∙ get_or-append-add s.flows s.loads i (pos 0)
+      get_or_append_left (s.flows ++ s.loads) s.rooms level (length n.edges + i) (omega (arith, f, g, more, l))
+      ∙ ap (λ k. get_or (s.flows ++ s.loads) (k + i) level) (sym f) ∙ get_or-append-add s.flows s.loads i level ∙ get_or_default s.loads i level (pos 0) (omega (arith, g, l))
 
   pub room_column_is : (o : ℕ) → o < n.outputs → w (room_column n o) ≡ room_at s o
   room_column_is o l =
       let f = state.flows in
       let g = state.loads in
+      let r = state.rooms in
       let more = length-append s.flows s.loads in
-      ap (λ k. get_or (s.flows ++ s.loads ++ s.rooms) (k + o) (pos 0)) (let e : length n.edges + n.inputs ≡ length (s.flows ++ s.loads) = omega (arith, f, g, more) in e)
-      ∙ get_or-append-add (s.flows ++ s.loads) s.rooms o (pos 0)
+      ap (λ k. get_or (s.flows ++ s.loads ++ s.rooms) (k + o) level) (let e : length n.edges + n.inputs ≡ length (s.flows ++ s.loads) = omega (arith, f, g, more) in e)
+      ∙ get_or-append-add (s.flows ++ s.loads) s.rooms o level ∙ get_or_default s.rooms o level (pos 0) (omega (arith, r, l))
 
 mul_mono : (m n d : ℕ) → m ≤ n → m * d ≤ n * d
 mul_mono m n d l = grind arith
@@ -70,18 +72,18 @@ same_or_not true false = inr refl
 same_or_not false true = inr refl
 same_or_not false false = inl refl
 
-module _ (n : Network) (is : IsNetwork n) (s : Flows) (state : IsStateOf n s) (steady : IsSteady n s) where
+module _ (n : Network) (is : IsNetwork n) (s : Flows) (state : IsStateOf n s) (level : ℤ) (steady : IsSteady n s) where
   abbrev pub True : List StateLiteral → Type 0
-  True claims = HasTrue (backed_at s) (rows.over (w n is s state) s.denominator) claims
+  True claims = HasTrue (backed_at s) (rows.over (w n is s state level) s.denominator) claims
 
   abbrev pub AllTrue : List (List StateLiteral) → Type 0
   AllTrue clauses = AllByRecursion True clauses
 
-  range_true : (c k : ℕ) → pos 0 ≤ℤ w n is s state c → w n is s state c ≤ℤ pos (k * s.denominator) → AllTrue (range_clauses c k)
+  range_true : (c k : ℕ) → pos 0 ≤ℤ w n is s state level c → w n is s state level c ≤ℤ pos (k * s.denominator) → AllTrue (range_clauses c k)
   range_true c k low high =
       let zero_is : pos (0 * s.denominator) ≡ pos 0 = omega (arith, ints) in
-      let least = subst (λ z. z ≤ℤ w n is s state c) (sym zero_is) low in
-      (inl (rows.at_least_holds (w n is s state) s.denominator state.positive c 0 least), (inl (rows.at_most_holds (w n is s state) s.denominator state.positive c k high), tt))
+      let least = subst (λ z. z ≤ℤ w n is s state level c) (sym zero_is) low in
+      (inl (rows.at_least_holds (w n is s state level) s.denominator state.positive c 0 least), (inl (rows.at_most_holds (w n is s state level) s.denominator state.positive c k high), tt))
 
   there : (a : ℕ) → a < length n.edges → HasEdge n a (get_or n.edges a no_edge)
   there a l = slice_get-get_or n.edges a no_edge l
@@ -89,24 +91,24 @@ module _ (n : Network) (is : IsNetwork n) (s : Flows) (state : IsStateOf n s) (s
   below : (a : ℕ) (e : Edge) → HasEdge n a e → a < length n.edges
   below a e h = slice_get_within n.edges a e h
 
-  pub flow_is : (a : ℕ) (e : Edge) → HasEdge n a e → w n is s state a ≡ flow_at s a
-  flow_is a e h = flow_column n is s state a (below a e h)
+  pub flow_is : (a : ℕ) (e : Edge) → HasEdge n a e → w n is s state level a ≡ flow_at s a
+  flow_is a e h = flow_column n is s state level a (below a e h)
 
   pub cap_over : (a : ℕ) (e : Edge) → HasEdge n a e → pos (cap_at n a * s.denominator) ≡ cap_in s e
   cap_over a e h = ap (λ c. pos (c * s.denominator)) (cap_is n a e h)
 
   -- one flow is at least another
-  not_below_true : (a b : ℕ) (e f : Edge) → HasEdge n a e → HasEdge n b f → flow_at s b ≤ℤ flow_at s a → RowHolds (not_below a b) (rows.over (w n is s state) s.denominator)
+  not_below_true : (a b : ℕ) (e f : Edge) → HasEdge n a e → HasEdge n b f → flow_at s b ≤ℤ flow_at s a → RowHolds (not_below a b) (rows.over (w n is s state level) s.denominator)
   not_below_true a b e f h g l =
       let x = flow_is a e h in
       let y = flow_is b f g in
-      rows.not_below_holds (w n is s state) s.denominator state.positive a b (omega (arith, ints, x, y, l))
+      rows.not_below_holds (w n is s state level) s.denominator state.positive a b (omega (arith, ints, x, y, l))
 
-  full_true : (a : ℕ) (e : Edge) → HasEdge n a e → flow_at s a ≡ cap_in s e → RowHolds (at_least a (cap_at n a)) (rows.over (w n is s state) s.denominator)
+  full_true : (a : ℕ) (e : Edge) → HasEdge n a e → flow_at s a ≡ cap_in s e → RowHolds (at_least a (cap_at n a)) (rows.over (w n is s state level) s.denominator)
   full_true a e h full =
       let x = flow_is a e h in
       let c = cap_over a e h in
-      rows.at_least_holds (w n is s state) s.denominator state.positive a (cap_at n a) (omega (arith, ints, x, c, full))
+      rows.at_least_holds (w n is s state level) s.denominator state.positive a (cap_at n a) (omega (arith, ints, x, c, full))
 
   pub flows_true : (a : ℕ) → a < length n.edges → AllTrue (clauses_at n of.Flows a)
   flows_true a l =
@@ -121,12 +123,12 @@ module _ (n : Network) (is : IsNetwork n) (s : Flows) (state : IsStateOf n s) (s
 
   pub conserve_true : (k : ℕ) → k < n.splitters → AllTrue (clauses_at n of.Conserve k)
   conserve_true k l =
-      (inl (rows.conserve_holds (w n is s state) s.denominator state.positive k n.edges s.flows state.flows (λ i b. flow_column n is s state i b) (steady.conserve k l)), tt)
+      (inl (rows.conserve_holds (w n is s state level) s.denominator state.positive k n.edges s.flows state.flows (λ i b. flow_column n is s state level i b) (steady.conserve k l)), tt)
 
   pub loads_true : IsAdmissible n s → (i : ℕ) → i < n.inputs → AllTrue (clauses_at n of.Loads i)
   loads_true admits i l =
       let edge = input_is n is i l in
-      let x = load_column_is n is s state i l in
+      let x = load_column_is n is s state level i l in
       let c = cap_over (input_edge n i) edge.0 edge.1 in
       let r = admits.loads i l (input_edge n i) edge.0 edge.1 edge.2 in
       let low = r.0 in
@@ -136,21 +138,21 @@ module _ (n : Network) (is : IsNetwork n) (s : Flows) (state : IsStateOf n s) (s
   pub rooms_true : IsAdmissible n s → (o : ℕ) → o < n.outputs → AllTrue (clauses_at n of.Rooms o)
   rooms_true admits o l =
       let edge = output_is n is o l in
-      let x = room_column_is n is s state o l in
+      let x = room_column_is n is s state level o l in
       let c = cap_over (output_edge n o) edge.0 edge.1 in
       let r = admits.rooms o l (output_edge n o) edge.0 edge.1 edge.2 in
       let low = r.0 in
       let high = r.1 in
       range_true (room_column n o) (cap_at n (output_edge n o)) (omega (arith, ints, x, low)) (omega (arith, ints, x, c, high))
 
-  end_true : (c a : ℕ) (mark : Bool) (pair : Pair) → first_row pair ≡ not_below a c → w n is s state a ≤ℤ w n is s state c
-      → (backed_at s a ≡ not mark → w n is s state c ≤ℤ w n is s state a) → AllTrue (end_clauses c a mark pair)
+  end_true : (c a : ℕ) (mark : Bool) (pair : Pair) → first_row pair ≡ not_below a c → w n is s state level a ≤ℤ w n is s state level c
+      → (backed_at s a ≡ not mark → w n is s state level c ≤ℤ w n is s state level a) → AllTrue (end_clauses c a mark pair)
   end_true c a mark pair same most least = (
-    inl (rows.not_below_holds (w n is s state) s.denominator state.positive c a most),
+    inl (rows.not_below_holds (w n is s state level) s.denominator state.positive c a most),
     (
       elim (same_or_not (backed_at s a) mark) [
         | inl x ↦ inl x
-        | inr y ↦ inr (inl (subst (λ row. RowHolds row (rows.over (w n is s state) s.denominator)) (sym same) (rows.not_below_holds (w n is s state) s.denominator state.positive a c (least y))))
+        | inr y ↦ inr (inl (subst (λ row. RowHolds row (rows.over (w n is s state level) s.denominator)) (sym same) (rows.not_below_holds (w n is s state level) s.denominator state.positive a c (least y))))
       ],
       tt,
     ),
@@ -160,7 +162,7 @@ module _ (n : Network) (is : IsNetwork n) (s : Flows) (state : IsStateOf n s) (s
   inputs_true i l =
       let a = input_edge n i in
       let edge = input_is n is i l in
-      let x = load_column_is n is s state i l in
+      let x = load_column_is n is s state level i l in
       let y = flow_is a edge.0 edge.1 in
       let law = steady.input i l a edge.0 edge.1 edge.2 in
       let most = law.0 in
@@ -170,7 +172,7 @@ module _ (n : Network) (is : IsNetwork n) (s : Flows) (state : IsStateOf n s) (s
   outputs_true o l =
       let a = output_edge n o in
       let edge = output_is n is o l in
-      let x = room_column_is n is s state o l in
+      let x = room_column_is n is s state level o l in
       let y = flow_is a edge.0 edge.1 in
       let law = steady.output o l a edge.0 edge.1 edge.2 in
       let most = law.0 in
@@ -219,11 +221,11 @@ module _ (n : Network) (is : IsNetwork n) (s : Flows) (state : IsStateOf n s) (s
   even_in_true k none =
       evens_true (enters k) In k (λ a b e f h g p q o m. steady.even_in a (below a e h) k b e f h g o p q none m) (in_edges n k) (edges_with n (enters k))
 
-  empty_true : (b : ℕ) (f : Edge) → HasEdge n b f → IsEmpty s b → RowHolds (at_most b 0) (rows.over (w n is s state) s.denominator)
+  empty_true : (b : ℕ) (f : Edge) → HasEdge n b f → IsEmpty s b → RowHolds (at_most b 0) (rows.over (w n is s state level) s.denominator)
   empty_true b f g empty =
       let y = flow_is b f g in
       let zero_is : pos (0 * s.denominator) ≡ pos 0 = omega (arith, ints) in
-      rows.at_most_holds (w n is s state) s.denominator state.positive b 0 (omega (arith, ints, y, zero_is, empty))
+      rows.at_most_holds (w n is s state level) s.denominator state.positive b 0 (omega (arith, ints, y, zero_is, empty))
 
   -- a preferred edge comes first
   comes_first : (side : Side) (k x y : ℕ) (e f : Edge) → HasEdge n x e → HasEdge n y f → IsTrue (at_side side k e) → IsTrue (at_side side k f) → y ≢ x → preferred_at n side k ≡ Some x
@@ -258,23 +260,23 @@ module _ (n : Network) (is : IsNetwork n) (s : Flows) (state : IsStateOf n s) (s
   -- the order of whole numbers is total, so of each pair a row holds
   two_true : (a b : ℕ) → True (Says (not_below a b) ∷ Says (above b a) ∷ [])
   two_true a b =
-      elim (at_most_or (w n is s state b) (w n is s state a)) [
-        | inl l ↦ inl (rows.not_below_holds (w n is s state) s.denominator state.positive a b l)
-        | inr g ↦ inr (inl (rows.above_holds (w n is s state) s.denominator state.positive b a g))
+      elim (at_most_or (w n is s state level b) (w n is s state level a)) [
+        | inl l ↦ inl (rows.not_below_holds (w n is s state level) s.denominator state.positive a b l)
+        | inr g ↦ inr (inl (rows.above_holds (w n is s state level) s.denominator state.positive b a g))
       ]
 
   full_or_not : (a cap : ℕ) → True (Says (at_least a cap) ∷ Says (below_cap a cap) ∷ [])
   full_or_not a cap =
-      elim (at_most_or (pos (cap * s.denominator)) (w n is s state a)) [
-        | inl l ↦ inl (rows.at_least_holds (w n is s state) s.denominator state.positive a cap l)
-        | inr g ↦ inr (inl (rows.below_holds (w n is s state) s.denominator state.positive a cap g))
+      elim (at_most_or (pos (cap * s.denominator)) (w n is s state level a)) [
+        | inl l ↦ inl (rows.at_least_holds (w n is s state level) s.denominator state.positive a cap l)
+        | inr g ↦ inr (inl (rows.below_holds (w n is s state level) s.denominator state.positive a cap g))
       ]
 
   empty_or_not : (b : ℕ) → True (Says (at_most b 0) ∷ Says (beyond b 0) ∷ [])
   empty_or_not b =
-      elim (at_most_or (w n is s state b) (pos (0 * s.denominator))) [
-        | inl l ↦ inl (rows.at_most_holds (w n is s state) s.denominator state.positive b 0 l)
-        | inr g ↦ inr (inl (rows.beyond_holds (w n is s state) s.denominator state.positive b 0 g))
+      elim (at_most_or (w n is s state level b) (pos (0 * s.denominator))) [
+        | inl l ↦ inl (rows.at_most_holds (w n is s state level) s.denominator state.positive b 0 l)
+        | inr g ↦ inr (inl (rows.beyond_holds (w n is s state level) s.denominator state.positive b 0 g))
       ]
 
   pairs_true : (o : Option ℕ) (side : Side) (k : ℕ) (edges : List ℕ) → AllTrue (map pair_clause (side_pairs o side k edges))

@@ -14,7 +14,7 @@ use Rattle.bt_fenc.specs.Pairs.{pair_clause, side_pairs}
 use Rattle.bt_fenc.specs.Families.{clauses_at, side_clauses, places, bounds, families}
 use Rattle.bt_fenc.specs.Properties.{property_clauses}
 use Rattle.bt_fenc.specs.Numbering.{rows_in, formula_of}
-use Rattle.bt_fenc.specs.FlowFormula.{lower_first, clauses_before}
+use Rattle.bt_fenc.specs.FlowFormula.{lower_first, clauses_before, leveled}
 use Rattle.bt_fenc.specs.EvenFormula.{even_clauses_at, even_before, FlowFormulaIsEven}
 
 module _ (n : Network) (plain : HasNoPriorities n) where
@@ -54,4 +54,5 @@ module _ (n : Network) (plain : HasNoPriorities n) where
 
 pub flow_formula_is_even : FlowFormulaIsEven
 flow_formula_is_even n p plain = λ i.
-    formula_of (λ pair. length n.edges + length (rows_in (before_pair n plain pair i))) (length n.edges) (flat_map (by_places n plain (at_all n plain i)) families ++ property_clauses n p)
+    leveled n p
+    (formula_of (λ pair. length n.edges + length (rows_in (before_pair n plain pair i))) (length n.edges) (flat_map (by_places n plain (at_all n plain i)) families ++ property_clauses n p))

@@ -12,7 +12,7 @@ use Rattle.bt_frac.proofs.Gcds.{whole_lowest}
 use Rattle.bt_net.specs.declared.network.Edge.{Edge}
 use Rattle.bt_net.specs.Network.{Network, IsNetwork, IsCap, leaves, enters}
 use Rattle.bt_flow.specs.declared.property.Property.{Property}
-use Rattle.bt_flow.specs.declared.property.Property.TheVariants.{Balanced, DrawnEvenly, Unlimited, Full}
+use Rattle.bt_flow.specs.declared.property.Property.TheVariants.{Balanced, DrawnEvenly, Unlimited, Full, Fair, DrawnFairly}
 use Rattle.bt_flow.specs.Ports.{numbers_where}
 use Rattle.bt_flow.specs.Properties.{is_last}
 use Rattle.bt_fenc.specs.declared.state_literal.Side.{Side}
@@ -82,7 +82,7 @@ less_lowest a b true u = (one_is, (minus_is, tt))
 less_lowest a b false true = (minus_is, (one_is, tt))
 less_lowest a b false false = tt
 
-not_below_row : (a b : ℕ) → IsColumn a → IsColumn b → IsRow (not_below a b)
+pub not_below_row : (a b : ℕ) → IsColumn a → IsColumn b → IsRow (not_below a b)
 not_below_row a b l m = is_row (less a b) AtLeast (whole 0) (less_columns a b l m (ltb a b) (ltb b a) refl refl) (less_lowest a b (ltb a b) (ltb b a)) none_is
 
 pub above_row : (a b : ℕ) → IsColumn a → IsColumn b → IsRow (above a b)
@@ -261,6 +261,8 @@ module _ (n : Network) (is : IsNetwork n) where
   property_rows DrawnEvenly = each-append (AllByRecursion MentionsRow) (loaded_clauses n) (unequal_clause (input_edges n) ∷ []) loaded_rows (unequal_rows (input_edges n) input_columns, tt)
   property_rows Unlimited = short_rows
   property_rows Full = each-three (AllByRecursion MentionsRow) (loaded_clauses n) (open_clauses n) (short_clauses n) loaded_rows open_rows short_rows
+  property_rows Fair = tt
+  property_rows DrawnFairly = tt
 
   -- the rows that the flow formula's clauses mention are rows
   pub flow_rows : (p : Property) → AllByRecursion IsRow (rows_in (flow_clauses n p))

@@ -22,7 +22,7 @@ use Rattle.bt_fenc.specs.Pairs.{pair_clause, side_pairs, pairs_at}
 use Rattle.bt_fenc.specs.Families.{clauses_at, places, family_clauses, bounds, laws, families}
 use Rattle.bt_fenc.specs.Properties.{unequal_clause, differ}
 use Rattle.bt_fenc.specs.Numbering.{mentioned, rows_in, literals_from, clauses_from, atoms_from, formula_of}
-use Rattle.bt_fenc.specs.FlowFormula.{steady_clauses, steady_formula, flow_clauses, flow_formula, clauses_till, lower_first, variable_of}
+use Rattle.bt_fenc.specs.FlowFormula.{steady_clauses, steady_formula, flow_clauses, clauses_till, lower_first, variable_of}
 use Rattle.bt_fenc.specs.inner.Variables.{at_in, side_rows, side_starts, vars_till, AreVariables}
 use Rattle.bt_fenc.specs.inner.Within.{IsWithin, AreWithin}
 use Rattle.bt_fenc.proofs.Numbers.{named_within}
@@ -242,7 +242,7 @@ module _ (n : Network) where
         ap (λ l. l ∷ clauses_from (at_in v) (m + length (flat_map mentioned claims)) clauses) (literals_kept m claims h.0)
         ∙ ap (λ l. literals_from (variable_of n) m claims ∷ l) (clauses_kept (m + length (flat_map mentioned claims)) clauses h.1)
 
-    pub formula_kept : IsNetwork n → (p : Property) → formula_of (at_in v) (length n.edges) (flow_clauses n p) ≡ flow_formula n p
+    pub formula_kept : IsNetwork n → (p : Property) → formula_of (at_in v) (length n.edges) (flow_clauses n p) ≡ formula_of (variable_of n) (length n.edges) (flow_clauses n p)
     formula_kept is p =
         ap {A = List (List Lit)} {B = FormulaParts}
         (λ l. record { vars = length n.edges + length (rows_in (flow_clauses n p)); clauses = l; atoms = atoms_from (length n.edges) (rows_in (flow_clauses n p)) })

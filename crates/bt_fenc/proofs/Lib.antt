@@ -2,6 +2,7 @@ pub mod Merges
 pub mod Columns
 pub mod Orders
 pub mod Numbers
+pub mod Adding
 pub mod Withins
 pub mod Sides
 pub mod Named
@@ -11,8 +12,10 @@ pub mod NetEdges
 pub mod RowValues
 pub mod Admitted
 pub mod FlowRows
+pub mod Leveled
 pub mod Narrow
 pub mod EdgeSums
+pub mod Short
 pub mod Breaking
 pub mod Formulas
 pub mod EvenFormula

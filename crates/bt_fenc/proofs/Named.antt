@@ -9,7 +9,7 @@ use Rattle.bt_frac.specs.Rows.{RowParts}
 use Rattle.bt_net.specs.declared.network.Edge.{Edge}
 use Rattle.bt_net.specs.Network.{Network, IsNetwork, leaves, enters}
 use Rattle.bt_flow.specs.declared.property.Property.{Property}
-use Rattle.bt_flow.specs.declared.property.Property.TheVariants.{Balanced, DrawnEvenly, Unlimited, Full as FullProperty}
+use Rattle.bt_flow.specs.declared.property.Property.TheVariants.{Balanced, DrawnEvenly, Unlimited, Full as FullProperty, Fair, DrawnFairly}
 use Rattle.bt_fenc.specs.declared.state_literal.Side.{Side}
 use Rattle.bt_fenc.specs.declared.state_literal.Side.TheVariants.{Out, In}
 use Rattle.bt_fenc.specs.declared.state_literal.Pair.{Pair}
@@ -137,6 +137,8 @@ module _ (n : Network) (is : IsNetwork n) where
   property_of DrawnEvenly = each-append (AllByRecursion (IsOf n)) (loaded_clauses n) (unequal_clause (input_edges n) ∷ []) loaded_of (unequal_of (input_edges n), tt)
   property_of Unlimited = short_of
   property_of FullProperty = each-three (AllByRecursion (IsOf n)) (loaded_clauses n) (open_clauses n) (short_clauses n) loaded_of open_of short_of
+  property_of Fair = tt
+  property_of DrawnFairly = tt
 
   pub flow_of : (p : Property) → AreOf n (flow_clauses n p)
   flow_of p = each-append (AllByRecursion (IsOf n)) (flat_map (family_clauses n) families) (property_clauses n p) (all_of families) (property_of p)

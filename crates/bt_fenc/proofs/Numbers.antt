@@ -95,10 +95,10 @@ literals_below at n m (Says row ∷ claims) h l = (omega arith, literals_below a
 literals_below at n m (First pair ∷ claims) h l = (h.0, literals_below at n m claims h.1 l)
 
 -- a formula whose three parts are the same
-abbrev parts : ℕ → List (List Lit) → List (ℕ × RowParts) → FormulaParts
+abbrev pub parts : ℕ → List (List Lit) → List (ℕ × RowParts) → FormulaParts
 parts v cs xs = record { vars = v; clauses = cs; atoms = xs }
 
-same_parts : (v w : ℕ) (cs ds : List (List Lit)) (xs ys : List (ℕ × RowParts)) → v ≡ w → cs ≡ ds → xs ≡ ys → parts v cs xs ≡ parts w ds ys
+pub same_parts : (v w : ℕ) (cs ds : List (List Lit)) (xs ys : List (ℕ × RowParts)) → v ≡ w → cs ≡ ds → xs ≡ ys → parts v cs xs ≡ parts w ds ys
 same_parts v w cs ds xs ys p q r = ap (λ n. parts n cs xs) p ∙ ap (λ l. parts w l xs) q ∙ ap (λ l. parts w ds l) r
 
 -- no claim is numbered yet

@@ -7,7 +7,7 @@ use Rattle.bt_net.specs.Network.{Network, IsNetwork}
 use Rattle.bt_flow.specs.declared.ports.Role.{Role}
 use Rattle.bt_flow.specs.declared.ports.Role.TheVariants.{OutOf, Into}
 use Rattle.bt_flow.specs.declared.property.Property.{Property}
-use Rattle.bt_flow.specs.declared.property.Property.TheVariants.{Balanced, DrawnEvenly, Unlimited, Full}
+use Rattle.bt_flow.specs.declared.property.Property.TheVariants.{Balanced, DrawnEvenly, Unlimited, Full, Fair, DrawnFairly}
 use Rattle.bt_flow.specs.Ports.{numbers_where, plays}
 use Rattle.bt_flow.proofs.Numbers.{length-numbers_where, few_at, ends_of}
 use Rattle.bt_fenc.specs.declared.state_literal.Side.{Side}
@@ -21,9 +21,14 @@ use Rattle.bt_fenc.specs.declared.clause_family.ClauseFamily.TheVariants as of
 use Rattle.bt_fenc.specs.Columns.{input_edge, output_edge, input_edges, output_edges, in_edges, out_edges, preferred_at, cap_at}
 use Rattle.bt_fenc.specs.Families.{clauses_at, places, family_clauses, families, even_clause, even_clauses, side_clauses, backing_clause}
 use Rattle.bt_fenc.specs.Properties.{property_clauses, loaded_clauses, open_clauses, short_clauses, unequal_clause, differ}
-use Rattle.bt_fenc.specs.Numbering.{mentioned, rows_in, clauses_from}
-use Rattle.bt_fenc.specs.FlowFormula.{steady_clauses, flow_clauses, variable_of}
-use Rattle.bt_fenc.specs.Sizes.{FlowFormulasAreSmall, SteadyFormulasAreSmall}
+use Rattle.bt_fenc.specs.Numbering.{mentioned, rows_in, clauses_from, formula_of}
+use Rattle.bt_flow.specs.declared.ports.End.{End}
+use Rattle.bt_flow.specs.declared.ports.End.TheVariants.{Input, Output}
+use Rattle.bt_cnf.specs.Formulas.{FormulaParts}
+use Rattle.bt_fenc.specs.Levels.{end_count, some_of, implies, each_implies, level_clauses, with_level}
+use Rattle.bt_fenc.specs.FlowFormula.{steady_clauses, flow_clauses, leveled, variable_of}
+use Rattle.bt_fenc.specs.Sizes.{IsSmall, FlowFormulasAreSmall, SteadyFormulasAreSmall}
+use Rattle.bt_fenc.proofs.Leveled.{level_count}
 
 -- there are at most so many clauses, which mention at most so many rows
 pub record AreFew (clauses : List (List StateLiteral)) (c r : ℕ) : Type 0 where
@@ -191,6 +196,8 @@ module _ (n : Network) (is : IsNetwork n) where
   property_few Unlimited = few_more (short_clauses n) 4096 4096 8192 8192 (omega arith) (omega arith) short_few
   property_few Full =
       few-append (loaded_clauses n ++ open_clauses n) (short_clauses n) 4096 4096 4096 4096 (few-append (loaded_clauses n) (open_clauses n) 2048 2048 2048 2048 loaded_few open_few) short_few
+  property_few Fair = record { count = omega arith; rows = omega arith }
+  property_few DrawnFairly = record { count = omega arith; rows = omega arith }
 
   flow_few : (p : Property) → AreFew (flow_clauses n p) 122880 122880
   flow_few p = few-append (flat_map (family_clauses n) families) (property_clauses n p) 114688 114688 8192 8192 (each_few families) (property_few p)
@@ -199,6 +206,23 @@ clauses_as_many : (at : Pair → ℕ) (next : ℕ) (clauses : List (List StateLi
 clauses_as_many at next [] = refl
 clauses_as_many at next (claims ∷ clauses) = ap suc (clauses_as_many at (next + length (flat_map mentioned claims)) clauses)
 
+-- a level adds few
+level_small : (n : Network) (end : End) (f : FormulaParts) → end_count n end ≤ 2048 → f.vars ≤ 1000000 → length f.clauses ≤ 1000000 → IsSmall (with_level n end f)
+level_small n end f few vars clauses =
+    let rows = level_count n end in
+    let each = length-map-range_with_len (λ k. implies (f.vars + k) (f.vars + end_count n end + k)) 0 (end_count n end) in
+    let last = length-append (each_implies f.vars (end_count n end)) (some_of (f.vars + 2 * end_count n end) (end_count n end) ∷ []) in
+    let all = length-append f.clauses (level_clauses f.vars (end_count n end)) in
+    record { vars = omega (arith, rows, few, vars); clauses = omega (arith, each, last, all, few, clauses) }
+
+leveled_small : (n : Network) → IsNetwork n → (p : Property) (f : FormulaParts) → f.vars ≤ 1000000 → length f.clauses ≤ 1000000 → IsSmall (leveled n p f)
+leveled_small n is Balanced f vars clauses = record { vars = omega (arith, vars); clauses = omega (arith, clauses) }
+leveled_small n is DrawnEvenly f vars clauses = record { vars = omega (arith, vars); clauses = omega (arith, clauses) }
+leveled_small n is Unlimited f vars clauses = record { vars = omega (arith, vars); clauses = omega (arith, clauses) }
+leveled_small n is Full f vars clauses = record { vars = omega (arith, vars); clauses = omega (arith, clauses) }
+leveled_small n is Fair f vars clauses = level_small n Output f is.few_outputs vars clauses
+leveled_small n is DrawnFairly f vars clauses = level_small n Input f is.few_inputs vars clauses
+
 pub flow_formulas_small : FlowFormulasAreSmall
 flow_formulas_small n p is =
     let few = flow_few n is p in
@@ -206,7 +230,7 @@ flow_formulas_small n p is =
     let rows = few.rows in
     let edges = is.few_edges in
     let same = clauses_as_many (variable_of n) (length n.edges) (flow_clauses n p) in
-    record { vars = omega (arith, rows, edges); clauses = omega (arith, count, same) }
+    leveled_small n is p (formula_of (variable_of n) (length n.edges) (flow_clauses n p)) (omega (arith, rows, edges)) (omega (arith, count, same))
 
 pub steady_formulas_small : SteadyFormulasAreSmall
 steady_formulas_small n is =

@@ -8,10 +8,11 @@ use Rattle.bt_frac.specs.Ratio.{Ratio}
 use Rattle.bt_frac.specs.Values.{AreValues, RowHolds}
 use Rattle.bt_net.specs.declared.network.Edge.{Edge}
 use Rattle.bt_net.specs.Network.{Network, IsNetwork, leaves, enters}
+use Rattle.bt_flow.specs.declared.ports.End.TheVariants.{Input, Output}
 use Rattle.bt_flow.specs.declared.ports.Role.{Role}
 use Rattle.bt_flow.specs.declared.ports.Role.TheVariants.{OutOf, Into}
 use Rattle.bt_flow.specs.declared.property.Property.{Property}
-use Rattle.bt_flow.specs.declared.property.Property.TheVariants.{Balanced, DrawnEvenly, Unlimited, Full}
+use Rattle.bt_flow.specs.declared.property.Property.TheVariants.{Balanced, DrawnEvenly, Unlimited, Full, Fair, DrawnFairly}
 use Rattle.bt_flow.specs.Ports.{numbers_where, plays}
 use Rattle.bt_flow.specs.States.{Flows, flow_at, backed_at, load_at, room_at, cap_in}
 use Rattle.bt_flow.specs.Steady.{HasEdge, IsFull, IsEmpty, KeepsRange, Conserves, EvensOut, EvensIn, GivesFirst, TakesFirst, Backs, FeedsInput, FillsOutput, IsSteady, sum_where}
@@ -32,7 +33,9 @@ use Rattle.bt_fenc.specs.Families.{clauses_at, places, family_clauses, families,
 use Rattle.bt_fenc.specs.Pairs.{first_row, full, filled}
 use Rattle.bt_fenc.specs.Pairs.{loaded as has_load}
 use Rattle.bt_fenc.specs.Properties.{property_clauses, loaded_clauses, open_clauses, short_clauses, unequal_clause, differ}
-use Rattle.bt_fenc.specs.FlowFormula.{steady_clauses, flow_clauses, variable_of}
+use Rattle.bt_cnf.specs.Meeting.{Meets}
+use Rattle.bt_fenc.specs.Numbering.{formula_of}
+use Rattle.bt_fenc.specs.FlowFormula.{steady_clauses, flow_clauses, flow_formula, variable_of}
 use Rattle.bt_fenc.specs.Laws.{HasTrue}
 use Rattle.bt_fenc.specs.Solutions.{HasValues, MeetingBreaks, MeetingIsSteady}
 use Rattle.bt_fenc.proofs.Withins.{each-left, each-right, each-map, each-range, from_flat_map, from_map, at_range, in_range}
@@ -41,6 +44,7 @@ use Rattle.bt_fenc.proofs.RowValues.{At, AllAt, at_least_says, at_most_says, not
 use Rattle.bt_fenc.proofs.Claimed.{met_claims}
 use Rattle.bt_fenc.proofs.Sides.{beside_other}
 use Rattle.bt_fenc.proofs.Named.{families_named, flow_named}
+use Rattle.bt_fenc.proofs.Leveled.{base_met, level_met, level_fails}
 
 never_both : (x y : Bool) → x ≡ y → x ≡ not y → ⊥
 never_both true true p q = false≢true (sym q)
@@ -338,22 +342,38 @@ module _ (n : Network) (is : IsNetwork n) (f : ℕ → Bool) (v : ℕ → Ratio)
   meets all Full said =
       let ends = each-left True (loaded_clauses n ++ open_clauses n) (short_clauses n) said in
       record { loads = λ t. loaded all (each-left True (loaded_clauses n) (open_clauses n) ends); rooms = λ t. open_ends all (each-right True (loaded_clauses n) (open_clauses n) ends) }
+  meets all Fair said = record { loads = λ t. absurd (false≢true t); rooms = λ t. absurd (false≢true t) }
+  meets all DrawnFairly said = record { loads = λ t. absurd (false≢true t); rooms = λ t. absurd (false≢true t) }
 
-  fails : (p : Property) → AllTrue (property_clauses n p) → Concludes p n s → ⊥
-  fails Balanced said = unequal_outputs (each-right True (open_clauses n) (unequal_clause (output_edges n) ∷ []) said).0
-  fails DrawnEvenly said = unequal_inputs (each-right True (loaded_clauses n) (unequal_clause (input_edges n) ∷ []) said).0
-  fails Unlimited said = short_fails said
-  fails Full said = short_fails (each-right True (loaded_clauses n ++ open_clauses n) (short_clauses n) said)
-
-  pub breaks : (p : Property) → AllTrue (flow_clauses n p) → Breaks n p s
-  breaks p said =
+  breaks_with : (p : Property) → AllTrue (flow_clauses n p) → (Concludes p n s → ⊥) → Breaks n p s
+  breaks_with p said fails =
       let all = each_family (each-left True (flat_map (family_clauses n) families) (property_clauses n p) said) in
       let more = each-right True (flat_map (family_clauses n) families) (property_clauses n p) said in
-      record { state = has.state; admissible = admissible all; meets = meets all p more; steady = steady all; fails = fails p more }
+      record { state = has.state; admissible = admissible all; meets = meets all p more; steady = steady all; fails = fails }
+
+  -- the clauses of claims, and a level behind them
+  claims : (p : Property) → Meets (formula_of (variable_of n) (length n.edges) (flow_clauses n p)) f v → AllTrue (flow_clauses n p)
+  claims p met = met_claims (variable_of n) (length n.edges) (flow_clauses n p) f v (flow_named n is p) met
+
+  plain : (p : Property) → ((AllTrue (property_clauses n p)) → Concludes p n s → ⊥) → Meets (formula_of (variable_of n) (length n.edges) (flow_clauses n p)) f v → Breaks n p s
+  plain p fails met =
+      let said = claims p met in
+      breaks_with p said (fails (each-right True (flat_map (family_clauses n) families) (property_clauses n p) said))
+
+  pub breaks : (p : Property) → Meets (flow_formula n p) f v → Breaks n p s
+  breaks Balanced met = plain Balanced (λ said. unequal_outputs (each-right True (open_clauses n) (unequal_clause (output_edges n) ∷ []) said).0) met
+  breaks DrawnEvenly met = plain DrawnEvenly (λ said. unequal_inputs (each-right True (loaded_clauses n) (unequal_clause (input_edges n) ∷ []) said).0) met
+  breaks Unlimited met = plain Unlimited short_fails met
+  breaks Full met = plain Full (λ said. short_fails (each-right True (loaded_clauses n ++ open_clauses n) (short_clauses n) said)) met
+  breaks Fair met =
+      let front = formula_of (variable_of n) (length n.edges) (flow_clauses n Fair) in
+      breaks_with Fair (claims Fair (base_met n Output front f v met)) (level_fails n is Output f v s some has front (level_met n Output front f v met))
+  breaks DrawnFairly met =
+      let front = formula_of (variable_of n) (length n.edges) (flow_clauses n DrawnFairly) in
+      breaks_with DrawnFairly (claims DrawnFairly (base_met n Input front f v met)) (level_fails n is Input f v s some has front (level_met n Input front f v met))
 
 pub meeting_breaks : MeetingBreaks
-meeting_breaks n p assignment values s is some met has =
-    breaks n is assignment values s some has p (met_claims (variable_of n) (length n.edges) (flow_clauses n p) assignment values (flow_named n is p) met)
+meeting_breaks n p assignment values s is some met has = breaks n is assignment values s some has p met
 
 pub meeting_is_steady : MeetingIsSteady
 meeting_is_steady n assignment values s is some met has =

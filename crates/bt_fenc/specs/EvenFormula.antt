@@ -15,9 +15,10 @@ use Rattle.bt_fenc.specs.Pairs.{pair_clause, even_pairs}
 use Rattle.bt_fenc.specs.Families.{clauses_at, even_clauses, places, bounds, families}
 use Rattle.bt_fenc.specs.Properties.{property_clauses}
 use Rattle.bt_fenc.specs.Numbering.{rows_in, formula_of}
-use Rattle.bt_fenc.specs.FlowFormula.{lower_first, clauses_before, flow_formula}
+use Rattle.bt_fenc.specs.FlowFormula.{lower_first, clauses_before, leveled, flow_formula}
 
--- the clauses of a family at a place: of two edges at a side of any splitter each is compared with the other, and each is even
+-- the clauses of a family at a place: of two edges at a side of any splitter each is compared with the other, and each
+-- is even
 abbrev pub even_clauses_at : Network → ClauseFamily → ℕ → List (List StateLiteral)
 even_clauses_at n of.OutPairs k = map pair_clause (even_pairs Out k (out_edges n k))
 even_clauses_at n of.InPairs k = map pair_clause (even_pairs In k (in_edges n k))
@@ -42,9 +43,10 @@ even_before n (Full a cap) = even_till n (bounds ++ of.OutPairs ∷ of.InPairs �
 even_before n (Loaded i a column) = even_till n (bounds ++ of.OutPairs ∷ of.InPairs ∷ of.FullPairs ∷ []) of.LoadPairs i
 even_before n (Filled o a column) = even_till n (bounds ++ of.OutPairs ∷ of.InPairs ∷ of.FullPairs ∷ of.LoadPairs ∷ []) of.RoomPairs o
 
--- the formula of these clauses and those of a property: the marks come first, and then the rows as they are mentioned
+-- the formula of these clauses and those of a property: the marks come first, then the rows as they are mentioned, and
+-- a level
 abbrev pub even_formula : Network → Property → FormulaParts
-even_formula n p = formula_of (λ pair. length n.edges + length (rows_in (even_before n pair))) (length n.edges) (flat_map (even_family n) families ++ property_clauses n p)
+even_formula n p = leveled n p (formula_of (λ pair. length n.edges + length (rows_in (even_before n pair))) (length n.edges) (flat_map (even_family n) families ++ property_clauses n p))
 
 -- where no splitter prefers an edge, this is the flow formula
 abbrev pub FlowFormulaIsEven : Type 0

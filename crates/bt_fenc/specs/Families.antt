@@ -52,7 +52,8 @@ sharing_clauses n side k = side_clauses (preferred_at n side k) n side k (edges_
 abbrev pub backing_clause : Network → ℕ → ℕ → List StateLiteral
 backing_clause n a x = Mark a false ∷ Mark x true ∷ First (full n x) ∷ []
 
--- an edge's flow is at most the load or room in a column, and as the pair says at least that, unless the edge has the mark
+-- an edge's flow is at most the load or room in a column, and as the pair says at least that, unless the edge has the
+-- mark
 abbrev pub end_clauses : ℕ → ℕ → Bool → Pair → List (List StateLiteral)
 end_clauses column a mark pair = (Says (not_below column a) ∷ []) ∷ (Mark a mark ∷ First pair ∷ []) ∷ []
 

@@ -3,6 +3,8 @@ use Rattle.std.specs.List.{range_with_len}
 use Rattle.std.specs.Prelude.{ℕ, ◌+◌, nat_lt, length, List, [], ◌∷◌, ◌++◌, flat_map, if◌then◌else◌}
 use Rattle.bt_net.specs.Network.{Network}
 use Rattle.bt_flow.specs.declared.property.Property.{Property}
+use Rattle.bt_flow.specs.declared.property.Property.TheVariants.{Balanced, DrawnEvenly, Unlimited, Full as FullProperty, Fair, DrawnFairly}
+use Rattle.bt_flow.specs.declared.ports.End.TheVariants.{Input, Output}
 use Rattle.bt_cnf.specs.Formulas.{FormulaParts}
 use Rattle.bt_fenc.specs.declared.state_literal.Side.TheVariants.{Out, In}
 use Rattle.bt_fenc.specs.declared.state_literal.Pair.{Pair}
@@ -13,6 +15,7 @@ use Rattle.bt_fenc.specs.declared.clause_family.ClauseFamily.TheVariants as of
 use Rattle.bt_fenc.specs.Families.{clauses_at, family_clauses, bounds, families}
 use Rattle.bt_fenc.specs.Pairs.{pair_clause}
 use Rattle.bt_fenc.specs.Properties.{property_clauses}
+use Rattle.bt_fenc.specs.Levels.{with_level}
 use Rattle.bt_fenc.specs.Numbering.{rows_in, formula_of}
 
 -- the clauses of the network's laws, family by family
@@ -45,9 +48,18 @@ clauses_before n (Filled o a column) = clauses_till n (bounds ++ of.OutPairs ∷
 abbrev pub variable_of : Network → Pair → ℕ
 variable_of n pair = length n.edges + length (rows_in (clauses_before n pair))
 
+-- a formula with the level of a property behind it, where the property compares ends with one
+abbrev pub leveled : Network → Property → FormulaParts → FormulaParts
+leveled n Balanced f = f
+leveled n DrawnEvenly f = f
+leveled n Unlimited f = f
+leveled n FullProperty f = f
+leveled n Fair f = with_level n Output f
+leveled n DrawnFairly f = with_level n Input f
+
 -- the flow formula: variable e is the mark of edge e, true where it is backed, and the rows follow
 abbrev pub flow_formula : Network → Property → FormulaParts
-flow_formula n p = formula_of (variable_of n) (length n.edges) (flow_clauses n p)
+flow_formula n p = leveled n p (formula_of (variable_of n) (length n.edges) (flow_clauses n p))
 
 -- the formula of the network's admissible steady states, numbered in the same way
 abbrev pub steady_formula : Network → FormulaParts

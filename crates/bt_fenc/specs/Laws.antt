@@ -18,6 +18,7 @@ use Rattle.bt_fenc.specs.declared.state_literal.StateLiteral.{StateLiteral}
 use Rattle.bt_fenc.specs.declared.state_literal.StateLiteral.TheVariants.{Mark, Says, First}
 use Rattle.bt_fenc.specs.Pairs.{first_row}
 use Rattle.bt_fenc.specs.Numbering.{formula_of, AreNamed}
+use Rattle.bt_fenc.specs.Levels.{level_column}
 use Rattle.bt_fenc.specs.FlowFormula.{steady_clauses, flow_clauses, flow_formula, variable_of}
 
 -- the claim is true of marks and values: the edge has this mark, the row holds, or the first row of the pair
@@ -56,10 +57,25 @@ abbrev pub SteadyMeets : Type 0
 SteadyMeets = (n : Network) → IsNetwork n → (s : Flows) → IsStateOf n s → IsAdmissible n s → IsSteady n s
     → IsMetWith (variable_of n) (length n.edges) (steady_clauses n) (backed_at s) (values_of s)
 
--- the marks and values of each state that breaks a property meet the flow formula
+-- the marks and values of each state that breaks a property meet the clauses of claims: all of the flow formula but its
+-- level
 abbrev pub BreakingMeets : Type 0
 BreakingMeets = (n : Network) (p : Property) (s : Flows) → IsNetwork n → Breaks n p s
     → AreValues (values_of s) × IsMetWith (variable_of n) (length n.edges) (flow_clauses n p) (backed_at s) (values_of s)
+
+-- an assignment with values meets the flow formula of a network and a property, has a state's marks, and has its flows,
+-- loads and rooms as the values of their columns
+pub record IsMetBy (n : Network) (p : Property) (s : Flows) : Type 0 where
+  pub assignment : ℕ → Bool
+  pub values : ℕ → Ratio
+  pub marks : (a : ℕ) → a < length n.edges → assignment a ≡ backed_at s a
+  pub columns : (c : ℕ) → c < level_column n → values c ≡ values_of s c
+  pub known : AreValues values
+  pub meets : Meets (flow_formula n p) assignment values
+
+-- each state that breaks a property gives an assignment with values that meets the flow formula
+abbrev pub BreakingIsMet : Type 0
+BreakingIsMet = (n : Network) (p : Property) (s : Flows) → IsNetwork n → Breaks n p s → IsMetBy n p s
 
 -- where nothing meets the flow formula of a network and a property, the network has the property
 abbrev pub UnmetHolds : Type 0

@@ -2,6 +2,7 @@ pub mod Columns
 pub mod Pairs
 pub mod Families
 pub mod Properties
+pub mod Levels
 pub mod FlowFormula
 pub mod EvenFormula
 pub mod Numbering

@@ -9,7 +9,8 @@ use Rattle.bt_fenc.specs.declared.state_literal.StateLiteral.{StateLiteral}
 use Rattle.bt_fenc.specs.declared.state_literal.StateLiteral.TheVariants.{Says}
 use Rattle.bt_fenc.specs.Columns.{input_edge, output_edge, edges_at, preferred_at, cap_at, load_column, room_column, at_least, at_most, below, beyond, not_below, above}
 
--- the first row of a pair: a flow is at least that of another edge, the edge's cap, the load or the room, or it is at most 0
+-- the first row of a pair: a flow is at least that of another edge, the edge's cap, the load or the room, or it is at
+-- most 0
 abbrev pub first_row : Pair → RowParts
 first_row (Even side k a b) = not_below a b
 first_row (Empty side k a) = at_most a 0
@@ -38,7 +39,8 @@ even_pairs side k edges = []
 abbrev pub beside : ℕ → ℕ → ℕ → ℕ
 beside x a b = if x == a then b else a
 
--- at a side of a splitter that prefers none of two edges each with the other, and where it prefers one, the other with 0
+-- at a side of a splitter that prefers none of two edges each with the other, and where it prefers one, the other with
+-- 0
 abbrev pub side_pairs : Option ℕ → Side → ℕ → List ℕ → List Pair
 side_pairs None side k edges = even_pairs side k edges
 side_pairs (Some x) side k (a ∷ b ∷ []) = Empty side k (beside x a b) ∷ []

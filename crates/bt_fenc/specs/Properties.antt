@@ -3,7 +3,7 @@ use Rattle.std.specs.List.{range_with_len}
 use Rattle.std.specs.Prelude.{ℕ, List, [], ◌∷◌, ◌++◌, map, flat_map}
 use Rattle.bt_net.specs.Network.{Network}
 use Rattle.bt_flow.specs.declared.property.Property.{Property}
-use Rattle.bt_flow.specs.declared.property.Property.TheVariants.{Balanced, DrawnEvenly, Unlimited, Full}
+use Rattle.bt_flow.specs.declared.property.Property.TheVariants.{Balanced, DrawnEvenly, Unlimited, Full, Fair, DrawnFairly}
 use Rattle.bt_fenc.specs.declared.state_literal.StateLiteral.{StateLiteral}
 use Rattle.bt_fenc.specs.declared.state_literal.StateLiteral.TheVariants.{Says}
 use Rattle.bt_fenc.specs.Columns.{input_edge, output_edge, input_edges, output_edges, cap_at, load_column, room_column, at_least, above, above_outputs}
@@ -29,9 +29,12 @@ unequal_clause (first ∷ others) = flat_map (differ first) others
 abbrev pub short_clauses : Network → List (List StateLiteral)
 short_clauses n = (Says (above_outputs n (load_column n 0) n.inputs) ∷ []) ∷ (Says (above_outputs n (room_column n 0) n.outputs) ∷ []) ∷ []
 
--- the clauses of a property
+-- the clauses of a property; where ends are to share fairly a level says what is to be said, behind all clauses of
+-- claims
 abbrev pub property_clauses : Network → Property → List (List StateLiteral)
 property_clauses n Balanced = open_clauses n ++ unequal_clause (output_edges n) ∷ []
 property_clauses n DrawnEvenly = loaded_clauses n ++ unequal_clause (input_edges n) ∷ []
 property_clauses n Unlimited = short_clauses n
 property_clauses n Full = loaded_clauses n ++ open_clauses n ++ short_clauses n
+property_clauses n Fair = []
+property_clauses n DrawnFairly = []

@@ -26,7 +26,8 @@ abbrev pub MeetingBreaks : Type 0
 MeetingBreaks = (n : Network) (p : Property) (assignment : ℕ → Bool) (values : ℕ → Ratio) (s : Flows) → IsNetwork n → AreValues values
     → Meets (flow_formula n p) assignment values → HasValues n s assignment values → Breaks n p s
 
--- where an assignment with values meets the formula of a network's steady states, each state with these marks and values
+-- where an assignment with values meets the formula of a network's steady states, each state with these marks and
+-- values
 -- is admissible and steady
 abbrev pub MeetingIsSteady : Type 0
 MeetingIsSteady = (n : Network) (assignment : ℕ → Bool) (values : ℕ → Ratio) (s : Flows) → IsNetwork n → AreValues values

@@ -11,6 +11,7 @@ ghost use Rattle.bt_fenc.specs.inner.Within.{AreWithin};
 
 use crate::clause_family::{ClauseFamily, LAWS, NAMELESS};
 use crate::families::{add_at, places};
+use crate::level::add_level;
 use crate::properties::add_property;
 use crate::variables::PairVars;
 use bt_cnf::Formula;
@@ -76,7 +77,7 @@ fn laws_of(alloc: Global, net: &Net, ports: &Ports, pairs: &PairVars) -> Result<
 /// The flow formula of a network and a property. Its variables are the marks of the edges, true where
 /// an edge is backed, and then an atom for each mention of a row; the first row of a pair is one atom
 /// wherever it is mentioned. The rows' columns are the flows of the edges, the loads of the inputs and
-/// the rooms of the outputs.
+/// the rooms of the outputs; where ends are to share fairly, a level comes behind them.
 pub fn encode(alloc: Global, net: &Net, property: Property) -> Result<Formula, AllocError>
     ensures formula { IfOk result (λ formula. formula ≡ flow_formula net.now property) }
     ensures network { IsNetwork net.now }
@@ -85,6 +86,7 @@ pub fn encode(alloc: Global, net: &Net, property: Property) -> Result<Formula, A
     let pairs = PairVars::of(alloc, net, &ports)?;
     let mut formula = laws_of(alloc, net, &ports, &pairs)?;
     add_property(alloc, net, &ports, &pairs, &mut formula, property)?;
+    add_level(alloc, net, &ports, &mut formula, property)?;
     Ok(formula)
 }
 

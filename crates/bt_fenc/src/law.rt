@@ -1,6 +1,7 @@
 //! Laws of the flow formula, as contracts of functions that do nothing.
 ghost use Rattle.bt_fenc.specs.EvenFormula.{FlowFormulaIsEven};
-ghost use Rattle.bt_fenc.specs.Laws.{TrueClaimsMeet, SteadyMeets, BreakingMeets, UnmetHolds, RefutedHolds};
+ghost use Rattle.bt_fenc.specs.Laws.{TrueClaimsMeet, SteadyMeets, BreakingMeets, BreakingIsMet};
+ghost use Rattle.bt_fenc.specs.Laws.{UnmetHolds, RefutedHolds};
 ghost use Rattle.bt_fenc.specs.Solutions.{MeetingBreaks, MeetingIsSteady};
 ghost use Rattle.bt_fenc.specs.Sizes.{FlowFormulasAreSmall, SteadyFormulasAreSmall};
 
@@ -16,10 +17,16 @@ pub fn steady_meets()
     ensures { SteadyMeets }
 {}
 
-/// Each state that breaks a property meets the flow formula of the network and the property: its marks are
-/// the first variables, and its flows, loads and rooms the values.
+/// Each state that breaks a property meets the clauses of claims of the flow formula, which are all but those of a
+/// level: its marks are the first variables, and its flows, loads and rooms the values.
 pub fn breaking_meets()
     ensures { BreakingMeets }
+{}
+
+/// Each state that breaks a property gives an assignment with values that meets the flow formula of the network and
+/// the property: it begins with the state's marks, and the values begin with its flows, loads and rooms.
+pub fn breaking_is_met()
+    ensures { BreakingIsMet }
 {}
 
 /// Each state whose marks and values are those of an assignment that meets the flow formula of a network and

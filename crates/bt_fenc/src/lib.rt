@@ -7,6 +7,7 @@ mod encoding;
 mod ends;
 mod families;
 mod law;
+mod level;
 mod numbering;
 mod properties;
 mod rows;
@@ -18,7 +19,7 @@ mod variables;
 pub use encoding::{encode, encode_steady};
 pub use ends::output_edge;
 pub use law::{
-    breaking_meets, flow_formula_is_even, flow_formulas_are_small, meeting_breaks,
+    breaking_is_met, breaking_meets, flow_formula_is_even, flow_formulas_are_small, meeting_breaks,
     meeting_is_steady, refuted_holds, steady_formulas_are_small, steady_meets, true_claims_meet,
     unmet_holds,
 };

@@ -14,7 +14,7 @@ use bt_frac::Row;
 use std::alloc::AllocError;
 
 /// The variable at a place below the number of variables.
-fn var_at(formula: &Formula, place: usize) -> Var
+pub fn var_at(formula: &Formula, place: usize) -> Var
     requires { place < formula.now.vars }
     ensures { result ≡ place }
 {

@@ -187,5 +187,7 @@ pub fn add_property(
             add_open(alloc, net, ports, pairs, formula)?;
             add_short(alloc, net, pairs, formula)
         }
+        // A level says what these say, behind all clauses of claims.
+        Property::Fair | Property::DrawnFairly => Ok(()),
     }
 }

@@ -8,10 +8,7 @@ use Rattle.bt_flow.specs.declared.ports.Role.{Role}
 use Rattle.bt_flow.specs.Ports.{plays}
 use Rattle.bt_flow.specs.States.{Flows, Fractions, StandsFor, flow_at}
 use Rattle.bt_flow.specs.Steady.{HasEdge}
-
--- the edge with this number has the role at some number
-abbrev pub Takes : Network → Role → ℕ → Type 0
-Takes n r a = (k : ℕ) × ((e : Edge) × HasEdge n a e × IsTrue (plays r k e))
+use Rattle.bt_flow.specs.inner.Shares.{Takes}
 
 -- among the edges below a place: none has the role, or the flows of those that have it are that of the first
 abbrev pub AgreeSoFar : Network → Fractions → Role → ℕ → Option ℕ → Type 0

@@ -8,6 +8,8 @@ pub mod StateTexts
 pub mod StateAnswers
 pub mod Adding
 pub mod Agreeing
+pub mod Fairness
+pub mod FairBalanced
 pub mod AtEdges
 pub mod AtPlaces
 pub mod Both

@@ -1,4 +1,5 @@
--- Where no splitter prefers an edge, the laws of even flows speak of all splitters, and those of preferred edges of none.
+-- Where no splitter prefers an edge, the laws of even flows speak of all splitters, and those of preferred edges of
+-- none.
 use Rattle.std.proofs.Common.{◌≡◌, ℕ, Option, Some, None}
 use Rattle.bt_net.specs.Network.{Network, HasNoPriorities, give_of, take_of}
 use Rattle.bt_net.proofs.Preference.{plain_gives, plain_takes}

@@ -8,7 +8,7 @@ use Rattle.bt_frac.specs.Ratio.{Ratio, IsLowest}
 use Rattle.bt_frac.specs.Texts.{frac_text}
 use Rattle.bt_net.specs.Network.{Network}
 use Rattle.bt_flow.specs.declared.property.Property.{Property}
-use Rattle.bt_flow.specs.declared.property.Property.TheVariants.{Balanced, DrawnEvenly, Unlimited, Full}
+use Rattle.bt_flow.specs.declared.property.Property.TheVariants.{Balanced, DrawnEvenly, Unlimited, Full, Fair, DrawnFairly}
 use Rattle.bt_flow.specs.States.{Fractions, Fits}
 use Rattle.bt_text.specs.Pieces.{CutsAt, LeadsTo}
 use Rattle.bt_flow.specs.Names.{property_name}
@@ -38,6 +38,8 @@ title_lacks Balanced = lacks 10 (codes "no balanced") refl
 title_lacks DrawnEvenly = lacks 10 (codes "no drawn-evenly") refl
 title_lacks Unlimited = lacks 10 (codes "no unlimited") refl
 title_lacks Full = lacks 10 (codes "no full") refl
+title_lacks Fair = lacks 10 (codes "no fair") refl
+title_lacks DrawnFairly = lacks 10 (codes "no drawn-fairly") refl
 
 -- six lines without line feeds, and the rest
 six_lines : (a b c d e f rest : List ℕ) (tail : List (List ℕ)) → Lacks 10 a → Lacks 10 b → Lacks 10 c → Lacks 10 d → Lacks 10 e

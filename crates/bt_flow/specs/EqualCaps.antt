@@ -9,12 +9,14 @@ use Rattle.bt_flow.specs.Steady.{HasEdge, KeepsRange, Conserves, GivesFirst, Tak
 abbrev pub HasEqualCaps : Network → Type 0
 HasEqualCaps n = (cap : ℕ) × All (λ e. e.cap ≡ cap) n.edges
 
--- a free out edge of a splitter that prefers no out edge has a flow at least that of the splitter's other out edge, full or not
+-- a free out edge of a splitter that prefers no out edge has a flow at least that of the splitter's other out edge,
+-- full or not
 abbrev pub EvensOutAlways : Network → Flows → ℕ → Type 0
 EvensOutAlways n s a = (k b : ℕ) (e f : Edge) → HasEdge n a e → HasEdge n b f → b ≢ a → IsTrue (leaves k e) → IsTrue (leaves k f)
     → give_of n k ≡ None → backed_at s a ≡ false → flow_at s b ≤ℤ flow_at s a
 
--- a backed in edge of a splitter that prefers no in edge has a flow at least that of the splitter's other in edge, full or not
+-- a backed in edge of a splitter that prefers no in edge has a flow at least that of the splitter's other in edge, full
+-- or not
 abbrev pub EvensInAlways : Network → Flows → ℕ → Type 0
 EvensInAlways n s a = (k b : ℕ) (e f : Edge) → HasEdge n a e → HasEdge n b f → b ≢ a → IsTrue (enters k e) → IsTrue (enters k f)
     → take_of n k ≡ None → backed_at s a ≡ true → flow_at s b ≤ℤ flow_at s a

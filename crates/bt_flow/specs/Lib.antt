@@ -1,6 +1,7 @@
 pub mod States
 pub mod Steady
 pub mod EqualCaps
+pub mod Fairness
 pub mod SevenLaws
 pub mod Properties
 pub mod Scaling

@@ -1,7 +1,7 @@
 -- The names of properties and of tests, as texts write them.
 use Rattle.std.specs.Prelude.{ℕ, List, codes}
 use Rattle.bt_flow.specs.declared.property.Property.{Property}
-use Rattle.bt_flow.specs.declared.property.Property.TheVariants.{Balanced, DrawnEvenly, Unlimited, Full}
+use Rattle.bt_flow.specs.declared.property.Property.TheVariants.{Balanced, DrawnEvenly, Unlimited, Full, Fair, DrawnFairly}
 use Rattle.bt_flow.specs.declared.judgement.Test.{Test}
 use Rattle.bt_flow.specs.declared.judgement.Test.TheVariants as test
 
@@ -11,6 +11,8 @@ property_name Balanced = codes "balanced"
 property_name DrawnEvenly = codes "drawn-evenly"
 property_name Unlimited = codes "unlimited"
 property_name Full = codes "full"
+property_name Fair = codes "fair"
+property_name DrawnFairly = codes "drawn-fairly"
 
 -- the name of a test: that of a law is the law's
 abbrev pub test_name : Test → List ℕ

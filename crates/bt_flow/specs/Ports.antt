@@ -8,6 +8,8 @@ use Rattle.bt_flow.specs.Sums.{nothing}
 use Rattle.bt_flow.specs.declared.ports.Port.{Port}
 use Rattle.bt_flow.specs.declared.ports.Port.TheVariants.{Unused, One, Two}
 use Rattle.bt_flow.specs.declared.ports.Ports.{Ports}
+use Rattle.bt_flow.specs.declared.ports.End.{End}
+use Rattle.bt_flow.specs.declared.ports.End.TheVariants.{Input, Output}
 use Rattle.bt_flow.specs.declared.ports.Role.{Role}
 use Rattle.bt_flow.specs.declared.ports.Role.TheVariants.{FromInput, ToOutput, OutOf, Into}
 
@@ -27,6 +29,11 @@ plays FromInput k = is_input k
 plays ToOutput k = is_output k
 plays OutOf k = leaves k
 plays Into k = enters k
+
+-- what the edges of ends are there
+abbrev pub role_of : End → Role
+role_of Input = FromInput
+role_of Output = ToOutput
 
 -- the numbers of the edges that pass a test, where the first has this number
 abbrev pub numbers_where : (Edge → Bool) → ℕ → List Edge → List ℕ

@@ -1,12 +1,12 @@
 -- Properties of a network's steady states, and the states that break them.
-use Rattle.std.specs.Prelude.{◌≡◌, ℕ, ◌<◌, Bool, true, false, IsTrue, List, [], ◌∷◌, ℤ, pos, ◌+ℤ◌, ◌≤ℤ◌, ◌⊎◌}
+use Rattle.std.specs.Prelude.{◌≡◌, ℕ, ◌<◌, Bool, true, false, IsTrue, List, [], ◌∷◌, ℤ, pos, ◌+ℤ◌, ◌≤ℤ◌, ◌<ℤ◌, ◌⊎◌}
 use Rattle.bt_net.specs.declared.network.Edge.{Edge}
 use Rattle.bt_net.specs.declared.network.Target.{Target}
 use Rattle.bt_net.specs.declared.network.Target.TheVariants as to
 use Rattle.bt_net.specs.Network.{Network, is_input, is_output}
 use Rattle.bt_flow.specs.declared.property.Property.{Property}
-use Rattle.bt_flow.specs.declared.property.Property.TheVariants.{Balanced, DrawnEvenly, Unlimited, Full}
-use Rattle.bt_flow.specs.States.{Flows, IsStateOf, flow_at, load_at, room_at, cap_in}
+use Rattle.bt_flow.specs.declared.property.Property.TheVariants.{Balanced, DrawnEvenly, Unlimited, Full, Fair, DrawnFairly}
+use Rattle.bt_flow.specs.States.{AreLowest, Flows, Fractions, IsStateOf, IsTrueOf, flow_at, load_at, room_at, cap_in}
 use Rattle.bt_flow.specs.Steady.{HasEdge, IsSteady, sum_where}
 
 -- the load of an input is from 0 to the cap of its edge
@@ -36,6 +36,8 @@ asks_loads Balanced = false
 asks_loads DrawnEvenly = true
 asks_loads Unlimited = false
 asks_loads Full = true
+asks_loads Fair = false
+asks_loads DrawnFairly = false
 
 -- whether a property asks every room to be at its cap
 abbrev pub asks_rooms : Property → Bool
@@ -43,6 +45,8 @@ asks_rooms Balanced = true
 asks_rooms DrawnEvenly = false
 asks_rooms Unlimited = false
 asks_rooms Full = true
+asks_rooms Fair = false
+asks_rooms DrawnFairly = false
 
 -- the state meets the condition of a property on loads and rooms
 pub record Meets (p : Property) (n : Network) (s : Flows) : Type 0 where
@@ -58,6 +62,16 @@ HasEqualOutputs n s = (o p a b : ℕ) (e f : Edge) → HasEdge n a e → HasEdge
 abbrev pub HasEqualInputs : Network → Flows → Type 0
 HasEqualInputs n s = (i j a b : ℕ) (e f : Edge) → HasEdge n a e → HasEdge n b f → IsTrue (is_input i e) → IsTrue (is_input j f)
     → flow_at s a ≡ flow_at s b
+
+-- each output that is short, whose flow is less than its room, carries at least as much as every other output
+abbrev pub SharesFairly : Network → Flows → Type 0
+SharesFairly n s = (o p a b : ℕ) (e f : Edge) → HasEdge n a e → HasEdge n b f → IsTrue (is_output o e) → IsTrue (is_output p f)
+    → flow_at s a <ℤ room_at s o → flow_at s b ≤ℤ flow_at s a
+
+-- each input that is short, whose flow is less than its load, gives at least as much as every other input
+abbrev pub DrawsFairly : Network → Flows → Type 0
+DrawsFairly n s = (i j a b : ℕ) (e f : Edge) → HasEdge n a e → HasEdge n b f → IsTrue (is_input i e) → IsTrue (is_input j f)
+    → flow_at s a <ℤ load_at s i → flow_at s b ≤ℤ flow_at s a
 
 -- the edge ends at an output
 abbrev pub is_last : Edge → Bool
@@ -86,6 +100,8 @@ Concludes Balanced n s = HasEqualOutputs n s
 Concludes DrawnEvenly n s = HasEqualInputs n s
 Concludes Unlimited n s = PassesAll n s
 Concludes Full n s = PassesAll n s
+Concludes Fair n s = SharesFairly n s
+Concludes DrawnFairly n s = DrawsFairly n s
 
 -- the network has the property: each admissible steady state that meets its condition has its conclusion
 abbrev pub Holds : Network → Property → Type 0
@@ -98,3 +114,7 @@ pub record Breaks (n : Network) (p : Property) (s : Flows) : Type 0 where
   pub meets : Meets p n s
   pub steady : IsSteady n s
   pub fails : Concludes p n s → ⊥
+
+-- the fractions are a state that breaks the property, in lowest terms
+abbrev pub IsBreaking : Network → Property → Fractions → Type 0
+IsBreaking n p state = IsTrueOf n state (Breaks n p) × AreLowest state

@@ -1,4 +1,5 @@
--- The laws of a steady state where no splitter prefers an edge: those of Couëtoux, Gastaldi and Naves, for edges of any caps.
+-- The laws of a steady state where no splitter prefers an edge: those of Couëtoux, Gastaldi and Naves, for edges of any
+-- caps.
 use Rattle.std.specs.Prelude.{◌≡◌, ◌≢◌, ◌↔◌, ℕ, ◌<◌, true, false, IsTrue, length, ◌≤ℤ◌, ◌⊎◌}
 use Rattle.bt_net.specs.declared.network.Edge.{Edge}
 use Rattle.bt_net.specs.Network.{Network, HasNoPriorities, leaves, enters}

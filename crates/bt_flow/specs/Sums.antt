@@ -5,7 +5,7 @@ use Rattle.bt_frac.specs.Ratio.{Ratio, IsLowest, IsSum, CanAdd, IsWide}
 use Rattle.bt_net.specs.declared.network.Edge.{Edge}
 use Rattle.bt_net.specs.Network.{Network, leaves, enters}
 use Rattle.bt_flow.specs.declared.property.Property.{Property}
-use Rattle.bt_flow.specs.declared.property.Property.TheVariants.{Balanced, DrawnEvenly, Unlimited, Full}
+use Rattle.bt_flow.specs.declared.property.Property.TheVariants.{Balanced, DrawnEvenly, Unlimited, Full, Fair, DrawnFairly}
 use Rattle.bt_flow.specs.declared.judgement.Test.{Test}
 use Rattle.bt_flow.specs.declared.judgement.Test.TheVariants as test
 use Rattle.bt_flow.specs.States.{Fractions}
@@ -40,6 +40,8 @@ concluding_sums Balanced n t = []
 concluding_sums DrawnEvenly n t = []
 concluding_sums Unlimited n t = fractions_where is_last n.edges t.flows ∷ t.loads ∷ t.rooms ∷ []
 concluding_sums Full n t = fractions_where is_last n.edges t.flows ∷ t.loads ∷ t.rooms ∷ []
+concluding_sums Fair n t = []
+concluding_sums DrawnFairly n t = []
 
 -- the sums that a test at a place forms, each from 0 on: in flows and then out flows of a splitter, or
 -- those of the conclusion

@@ -4,3 +4,4 @@ pub mod AtPorts
 pub mod Lines
 pub mod Trials
 pub mod Printing
+pub mod Shares

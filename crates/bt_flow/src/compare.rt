@@ -1,5 +1,5 @@
 //! Comparisons of fractions, said of the whole numbers that they are over any denominator.
-ghost use Rattle.std.specs.Prelude.{◌≡◌, pos, ◌*◌, ◌≤ℤ◌, ◌↔◌, ℤ, ℕ, ◌<◌, IsTrue};
+ghost use Rattle.std.specs.Prelude.{◌≡◌, pos, ◌*◌, ◌≤ℤ◌, ◌<ℤ◌, ◌↔◌, ℤ, ℕ, ◌<◌, IsTrue};
 ghost use Rattle.bt_flow.specs.Properties.{IsLesser};
 ghost use Rattle.bt_flow.specs.inner.Compared.{TellsOfOne, TellsOfTwo, TellsOfThree};
 
@@ -51,6 +51,13 @@ pub fn is_nothing(number: &Frac) -> bool
     ensures { TellsOfOne number.now (λ x d. x ≡ pos 0) result }
 {
     is_same(number, &cap_of(0))
+}
+
+/// Whether a number is at least one of two: the second where it is below the first.
+pub fn reaches_one(number: &Frac, first: &Frac, second: &Frac) -> bool
+    ensures { TellsOfThree number.now first.now second.now (λ x y z. x <ℤ y → z ≤ℤ x) result }
+{
+    is_at_most(first, number) || is_at_most(second, number)
 }
 
 /// Whether a number is the lesser of two.

@@ -2,13 +2,16 @@
 ghost use Rattle.bt_flow.specs.States.{Fits};
 ghost use Rattle.bt_flow.specs.Properties.{Concludes, PassesAll};
 ghost use Rattle.bt_flow.specs.Sums.{concluding_sums};
+ghost use Rattle.std.specs.Prelude.{◌≡◌, length};
 ghost use Rattle.bt_flow.specs.inner.AtPorts.{Tells, TellsBySums, Agree};
+ghost use Rattle.bt_flow.specs.inner.Shares.{IsGreatest, Shares, limits_of};
 
-use crate::compare::{is_lesser, is_same};
-use crate::ports::Role;
+use crate::compare::{is_at_most, is_lesser, is_same, reaches_one};
+use crate::ports::{End, Role};
 use crate::property::Property;
 use crate::state::State;
 use crate::sums::{Wide, output_sum, sum_of};
+use bt_frac::Frac;
 use bt_net::Net;
 
 /// Whether the conclusion of a property holds.
@@ -21,6 +24,8 @@ pub fn concludes(net: &Net, property: Property, state: &State) -> Result<bool, W
         Property::Balanced => Ok(agree(net, state, Role::ToOutput)),
         Property::DrawnEvenly => Ok(agree(net, state, Role::FromInput)),
         Property::Unlimited | Property::Full => passes_all(net, state),
+        Property::Fair => Ok(shares(net, state, End::Output)),
+        Property::DrawnFairly => Ok(shares(net, state, End::Input)),
     }
 }
 
@@ -44,6 +49,60 @@ fn agree(net: &Net, state: &State, role: Role) -> bool
         }
     }
     true
+}
+
+/// An edge with a role of which the flow is the greatest, where an edge has the role.
+fn greatest(net: &Net, state: &State, role: Role) -> Option<usize>
+    requires { Fits net.now state.now }
+    ensures { IsGreatest net.now state.now role (length net.now.edges) result }
+{
+    let flows = state.flows();
+    let mut most: Option<usize> = None;
+    for (place, edge) in net.edges().iter().enumerate() {
+        if let Some(_) = role.number_in(edge) {
+            match most {
+                None => most = Some(place),
+                Some(earlier) => {
+                    if !is_at_most(&flows[place], &flows[earlier]) {
+                        most = Some(place);
+                    }
+                }
+            }
+        }
+    }
+    most
+}
+
+/// Whether each end of this kind that is short of what it may carry carries at least as much as each other. The
+/// greatest flow stands for all of them, so a network takes no longer than its edges are many.
+fn shares(net: &Net, state: &State, end: End) -> bool
+    requires { Fits net.now state.now }
+    ensures { Tells net.now state.now (Shares net.now end) result }
+{
+    let role = end.role();
+    let Some(most) = greatest(net, state, role) else {
+        return true;
+    };
+    let limits = limits(state, end);
+    let flows = state.flows();
+    for (place, edge) in net.edges().iter().enumerate() {
+        if let Some(number) = role.number_in(edge) {
+            if !reaches_one(&flows[place], &limits[number as usize], &flows[most]) {
+                return false;
+            }
+        }
+    }
+    true
+}
+
+/// What ends of this kind may carry: the loads of the inputs, or the rooms of the outputs.
+fn limits(state: &State, end: End) -> &[Frac]
+    ensures { result.now ≡ limits_of end state.now }
+{
+    match end {
+        End::Input => state.loads(),
+        End::Output => state.rooms(),
+    }
 }
 
 /// Whether the sum of output flows is the lesser of the sum of loads and the sum of rooms. All three

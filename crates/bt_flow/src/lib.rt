@@ -19,12 +19,13 @@ mod trial;
 pub use fault::StateFault;
 pub use judge::{admissible_steady, breaks, steady};
 pub use judgement::{FIRST_LAW, Judgement, LAST_LAW, LAST_TEST, TESTS, Test, WideSum};
-pub use ports::{Port, Ports, Role};
+pub use ports::{End, Port, Ports, Role};
 pub use printing::{print_edges, print_ends, print_state, printed_state_is_read};
 pub use property::Property;
 pub use reading::{Edges, Ends, one_state, read_edges, read_end, read_ends, read_state};
 pub use state::State;
 pub use std::alloc::AllocError as Memory;
 pub use theorems::{
-    equal_caps_even, has_flows, holds_exactly, lines_are, scaled_is_steady, seven_laws, tests_are,
+    equal_caps_even, fair_is_balanced, has_flows, holds_exactly, lines_are, scaled_is_steady,
+    seven_laws, tests_are,
 };

@@ -1,7 +1,7 @@
 //! The edges at each input, output and splitter, found once, so that no test looks for them.
 ghost use Rattle.std.specs.Prelude.{◌≡◌, ◌==◌, ◌<◌, ◌++◌, ◌∷◌, [], ℕ, false, IfSome, IfNone, length};
 ghost use Rattle.bt_net.specs.Network.{IsNetwork};
-ghost use Rattle.bt_flow.specs.Ports.{numbers_of, plays, AreAt, ArePorts};
+ghost use Rattle.bt_flow.specs.Ports.{numbers_of, plays, role_of, AreAt, ArePorts};
 
 use bt_net::{Edge, MOST_OF_EACH, Net, Start, Target};
 
@@ -41,6 +41,27 @@ pub enum Role {
     OutOf,
     /// It ends at a splitter.
     Into,
+}
+
+/// A kind of end of a network.
+#[derive(Clone, Copy)]
+pub enum End {
+    /// Its inputs.
+    Input,
+    /// Its outputs.
+    Output,
+}
+
+impl End {
+    /// What the edges of these ends are there.
+    pub fn role(self) -> Role
+        ensures { result ≡ role_of self }
+    {
+        match self {
+            End::Input => Role::FromInput,
+            End::Output => Role::ToOutput,
+        }
+    }
 }
 
 impl Role {

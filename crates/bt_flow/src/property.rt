@@ -14,6 +14,10 @@ pub enum Property {
     Unlimited,
     /// The same where every input is fully loaded and no output is blocked.
     Full,
+    /// Each output that is short of its room carries at least as much as every other output.
+    Fair,
+    /// Each input that is short of its load gives at least as much as every other input.
+    DrawnFairly,
 }
 
 impl Property {
@@ -26,6 +30,8 @@ impl Property {
             "drawn-evenly" => Some(Property::DrawnEvenly),
             "unlimited" => Some(Property::Unlimited),
             "full" => Some(Property::Full),
+            "fair" => Some(Property::Fair),
+            "drawn-fairly" => Some(Property::DrawnFairly),
             _ => None,
         }
     }
@@ -39,6 +45,8 @@ impl Property {
             Property::DrawnEvenly => "drawn-evenly",
             Property::Unlimited => "unlimited",
             Property::Full => "full",
+            Property::Fair => "fair",
+            Property::DrawnFairly => "drawn-fairly",
         }
     }
 
@@ -47,7 +55,8 @@ impl Property {
         ensures { result ≡ asks_loads self }
     {
         match self {
-            Property::Balanced | Property::Unlimited => false,
+            Property::Balanced | Property::Unlimited | Property::Fair | Property::DrawnFairly =>
+                false,
             Property::DrawnEvenly | Property::Full => true,
         }
     }
@@ -57,7 +66,8 @@ impl Property {
         ensures { result ≡ asks_rooms self }
     {
         match self {
-            Property::DrawnEvenly | Property::Unlimited => false,
+            Property::DrawnEvenly | Property::Unlimited | Property::Fair | Property::DrawnFairly =>
+                false,
             Property::Balanced | Property::Full => true,
         }
     }

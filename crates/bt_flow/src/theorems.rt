@@ -5,6 +5,7 @@ ghost use Rattle.bt_flow.specs.declared.property.Property.{Property};
 ghost use Rattle.bt_flow.specs.declared.reading.line.TheConstants.{TITLE, LOADS, ROOMS, FLOWS, END};
 ghost use Rattle.bt_flow.specs.States.{Flows, Fractions, AreLowest, StandsFor, Fits};
 ghost use Rattle.bt_flow.specs.EqualCaps.{EqualCapsEven};
+ghost use Rattle.bt_flow.specs.Fairness.{FairIsBalanced};
 ghost use Rattle.bt_flow.specs.SevenLaws.{SevenLawsAreAll};
 ghost use Rattle.bt_flow.specs.Properties.{Holds, Breaks};
 ghost use Rattle.bt_flow.specs.Scaling.{ScaledIsSteady};
@@ -33,6 +34,11 @@ pub fn seven_laws()
 /// as great. So two states can be put over one denominator.
 pub fn scaled_is_steady()
     ensures { ScaledIsSteady }
+{}
+
+/// Where the edges of all outputs have one cap, a network that is fair is balanced.
+pub fn fair_is_balanced()
+    ensures { FairIsBalanced }
 {}
 
 /// A network has a property exactly where no state breaks it.

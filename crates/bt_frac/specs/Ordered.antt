@@ -1,4 +1,5 @@
--- The order that `Ord` gives: that of the numbers. `Ord` asks for a total order of all pairs, so a denominator of 0, which no fraction has, counts as 1, and the parts break ties between pairs that aren't in lowest terms.
+-- The order that `Ord` gives: that of the numbers. `Ord` asks for a total order of all pairs, so a denominator of 0,
+-- which no fraction has, counts as 1, and the parts break ties between pairs that aren't in lowest terms.
 use Rattle.std.specs.Prelude.{pos, ◌*ℤ◌, max}
 use Rattle.std.specs.declared.cmp.Ordering.{Ordering}
 use Rattle.std.specs.Ordering.{int_cmp, nat_cmp, on, then_cmp}

@@ -40,6 +40,7 @@ Stands AtLeast sum bound = IsAtMost bound sum
 Stands Above sum bound = IsLess bound sum
 Stands Equal sum bound = SameRatio sum bound
 
--- the row holds of the values: the sum of its coefficients, each times the value of its column, stands to its bound as it says
+-- the row holds of the values: the sum of its coefficients, each times the value of its column, stands to its bound as
+-- it says
 abbrev pub RowHolds : RowParts → (ℕ → Ratio) → Type 0
 RowHolds row values = Stands row.relation (sum_of_products (valued values row.terms)) row.bound

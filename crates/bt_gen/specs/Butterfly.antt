@@ -27,7 +27,8 @@ HasLine stage place line = (line ≡ lesser_line stage place) ⊎ (line ≡ grea
 abbrev pub place_with_line : ℕ → ℕ → ℕ
 place_with_line stage line = line / 2 ^ (stage + 1) * 2 ^ stage + line % 2 ^ stage
 
--- where a line leads behind a stage: to the splitter of the next stage that has it, or behind the last stage to this output
+-- where a line leads behind a stage: to the splitter of the next stage that has it, or behind the last stage to this
+-- output
 abbrev pub leads_to : ℕ → ℕ → ℕ → ℕ → Target
 leads_to order stage line output =
     if nat_lt (stage + 1) order then to.Split (number order (stage + 1) (place_with_line (stage + 1) line)) else to.Output output

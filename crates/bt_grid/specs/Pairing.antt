@@ -9,7 +9,8 @@ use Rattle.bt_grid.specs.declared.pairing.PairFault.TheVariants.{Unpaired, Memor
 abbrev pub partner_of : List (Option ℕ) → ℕ → Option ℕ
 partner_of partners i = slice_index_or partners i None
 
--- each underground piece is in exactly one pair, and the list has for each part the other end of its pair, if it is in one
+-- each underground piece is in exactly one pair, and the list has for each part the other end of its pair, if it is in
+-- one
 pub record ArePartners (parts : List Part) (partners : List (Option ℕ)) : Type 0 where
   pub count : length partners ≡ length parts
   pub other_end : (i j : ℕ) → (partner_of partners i ≡ Some j) ↔ ArePaired parts i j

@@ -15,7 +15,8 @@ left_of East = North
 left_of South = East
 left_of West = South
 
--- the half on this hand of a splitter with this direction and this lesser half: the lesser half is on the left of one who looks north or east, and on the right of one who looks south or west
+-- the half on this hand of a splitter with this direction and this lesser half: the lesser half is on the left of one
+-- who looks north or east, and on the right of one who looks south or west
 abbrev pub half_on : Hand → Dir → Cell → Cell
 half_on Left North cell = cell
 half_on Left East cell = cell

@@ -18,7 +18,9 @@ pub record TakesPiece (source : Passage) (before after : List ℕ) : Type 0 wher
   pub behind : after ≡ before ++ piece
   pub some : 0 < length piece
 
--- what one read did: a piece stands behind the bytes so far, which are within the limit; or the source had ended; or it failed, or memory ran out, and nothing was taken and the bytes stayed; or with this piece one byte past the limit was taken
+-- what one read did: a piece stands behind the bytes so far, which are within the limit; or the source had ended; or it
+-- failed, or memory ran out, and nothing was taken and the bytes stayed; or with this piece one byte past the limit was
+-- taken
 abbrev pub IsReadOn : ℕ → Passage → List ℕ → List ℕ → Result Bool ReadAll → Type 0
 IsReadOn limit source before after (Ok true) = TakesPiece source before after × (length after ≤ limit)
 IsReadOn limit source before after (Ok false) = TakesNothing source × IsAtEnd source.after × (after ≡ before)

@@ -19,7 +19,8 @@ Takes source n = (bytes : List ℕ) × Consumes source.before source.after bytes
 abbrev pub TakesAtMost : Passage → ℕ → Type 0
 TakesAtMost source n = (bytes : List ℕ) × Consumes source.before source.after bytes × (length bytes ≤ n)
 
--- what was read of a source within a limit: all that was left; or no more than the limit where the source failed, which its count of faults shows, or memory ran out; or one byte past the limit where it is too long
+-- what was read of a source within a limit: all that was left; or no more than the limit where the source failed, which
+-- its count of faults shows, or memory ran out; or one byte past the limit where it is too long
 abbrev pub IsReadWithin : ℕ → Passage → Result (List ℕ) ReadAll → Type 0
 IsReadWithin limit source (Ok bytes) = IsAllOf source bytes × (length bytes ≤ limit)
 IsReadWithin limit source (Err ReadFault) = HasFault source × TakesAtMost source limit
@@ -43,7 +44,8 @@ AppendsPart sink text = (n : ℕ) × (n < length text) × Appends sink.before si
 abbrev pub joined : List (Bor (List ℕ)) → List ℕ
 joined pieces = flat_map (λ piece. piece.now) pieces
 
--- the whole text was appended, or where that failed a proper prefix of it, and then the sink's count of faults rose; the count has not fallen
+-- the whole text was appended, or where that failed a proper prefix of it, and then the sink's count of faults rose;
+-- the count has not fallen
 pub record WritesText {T E : Type 0} (sink : Passage) (text : List ℕ) (result : Result T E) : Type 0 where
   pub whole : OnOk result (Appends sink.before sink.after text)
   pub part : OnErr result (AppendsPart sink text)

@@ -27,7 +27,8 @@ after_giving source n = record source { left = drop n source.left; calls = next_
 abbrev pub after_failed_read : SourceState → SourceState
 after_failed_read source = record source { calls = next_count source.calls; faults = next_count source.faults }
 
--- the bytes that are held and how many may be, the calls that fail, the most that a call takes, and how many calls and faults there were
+-- the bytes that are held and how many may be, the calls that fail, the most that a call takes, and how many calls and
+-- faults there were
 pub record SinkState : Type 0 where
   pub held : List ℕ
   pub room : ℕ

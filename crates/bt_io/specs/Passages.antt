@@ -3,7 +3,8 @@ use Rattle.std.specs.Prelude.{ℕ, List}
 use Rattle.std.specs.declared.option.Option.{Option}
 use Rattle.bt_io.specs.Causes.{Rose}
 
--- the bytes that a source has left or a sink holds, where it tells them, before a call and after it, and its counts of faults
+-- the bytes that a source has left or a sink holds, where it tells them, before a call and after it, and its counts of
+-- faults
 pub record Passage : Type 0 where
   pub before : Option (List ℕ)
   pub after : Option (List ℕ)

@@ -58,7 +58,8 @@ run_is strict (b ∷ bytes) at s = by (step strict at b s) (λ t. run_is strict 
     by (go t) rest = let n : at + 1 + length bytes ≡ at + suc (length bytes) = omega arith in rest t ∙ ap (λ m. ended m (walk strict (at + 1) t bytes)) n
     by (stop e) rest = refl
 
--- From the state, reading passes over the text and makes that step, which may depend on the place behind the text. What follows the text is of the last set.
+-- From the state, reading passes over the text and makes that step, which may depend on the place behind the text. What
+-- follows the text is of the last set.
 pub record Eats (strict : Bool) (s : State) (t : List ℕ) (next : ℕ → Step) (Before : Texts) : Type 0 where
   pub eats : (at : ℕ) (rest : List ℕ) → Before rest → walk strict at s (t ++ rest) ≡ after strict (at + length t) (next (at + length t)) rest
 

@@ -24,7 +24,8 @@ half_is (d ∷ ds) all lt =
     let small : number_from_digits 10 ds < 10 ^ length ds = number_lt 10 ds (below_base ds (All-drop (λ x. x < 10) 1 (d ∷ ds) all)) in
     rw (head_is d ds, power_is (length ds)) (is_half d (number_from_digits 10 ds) (10 ^ length ds) small)
 
--- the digits before a point and those behind it, of which there are as many as there are places, or all where there are fewer
+-- the digits before a point and those behind it, of which there are as many as there are places, or all where there are
+-- fewer
 pub record Split (number whole fraction power : ℕ) (len places : ℕ) : Type 0 where
   pub parts : number ≡ whole * power + fraction
   pub below : fraction < power

@@ -44,7 +44,8 @@ abbrev mutual
   ItemsHaveDistinctNames no_items = ⊤
   ItemsHaveDistinctNames (item v rest) = HasDistinctNames v × ItemsHaveDistinctNames rest
 
-  -- no member has one of these names or the name of a member before it, and no object in a member's value has a name twice
+  -- no member has one of these names or the name of a member before it, and no object in a member's value has a name
+  -- twice
   pub AreNew : List (List ℕ) → Members → Type 0
   AreNew names no_members = ⊤
   AreNew names (member n v rest) = (Contains names n → ⊥) × HasDistinctNames v × AreNew (names ++ n ∷ []) rest
@@ -83,7 +84,8 @@ pub record IsJsonAt (bytes : List ℕ) (v : Json) (after : ℕ) : Type 0 where
 
 -- ---- what is wrong
 
--- No text that begins with the bytes up to and with the one there has a value at its front; or the bytes end there, and have none.
+-- No text that begins with the bytes up to and with the one there has a value at its front; or the bytes end there, and
+-- have none.
 abbrev pub IsBad : List ℕ → ℕ → Type 0
 IsBad bytes at = ((at < length bytes) × ((more : List ℕ) → HasValue (take (at + 1) bytes ++ more) → ⊥)) ⊎ ((at ≡ length bytes) × (HasValue bytes → ⊥))
 

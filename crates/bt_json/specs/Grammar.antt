@@ -73,7 +73,8 @@ abbrev pub Exponent : Bool → List ℕ → Texts
 Exponent below [] t = (below ≡ false) × (t ≡ [])
 Exponent below (d ∷ ds) t = (Letter ▸ ExponentSign below ▸ Digits (d ∷ ds)) t
 
--- a sign, a whole part, a fraction and an exponent; the exponent that is kept is lowered by the number of digits of the fraction
+-- a sign, a whole part, a fraction and an exponent; the exponent that is kept is lowered by the number of digits of the
+-- fraction
 pub record IsNumber (n : Number) (t : List ℕ) : Type 0 where
   pub whole : List ℕ
   pub fraction : List ℕ

@@ -2,7 +2,8 @@
 use Rattle.std.specs.Prelude.{ℕ, ℤ, Bool, List, Option, Some, None, if◌then◌else◌}
 use Rattle.std.specs.Str.{bytes_eq}
 
--- a number as it is written: its sign, the digits of its whole part and its fraction, and the power of ten that they are multiplied by
+-- a number as it is written: its sign, the digits of its whole part and its fraction, and the power of ten that they
+-- are multiplied by
 pub record Number : Type 0 where
   pub negative : Bool
   pub digits : List ℕ

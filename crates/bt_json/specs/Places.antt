@@ -3,7 +3,8 @@ use Rattle.std.specs.Prelude.{◌≡◌, ℕ, ◌+◌, List, [], ◌∷◌, leng
 use Rattle.bt_json.specs.Json.{Json}
 use Rattle.bt_json.specs.Grammar.{Texts, ◌▸◌, Byte, Blanks, IsText, IsValue}
 
--- A list or an object that is open where a value is due: the values that it has, and the names, of which the last one is the due value's.
+-- A list or an object that is open where a value is due: the values that it has, and the names, of which the last one
+-- is the due value's.
 pub data Frame : Type 0 where
   in_list : List Json → Frame
   in_object : List (List ℕ) → List Json → Frame

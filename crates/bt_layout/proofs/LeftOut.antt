@@ -29,10 +29,10 @@ nowhere_layout r learnt log (layout.Found parts) over ends trimmed = absurd trim
 nowhere_layout r learnt log (layout.Spent left) over ends trimmed = absurd trimmed
 nowhere_layout r learnt log (layout.Nowhere left) over ends trimmed =
     let short = is_short log left trimmed in
-    (ends.0, trimmed_refutation (place_formula r) log left trimmed over ends.1, omega (arith, short, ends.2), trimmed.tight)
+    (ends.0, trimmed_refutation (place_formula r) log left trimmed over ends.1, omega (arith, short, ends.2), record { first = trimmed.first ∙ over; tight = trimmed.tight })
 
 -- and has no more steps
-pub nowhere_log : (log : LogParts) (told : Layout) → IsTrimmedTo log told → HasLog told log.steps
+pub nowhere_log : (log : LogParts) (told : Layout) → IsTrimmedTo log told → HasLog told (length log.steps)
 nowhere_log log (layout.Found parts) trimmed = absurd trimmed
 nowhere_log log (layout.Spent left) trimmed = absurd trimmed
 nowhere_log log (layout.Nowhere left) trimmed = is_short log left trimmed

@@ -1,13 +1,12 @@
 -- Places that ascend.
 use Rattle.std.proofs.Common.{◌≡◌, ◌⊎◌, inl, inr, ℕ, ◌+◌, ◌-◌, ◌^◌, ◌<◌, ◌≤◌, List, get_or, length, Option, Some, None, sym, ap, subst, ◌∙◌, arith}
-use Rattle.std.specs.Prelude.{All, AllPairs, Contains, IfSome, Vec, slice_get, take}
+use Rattle.std.specs.Prelude.{All, AllPairs, IfSome, Vec, slice_get, take}
 use Rattle.std.specs.declared.alloc.Global.{Global}
 use Rattle.std.specs.List.{remove}
 use Rattle.std.proofs.lemmas.Bool.{cases_lt}
 use Rattle.std.proofs.lemmas.List.Edits.{get_or-remove_above, get_or-remove_below, length-remove}
 use Rattle.std.proofs.lemmas.List.{get_or_default, get_or-take, length-take}
-use Rattle.std.proofs.lemmas.List.Elements.{Contains-get_or}
-use Rattle.std.proofs.lemmas.Option.{get_or_from_slice_get, slice_get-get_or, slice_get_within}
+use Rattle.std.proofs.lemmas.Option.{slice_get-get_or}
 use Rattle.bt_parts.specs.declared.part.Part.{Part}
 use Rattle.bt_model.specs.Requests.{LayoutRequest}
 use Rattle.bt_layout.specs.Early.{IsLaid}
@@ -63,19 +62,11 @@ all_left P xs n inside all = λ i d within. by_place i d within (cases_lt i n)
 
 -- what a search came to is paid with the steps that are left
 pub searched_paid : (requests : List LayoutRequest) (learnt : ℕ) (sweep : Sweep) (at : ℕ) (tried : Tried) → IsSearched requests learnt sweep at tried
-    → ArePaid requests learnt sweep.progress.steps tried.steps
+    → ArePaid learnt sweep.progress.steps tried.steps
 searched_paid requests learnt sweep at tried is =
-    let few = is.is_tried.1.few in
+    let few = is.is_tried.1 in
     let left = is.left in
-    let place = slice_get_within requests (at_index sweep at) is.request is.is in
-    record {
-      request = is.request;
-      among = subst (Contains requests) (get_or_from_slice_get requests (at_index sweep at) is.request is.request is.is) (Contains-get_or requests (at_index sweep at) is.request place);
-      most = is.most;
-      sought = is.is_tried.1;
-      few = omega (arith, few, left);
-      limit = is.limit;
-    }
+    record { few = omega (arith, few, left); limit = is.limit }
 
 -- parts that were found lay the request
 pub searched_laid : (requests : List LayoutRequest) (learnt : ℕ) (sweep : Sweep) (at : ℕ) (tried : Tried) (parts : Vec Part Global) → IsSearched requests learnt sweep at tried

@@ -1,9 +1,8 @@
 -- What is told of what was found, and of how many steps were taken.
-use Rattle.std.proofs.Common.{◌≡◌, ◌⊎◌, inl, inr, ℕ, ◌+◌, ◌-◌, ◌^◌, ◌<◌, ◌≤◌, List, get_or, length, Option, Some, None, sym, ap, subst, ◌∙◌, arith}
-use Rattle.std.specs.Prelude.{Contains, IfSome, Vec}
+use Rattle.std.proofs.Common.{◌≡◌, inl, inr, ℕ, ◌+◌, ◌-◌, ◌^◌, ◌<◌, ◌≤◌, List, get_or, length, Option, Some, None, sym, ap, subst, ◌∙◌, arith}
+use Rattle.std.specs.Prelude.{IfSome, Vec}
 use Rattle.std.specs.declared.alloc.Global.{Global}
-use Rattle.std.proofs.lemmas.List.Elements.{Contains-get_or}
-use Rattle.std.proofs.lemmas.Option.{get_or_from_slice_get, slice_get-get_or, slice_get_within}
+use Rattle.std.proofs.lemmas.Option.{slice_get-get_or, slice_get_within}
 use Rattle.bt_log.specs.Logs.{LogParts}
 use Rattle.bt_parts.specs.declared.part.Part.{Part}
 use Rattle.bt_model.specs.Requests.{LayoutRequest}
@@ -19,44 +18,27 @@ use Rattle.bt_layout.proofs.Through.{all_left, ended, refuted_at, refuted_by_mor
 
 -- a layout that was found is told
 pub told_laid : (requests : List LayoutRequest) (learnt : ℕ) (progress : Progress) (laid : Laid) → progress.found ≡ Some laid → IsProgress requests learnt progress
-    → ArePassed requests learnt 0 progress → IsEarly requests learnt (early.Laid laid.place laid.parts progress.steps)
-told_laid requests learnt progress laid is all passed = (
-  subst (λ found. IfSome found (λ (one : Laid). IsLaid requests one.place one.parts)) is all.found,
-  record {
-    few = all.few;
-    taken = all.taken;
-    through = subst (λ found. (progress.steps ≡ learnt) ⊎ AreRefuted (lesser_from requests 0 found) progress.steps) is passed;
-  },
-)
+    → IsEarly requests learnt (early.Laid laid.place laid.parts)
+told_laid requests learnt progress laid is all = subst (λ found. IfSome found (λ (one : Laid). IsLaid requests one.place one.parts)) is all.found
 
 -- or that none was
 pub told_spent : (requests : List LayoutRequest) (learnt : ℕ) (progress : Progress) → progress.found ≡ None → IsProgress requests learnt progress → ArePassed requests learnt 0 progress
     → IsEarly requests learnt (early.Spent progress.steps)
 told_spent requests learnt progress is all passed = record {
   few = all.few;
-  taken = all.taken;
-  through = elim passed [
-    | inl every ↦ inl every
-    | inr refuted ↦ inr (all_left requests progress.steps (subst (λ found. AreRefuted (lesser_from requests 0 found) progress.steps) is refuted))
+  none = λ less. elim passed [
+    | inl every ↦ absurd (omega (arith, every, less))
+    | inr refuted ↦ all_left requests progress.steps (subst (λ found. AreRefuted (lesser_from requests 0 found) progress.steps) is refuted)
   ];
 }
 
 module _ (requests : List LayoutRequest) (learnt : ℕ) (progress : Progress) (place : ℕ) (searched : Searched) (is : IsEnded requests learnt progress place searched) where
   -- the steps of the search of a placement formula are paid
-  pub ended_paid : ArePaid requests learnt progress.steps searched.steps
+  pub ended_paid : ArePaid learnt progress.steps searched.steps
   ended_paid =
       let few = is.whole.few in
       let left = is.left in
-      record {
-        request = is.request;
-        among =
-            subst (Contains requests) (get_or_from_slice_get requests place is.request is.request is.is)
-            (Contains-get_or requests place is.request (slice_get_within requests place is.request is.is));
-        most = is.most;
-        sought = record { log = is.whole.log; sought = is.whole.sought; size = is.whole.size; few = is.whole.few };
-        few = omega (arith, few, left);
-        limit = is.limit;
-      }
+      record { few = omega (arith, few, left); limit = is.limit }
 
   -- parts that were found lay the request
   pub ended_laid : (parts : Vec Part Global) → searched.layout ≡ Found parts → IsLaid requests place parts
@@ -76,9 +58,9 @@ module _ (requests : List LayoutRequest) (learnt : ℕ) (progress : Progress) (p
     pub passed_by_log : (log : LogParts) → searched.layout ≡ Nowhere log → ArePassed requests learnt place new
     passed_by_log log nowhere =
         let layout : IsLayout is.request is.most (Nowhere log) = subst (IsLayout is.request is.most) nowhere is.whole.layout in
-        let few : length log.steps ≤ length is.whole.log = subst (λ l. HasLog l is.whole.log) nowhere is.whole.is_log in
+        let few : length log.steps ≤ searched.steps = subst (λ l. HasLog l searched.steps) nowhere is.whole.has_log in
         let refuted : IsRefuted is.request log.steps = record { none = layout.0; refuted = layout.1 } in
-        let size : progress.steps + length log.steps ≤ new.steps = omega (arith, few, is.whole.size, more) in
+        let size : progress.steps + length log.steps ≤ new.steps = omega (arith, few, more) in
         let paid = ended_paid.few in
         elim passed [
           | inl every ↦ inl (omega (arith, every, more, paid))
@@ -91,8 +73,8 @@ module _ (requests : List LayoutRequest) (learnt : ℕ) (progress : Progress) (p
     pub passed_by_steps : (log : LogParts) → searched.layout ≡ Spent log → ArePassed requests learnt place new
     passed_by_steps log spent =
         let layout : IsLayout is.request is.most (Spent log) = subst (IsLayout is.request is.most) spent is.whole.layout in
-        let same : log.steps ≡ is.whole.log = subst (λ l. HasLog l is.whole.log) spent is.whole.is_log in
-        let size : searched.steps ≡ is.most = sym is.whole.size ∙ sym (ap length same) ∙ layout.full in
+        let same : length log.steps ≡ searched.steps = subst (λ l. HasLog l searched.steps) spent is.whole.has_log in
+        let size : searched.steps ≡ is.most = sym same ∙ layout.full in
         let left = is.left in
         inl (omega (arith, more, size, left))
 

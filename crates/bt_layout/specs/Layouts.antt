@@ -6,7 +6,7 @@ use Rattle.bt_model.specs.Requests.{LayoutRequest}
 use Rattle.bt_place.specs.PlaceFormula.{place_formula}
 use Rattle.bt_place.specs.Solutions.{ComesAbove}
 use Rattle.bt_theory.specs.Outcomes.{IsRefutation, IsUsedUp}
-use Rattle.bt_trim.specs.Trimming.{IsTight}
+use Rattle.bt_trim.specs.Trimming.{IsTightOver}
 use Rattle.bt_layout.specs.declared.outcome.Layout.{Layout}
 use Rattle.bt_layout.specs.declared.outcome.Layout.TheVariants.{Found, Nowhere, Spent}
 
@@ -14,10 +14,11 @@ use Rattle.bt_layout.specs.declared.outcome.Layout.TheVariants.{Found, Nowhere, 
 abbrev pub HasNoLayout : LayoutRequest → Type 0
 HasNoLayout r = (parts : List Part) → Lays parts r → ⊥
 
--- what is right to say: the parts lay the request, in ascending order of y and then x; or no parts do, and the log, which
+-- what is right to say: the parts lay the request, in ascending order of y and then x; or no parts do, and the log,
+-- which
 -- has at most so many steps, each but the last needed, refutes the placement formula; or the log has so many steps, and
 -- one more is needed
 abbrev pub IsLayout : LayoutRequest → ℕ → Layout → Type 0
 IsLayout r learnt (Found parts) = Lays parts.items r × AllPairs ComesAbove parts.items
-IsLayout r learnt (Nowhere log) = HasNoLayout r × IsRefutation (place_formula r) log.steps × (length log.steps ≤ learnt) × IsTight log
+IsLayout r learnt (Nowhere log) = HasNoLayout r × IsRefutation (place_formula r) log.steps × (length log.steps ≤ learnt) × IsTightOver (place_formula r) log
 IsLayout r learnt (Spent log) = IsUsedUp (place_formula r) learnt log.steps

@@ -8,7 +8,7 @@ use Rattle.bt_model.specs.Requests.{LayoutRequest, request_of}
 use Rattle.bt_place.specs.PlaceFormula.{place_formula}
 use Rattle.bt_place.specs.Solutions.{ComesAbove}
 use Rattle.bt_theory.specs.Outcomes.{IsRefutation, IsUsedUp}
-use Rattle.bt_trim.specs.Trimming.{IsTight}
+use Rattle.bt_trim.specs.Trimming.{IsTightOver}
 use Rattle.bt_layout.specs.Layouts.{HasNoLayout}
 use Rattle.bt_layout.specs.declared.outcome.RuledOut.{RuledOut}
 use Rattle.bt_layout.specs.declared.outcome.Smallest.{Smallest}
@@ -35,7 +35,7 @@ pub record IsRuledOut (r : LayoutRequest) (learnt : ℕ) (one : RuledOut) : Type
   pub none : HasNoLayout (request_on r one.grid)
   pub refuted : IsRefutation (place_formula (request_on r one.grid)) one.log.steps
   pub few : length one.log.steps ≤ learnt
-  pub tight : IsTight one.log
+  pub tight : IsTightOver (place_formula (request_on r one.grid)) one.log
 
 -- the grids that are ruled out
 abbrev pub grids_of : List RuledOut → List Rect
@@ -47,7 +47,9 @@ pub record IsFirstLeft (first : Option Rect) (r : LayoutRequest) (learnt : ℕ) 
   pub in_order : AreGridsFrom first r.rect (grids_of earlier ++ grid ∷ later)
   pub ruled_out : All (IsRuledOut r learnt) earlier
 
--- what is right to say of the grids that a search doesn't pass by: the parts lay the request of the grid, in ascending order of y and then x, and all those before it are ruled out; or all of them are; or those before the grid are, of whose request the log has so many steps, and one more is needed
+-- what is right to say of the grids that a search doesn't pass by: the parts lay the request of the grid, in ascending
+-- order of y and then x, and all those before it are ruled out; or all of them are; or those before the grid are, of
+-- whose request the log has so many steps, and one more is needed
 abbrev pub IsSmallest : Option Rect → LayoutRequest → ℕ → Smallest → Type 0
 IsSmallest first r learnt (Found earlier grid parts) =
     IsFirstLeft first r learnt earlier.items grid × Lays parts.items (request_on r grid) × AllPairs ComesAbove parts.items

@@ -51,7 +51,8 @@ blueprint_of (Spent earlier grid log) = []
 abbrev pub spent_on_text : Rect → List Step → List ℕ
 spent_on_text grid steps = line (codes "spent " ++ decimal (length steps)) ++ grid_line grid ++ log_text steps
 
--- the text, behind the grid with which the search begins: the grids that are ruled out, and then the line of the grid of the parts and their blueprint; or those grids alone; or the log that is used up
+-- the text, behind the grid with which the search begins: the grids that are ruled out, and then the line of the grid
+-- of the parts and their blueprint; or those grids alone; or the log that is used up
 abbrev pub least_text : Smallest → List ℕ
 least_text (Found earlier grid parts) = earlier_text earlier.items ++ grid_line grid ++ blueprint_text parts.items
 least_text (Nowhere earlier) = earlier_text earlier.items
@@ -63,7 +64,7 @@ smallest_text first answer = from_line first ++ least_text answer
 
 -- the blueprint of the parts that are found on a small grid; else nothing
 abbrev pub blueprint_of_small : Small → List ℕ
-blueprint_of_small (small.Found grid parts steps) = blueprint_text parts.items
+blueprint_of_small (small.Found grid parts) = blueprint_text parts.items
 blueprint_of_small (small.Spent steps) = []
 
 -- that none is found in so many steps: `spent` and their number, and `end`
@@ -72,5 +73,5 @@ found_none_text steps = line (codes "spent " ++ decimal steps) ++ line (codes "e
 
 -- the text of a search for small grids: the line of the grid of the parts, and their blueprint; or that none is found
 abbrev pub small_text : Small → List ℕ
-small_text (small.Found grid parts steps) = grid_line grid ++ blueprint_text parts.items
+small_text (small.Found grid parts) = grid_line grid ++ blueprint_text parts.items
 small_text (small.Spent steps) = found_none_text steps

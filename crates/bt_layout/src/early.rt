@@ -242,18 +242,14 @@ fn after_round(
     Ok(sweep)
 }
 
-/// What was found, and how many steps were taken.
+/// What was found, or in how many steps nothing was.
 fn told(progress: Progress) -> Early
     ensures { (requests : List LayoutRequest) (learnt : ℕ) → IsProgress requests learnt progress
         → ArePassed requests learnt 0 progress → IsEarly requests learnt result }
 {
     let Progress { found, steps } = progress;
     match found {
-        Some(Laid { place, parts }) => Early::Laid {
-            place,
-            parts,
-            steps,
-        },
+        Some(Laid { place, parts }) => Early::Laid { place, parts },
         None => Early::Spent(steps),
     }
 }

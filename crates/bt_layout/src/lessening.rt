@@ -177,18 +177,47 @@ pub fn seek_by_lessening(
     Ok(None)
 }
 
+/// Whether halves of splitters and ends take at most two thirds of the cells of a request's rectangle, which is no wider
+/// than high and at most twice as high.
+fn may_be_turned(request: &Request, rect: Rect) -> bool {
+    let Rect { width, height } = rect;
+    width <= height
+        && height <= width.saturating_mul(2)
+        && taken_in(request).saturating_mul(3) <= cells_in(rect).saturating_mul(2)
+}
+
+/// Looks for a layout of a request that half a turn maps onto itself, or does but for its last rows.
+pub fn seek_by_turning(alloc: Global, request: &Request) -> Result<Option<Sketch>, AllocError> {
+    let rect = great_rect(request);
+    if names_cells(request) || !may_be_turned(request, rect) {
+        return Ok(None);
+    }
+    let Some(great) = ground_in(alloc, request, rect)? else {
+        return Ok(None);
+    };
+    match find_turned(alloc, great.request(), rect, TURN_EFFORT, 0)? {
+        Some(shrunk) => Ok(Some(great.told(alloc, &shrunk.sketch)?)),
+        None => Ok(None),
+    }
+}
+
 /// Whether the rectangle of a request is as wide as high, or one less.
 fn is_squarish(request: &Request) -> bool {
     let Rect { width, height } = request.rect();
     width == height || width.saturating_add(1) == height
 }
 
-/// Whether halves of splitters and ends take at most half of the cells of a request's rectangle.
-fn is_wide(request: &Request) -> bool {
+/// How many cells halves of splitters and ends would take if no two shared one.
+fn taken_in(request: &Request) -> u64 {
     let net = request.net();
     let halves = u64::from(net.splitters()).saturating_mul(2);
     let ends = u64::from(net.inputs()).saturating_add(u64::from(net.outputs()));
-    halves.saturating_add(ends).saturating_mul(2) <= cells_in(request.rect())
+    halves.saturating_add(ends)
+}
+
+/// Whether halves of splitters and ends take at most half of the cells of a request's rectangle.
+fn is_wide(request: &Request) -> bool {
+    taken_in(request).saturating_mul(2) <= cells_in(request.rect())
 }
 
 /// Of the first requests, of those whose rectangles are squarish, by turns one of the least that are wide; or the last one,

@@ -43,30 +43,20 @@ pub enum Smallest {
     },
 }
 
-/// What looking for a layout of one of several requests comes to, and how many steps all searches took together.
+/// What looking for a layout of one of several requests comes to.
 #[derive(Drop)]
 pub enum Early {
     /// The parts lay the request at this place. They come in ascending order of y and then x of their cells.
-    /// These are all steps that may be taken, or no parts lay a request before that.
-    Laid {
-        place: usize,
-        parts: Vec<Part>,
-        steps: u64,
-    },
-    /// None was found in so many steps: they are all that may be taken, or no parts lay any request.
+    Laid { place: usize, parts: Vec<Part> },
+    /// None was found in so many steps. Where they are fewer than may be taken, no parts lay any request.
     Spent(u64),
 }
 
-/// What looking for small layouts of a network comes to, and how many steps all searches took together.
+/// What looking for small layouts of a network comes to.
 #[derive(Drop)]
 pub enum Small {
     /// The parts show the network on this grid. They come in ascending order of y and then x of their cells.
-    /// These are all steps that may be taken, or on no grid before it do any parts show the network.
-    Found {
-        grid: Rect,
-        parts: Vec<Part>,
-        steps: u64,
-    },
-    /// None was found in so many steps: they are all that may be taken, or on no grid do any parts show the network.
+    Found { grid: Rect, parts: Vec<Part> },
+    /// None was found in so many steps. Where they are fewer than may be taken, on no grid do any parts show the network.
     Spent(u64),
 }

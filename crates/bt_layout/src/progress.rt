@@ -49,7 +49,7 @@ pub fn lesser(progress: &Progress, count: usize) -> usize
 pub fn with_layout(progress: Progress, laid: Laid, steps: u64) -> Progress
     requires lesser { IfSome progress.found (λ other. laid.place < other.place) }
     ensures progress { (requests : List LayoutRequest) (learnt : ℕ) → IsProgress requests learnt progress
-        → ArePaid requests learnt progress.steps steps → IsLaid requests laid.place laid.parts
+        → ArePaid learnt progress.steps steps → IsLaid requests laid.place laid.parts
         → IsProgress requests learnt result }
     ensures found { result.found ≡ Some laid }
 {
@@ -62,10 +62,10 @@ pub fn with_layout(progress: Progress, laid: Laid, steps: u64) -> Progress
 /// After so many more steps, which found nothing.
 pub fn with_steps(progress: Progress, steps: u64) -> Progress
     ensures progress { (requests : List LayoutRequest) (learnt : ℕ) → IsProgress requests learnt progress
-        → ArePaid requests learnt progress.steps steps → IsProgress requests learnt result }
+        → ArePaid learnt progress.steps steps → IsProgress requests learnt result }
     ensures found { result.found ≡ progress.found }
-    ensures steps { (requests : List LayoutRequest) (learnt : ℕ)
-        → ArePaid requests learnt progress.steps steps → result.steps ≡ progress.steps + steps }
+    ensures steps { (learnt : ℕ) → ArePaid learnt progress.steps steps
+        → result.steps ≡ progress.steps + steps }
 {
     Progress {
         steps: progress.steps.saturating_add(steps),

@@ -1,7 +1,7 @@
 //! Searching for a layout of a request by its placement formula.
-ghost use Rattle.std.specs.Prelude.{IfOk, IfSome, ℕ};
+ghost use Rattle.std.specs.Prelude.{IfOk, IfSome, length, ℕ};
 ghost use Rattle.bt_layout.specs.Layouts.{IsLayout};
-ghost use Rattle.bt_layout.specs.inner.Ends.{EndsSought, EndsWith, IsOver, IsTrimmedTo};
+ghost use Rattle.bt_layout.specs.inner.Ends.{EndsWithin, EndsWith, IsOver, IsTrimmedTo};
 ghost use Rattle.bt_layout.specs.inner.Likely.{IsLaidOut};
 ghost use Rattle.bt_layout.specs.inner.Progressing.{HasLog, IsWhole};
 
@@ -9,7 +9,8 @@ use crate::likely::{Trial, Tried, placing};
 use crate::outcome::Layout;
 use crate::sketched::{look_by_sketch, look_in_windows};
 use crate::tight::is_tight;
-use bt_cnf::Chooser;
+use bt_choosers::{Highest, Plan};
+use bt_cnf::{Chooser, Formula};
 use bt_log::Log;
 use bt_model::Request;
 use bt_parts::Part;
@@ -18,6 +19,16 @@ use bt_sat::{Answer, Solver};
 use bt_trim::trimmed;
 use std::alloc::{AllocError, Global};
 
+/// Where a placement formula is small, it is searched alone first, with at most so many steps: that shows in milliseconds
+/// of most requests that they have no layout, where to look for one takes a second.
+const SOON_STEPS: u64 = 500;
+
+/// A formula is small where the cells of the rectangle times the edges and splitters are at most so many.
+const SMALL: u64 = 160;
+
+/// From so many on, the cells of the rectangle times the splitters are many.
+const LARGE: u64 = 216;
+
 /// What a search of a placement formula comes to, and how many steps it took.
 #[derive(Drop)]
 pub struct Searched {
@@ -25,14 +36,52 @@ pub struct Searched {
     pub steps: u64,
 }
 
-/// Searches for a layout of a request, with a log of at most so many steps. The choosers steer the
-/// search, which is right whatever they answer.
+/// Searches for a layout of a request, with a log of at most so many steps. The choosers are told of the steps, and asked
+/// where conflicts propose nothing; the search is right whatever they answer.
 ///
-/// At first a sketch of a layout is made, which may show one; then a layout is searched where one is likely, by at most
-/// as many steps; where none is found, the log of that search is dropped, and the placement formula is searched from the
-/// start. It has no atoms, so a model of its clauses meets it. Of a log that refutes it the steps that the last one
-/// doesn't need are left out.
+/// At first the placement formula is searched by few steps, where it is small. Then a sketch of a layout is made, which
+/// may show one; then a layout is searched where one is likely, by at most as many steps; where none is found, the log of
+/// that search is dropped, and the placement formula is searched from the start. It has no atoms, so a model of its clauses
+/// meets it. Of a log that refutes it the steps that the last one doesn't need are left out.
 pub fn layout<C: Chooser>(
+    alloc: Global,
+    request: &Request,
+    learnt: u64,
+    choosers: Vec<C>,
+) -> Result<Layout, AllocError>
+    ensures { IfOk result (IsLayout request.now learnt) }
+{
+    match soon_shown(alloc, request, learnt)? {
+        Some(layout) => Ok(layout),
+        None => sought_layout(alloc, request, learnt, choosers),
+    }
+}
+
+/// What few steps show of a small placement formula: a layout, or that there is none.
+fn soon_shown(alloc: Global, request: &Request, learnt: u64) -> Result<Option<Layout>, AllocError>
+    ensures { IfOk result (λ shown. IfSome shown (IsLayout request.now learnt)) }
+{
+    if !is_small(request) {
+        return Ok(None);
+    }
+    let Searched { layout, .. } = look_alone(alloc, request, learnt.min(SOON_STEPS))?;
+    match layout {
+        Layout::Found(parts) => Ok(Some(Layout::Found(parts))),
+        Layout::Nowhere(log) => Ok(Some(Layout::Nowhere(log))),
+        Layout::Spent(_) => Ok(None),
+    }
+}
+
+/// Whether the placement formula of a request is small.
+fn is_small(request: &Request) -> bool {
+    let (net, rect) = (request.net(), request.rect());
+    let cells = u64::from(rect.width).saturating_mul(u64::from(rect.height));
+    let items = u64::from(net.splitters()).saturating_add(net.edges().len() as u64);
+    cells.saturating_mul(items) <= SMALL
+}
+
+/// A layout of a request, or that there is none: it is looked for before the whole formula is searched.
+fn sought_layout<C: Chooser>(
     alloc: Global,
     request: &Request,
     learnt: u64,
@@ -47,6 +96,34 @@ pub fn layout<C: Chooser>(
     Ok(layout)
 }
 
+/// Searches the placement formula of a request, with at most so many steps. The chooser fills the grid from one corner.
+pub fn look_alone(alloc: Global, request: &Request, steps: u64) -> Result<Searched, AllocError>
+    ensures { IfOk result (IsWhole request.now steps) }
+{
+    let mut choosers = Vec::new(alloc);
+    choosers.push(Highest::new())?;
+    search_whole(alloc, request, steps, choosers)
+}
+
+/// The plan of a search of a whole placement formula: of a large one its conflicts decide, by which eight to eight in 7x7 is
+/// refuted in less than half the steps; of a small one the splitters are placed first, by which four to four in 5x5 takes a
+/// quarter of them.
+fn whole_plan(alloc: Global, formula: &Formula, request: &Request) -> Result<Plan, AllocError> {
+    if is_large(request) {
+        Plan::by_conflicts(alloc, formula.vars())
+    } else {
+        placing(alloc, formula, request)
+    }
+}
+
+/// Whether the cells of the rectangle times the splitters are so many that conflicts decide best. Six splitters in 6x6 are
+/// refuted in the same time by either plan.
+fn is_large(request: &Request) -> bool {
+    let (net, rect) = (request.net(), request.rect());
+    let cells = u64::from(rect.width).saturating_mul(u64::from(rect.height));
+    cells.saturating_mul(u64::from(net.splitters())) >= LARGE
+}
+
 /// Searches the placement formula of a request alone, with a log of at most so many steps.
 pub fn search_whole<C: Chooser>(
     alloc: Global,
@@ -57,7 +134,7 @@ pub fn search_whole<C: Chooser>(
     ensures { IfOk result (IsWhole request.now learnt) }
 {
     let formula = encode_place(alloc, request)?;
-    let plan = placing(alloc, &formula, request)?;
+    let plan = whole_plan(alloc, &formula, request)?;
     let mut solver = Solver::by_plan(alloc, formula, choosers, learnt, plan)?;
     let answer = solver.next_model()?;
     searched_of(alloc, request, answer, solver.into_log())
@@ -71,8 +148,8 @@ fn searched_of(
     log: Log,
 ) -> Result<Searched, AllocError>
     requires over { IsOver request.now log }
-    requires ends { (learnt : ℕ) × EndsSought request.now learnt log.steps answer }
-    ensures { (learnt : ℕ) → EndsSought request.now learnt log.steps answer
+    requires ends { (learnt : ℕ) × EndsWithin request.now learnt log.steps answer }
+    ensures { (learnt : ℕ) → EndsWithin request.now learnt log.steps answer
         → IfOk result (IsWhole request.now learnt) }
 {
     let steps = log.len() as u64;
@@ -123,7 +200,7 @@ fn layout_of(
     requires ends { (learnt : ℕ) × EndsWith request.now learnt log.steps answer }
     ensures layout { (learnt : ℕ) → EndsWith request.now learnt log.steps answer
         → IfOk result (IsLayout request.now learnt) }
-    ensures log { IfOk result (λ layout. HasLog layout log.steps) }
+    ensures log { IfOk result (λ layout. HasLog layout (length log.steps)) }
 {
     match answer {
         Answer::Model(model) => Ok(Layout::Found(decode(alloc, request, &model)?)),

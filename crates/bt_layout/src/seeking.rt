@@ -1,7 +1,7 @@
 //! Searches by the structure of a network: of a request in which it gives the numbers, in a rectangle that may be smaller.
 //! What is found is told as a sketch of the first request, so nothing is claimed of it.
 
-use crate::lessening::seek_by_lessening;
+use crate::lessening::{seek_by_lessening, seek_by_turning};
 use crate::likely::solver_by;
 use crate::sketched::{SKETCHED_STEPS, solver_with};
 use crate::turning::{add_stretched, turned_part, turned_rect};
@@ -291,6 +291,22 @@ fn attempts_at(alloc: Global, request: &Request, steps: u64) -> Result<Vec<Attem
     }
 }
 
+/// Searches for a layout that half a turn maps onto itself, the first time, or else by making one smaller.
+fn seek_without_steps(
+    alloc: Global,
+    request: &Request,
+    place: usize,
+    is_begun: bool,
+) -> Result<Option<Sketch>, AllocError> {
+    if !is_begun {
+        let turned = seek_by_turning(alloc, request)?;
+        if turned.is_some() {
+            return Ok(turned);
+        }
+    }
+    seek_by_lessening(alloc, request, place)
+}
+
 /// Searches for a layout of a request where one is likely, with at most so many steps of all windows together. Where none
 /// of the whole rectangle is as was looked for, none of a window is.
 pub fn seek_where_likely(
@@ -298,12 +314,14 @@ pub fn seek_where_likely(
     request: &Request,
     steps: u64,
 ) -> Result<Option<Sketch>, AllocError> {
+    let mut is_begun = false;
     for (place, attempt) in attempts_at(alloc, request, steps)?.iter().enumerate() {
         if attempt.steps > SHORT_STEPS {
-            let lessened = seek_by_lessening(alloc, request, place)?;
-            if lessened.is_some() {
-                return Ok(lessened);
+            let plan = seek_without_steps(alloc, request, place, is_begun)?;
+            if plan.is_some() {
+                return Ok(plan);
             }
+            is_begun = true;
         }
         let sought = seek_in_window(alloc, request, *attempt)?;
         if sought.sketch.is_some() {

@@ -16,8 +16,8 @@ use std::alloc::{AllocError, Global};
 
 /// Looks for small grids, of at most as many cells each way as the request's rectangle and of fewer cells than so many,
 /// where a number is given, on which parts lay the request: from the greatest grid downwards, with so many steps of
-/// all searches together. The least that is found is told. Where not all steps were taken, on no other such grid that
-/// is lesser do any parts lay the request.
+/// all searches together. Where none is found and not all of them were taken, on no such grid do any parts lay the
+/// request. Of grids other than the one that is told nothing is said.
 ///
 /// The request names no cells.
 pub fn find_small(
@@ -72,14 +72,9 @@ fn small_of(requests: &[Request], early: Early) -> Small
         → IsSmall request cells learnt result }
 {
     match early {
-        Early::Laid {
-            place,
-            parts,
-            steps,
-        } => Small::Found {
+        Early::Laid { place, parts } => Small::Found {
             grid: requests[place].rect(),
             parts,
-            steps,
         },
         Early::Spent(steps) => Small::Spent(steps),
     }

@@ -138,7 +138,7 @@ fn after_layout(sweep: Sweep, at: usize, steps: u64, parts: Vec<Part>) -> Sweep
     requires inside { at < length sweep.places.items }
     requires lesser { IfSome sweep.progress.found (λ laid. at_index sweep at < laid.place) }
     ensures sweep { (requests : List LayoutRequest) (learnt : ℕ) → IsSweep requests learnt sweep
-        → ArePaid requests learnt sweep.progress.steps steps → IsLaid requests (at_index sweep at) parts
+        → ArePaid learnt sweep.progress.steps steps → IsLaid requests (at_index sweep at) parts
         → IsSweep requests learnt result }
     ensures places { at ≤ length result.places.items }
 {
@@ -164,7 +164,7 @@ fn after_layout(sweep: Sweep, at: usize, steps: u64, parts: Vec<Part>) -> Sweep
 fn after_refutation(sweep: Sweep, at: usize, steps: u64) -> Sweep
     requires { at < length sweep.places.items }
     ensures sweep { (requests : List LayoutRequest) (learnt : ℕ) → IsSweep requests learnt sweep
-        → ArePaid requests learnt sweep.progress.steps steps → IsSweep requests learnt result }
+        → ArePaid learnt sweep.progress.steps steps → IsSweep requests learnt result }
     ensures places { at ≤ length result.places.items }
 {
     let Sweep {
@@ -187,7 +187,7 @@ fn after_refutation(sweep: Sweep, at: usize, steps: u64) -> Sweep
 /// With a request that is passed after so many steps.
 fn after_giving_up(sweep: Sweep, steps: u64) -> Sweep
     ensures sweep { (requests : List LayoutRequest) (learnt : ℕ) → IsSweep requests learnt sweep
-        → ArePaid requests learnt sweep.progress.steps steps → IsSweep requests learnt result }
+        → ArePaid learnt sweep.progress.steps steps → IsSweep requests learnt result }
     ensures places { result.places ≡ sweep.places }
 {
     let Sweep {

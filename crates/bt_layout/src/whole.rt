@@ -1,12 +1,11 @@
 //! Searches of whole placement formulas, by all steps that are left.
 ghost use Rattle.std.specs.Prelude.{◌+◌, ◌≤◌, ◌<◌, ℕ, List, IfOk, IfSome, length};
 ghost use Rattle.bt_model.specs.Requests.{LayoutRequest};
-ghost use Rattle.bt_layout.specs.inner.Progressing.{ArePassed, IsEnded, IsProgress, IsWhole, lesser_of};
+ghost use Rattle.bt_layout.specs.inner.Progressing.{ArePassed, IsEnded, IsProgress, lesser_of};
 
 use crate::outcome::Layout;
 use crate::progress::{Laid, Progress, lesser, with_layout, with_steps};
-use crate::searching::{Searched, search_whole};
-use bt_choosers::Highest;
+use crate::searching::{Searched, look_alone};
 use bt_model::Request;
 use std::alloc::{AllocError, Global};
 
@@ -49,15 +48,6 @@ fn after_whole(
     let left = learnt.saturating_sub(progress.steps);
     let searched = look_alone(alloc, &requests[place], left)?;
     Ok(after_searched(progress, place, searched))
-}
-
-/// Searches the placement formula of a request, with at most so many steps. The chooser fills the grid from one corner.
-fn look_alone(alloc: Global, request: &Request, steps: u64) -> Result<Searched, AllocError>
-    ensures { IfOk result (IsWhole request.now steps) }
-{
-    let mut choosers = Vec::new(alloc);
-    choosers.push(Highest::new())?;
-    search_whole(alloc, request, steps, choosers)
 }
 
 /// With what the search for a layout of the request at this place came to.

@@ -21,7 +21,8 @@ pub record IsScaled (zero : Terms) (slot slot' : Option Terms) (scales : Scales)
   pub line_after : IsLine terms_after
   pub sum : IsCombination terms (reduced factor scales.left_under) zero terms_after
 
--- it stays and has no line that names the position, or what the position stands for is in place of it, or it stays and its line names the position
+-- it stays and has no line that names the position, or what the position stands for is in place of it, or it stays and
+-- its line names the position
 abbrev pub IsChange : ℕ → Terms → Option Terms → Option Terms → Change → Type 0
 IsChange enters zero slot slot' Lacks = (slot' ≡ slot) × IsSubstituted enters zero slot slot'
 IsChange enters zero slot slot' (Made scales) = IsSubstituted enters zero slot slot' × IsScaled zero slot slot' scales

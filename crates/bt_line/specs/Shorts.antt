@@ -60,7 +60,8 @@ signed_numbers true numbers = map (λ t. (t.0, neg_ℤ t.1)) numbers
 abbrev pub Divides : ℕ → ℕ → Type 0
 Divides d n = (k : ℕ) × (d * k ≡ n)
 
--- over this denominator the numbers of a line are its numbers times the first of these, and a factor times those of another line are its numbers times the second
+-- over this denominator the numbers of a line are its numbers times the first of these, and a factor times those of
+-- another line are its numbers times the second
 pub record AreScales (left_under : ℕ) (factor : ℤ) (right_under : ℕ) (left right : ℤ) (under : ℕ) : Type 0 where
   pub left_some : 0 < left_under
   pub left_fits : left_under < 2 ^ 31

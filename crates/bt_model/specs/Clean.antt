@@ -55,7 +55,8 @@ pub record IsOnRing (parts : List Part) (i : ℕ) : Type 0 where
   pub path : Path parts i last links
   pub closed : Hands parts last i
 
--- the layout is clean: no cell has two parts, each piece is in one pair, and there is no side-loading, no blocked part and no ring
+-- the layout is clean: no cell has two parts, each piece is in one pair, and there is no side-loading, no blocked part
+-- and no ring
 pub record IsClean (parts : List Part) : Type 0 where
   pub well_placed : IsWellPlaced parts
   pub paired : (i : ℕ) → IsPieceAt parts i → IsPaired parts i

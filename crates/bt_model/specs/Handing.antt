@@ -10,7 +10,8 @@ use Rattle.bt_parts.specs.Cells.{step, Covers}
 use Rattle.bt_parts.specs.Handing.{ComesFrom, TakesFrom}
 use Rattle.bt_parts.specs.Layouts.{IsAt, Pairs}
 
--- p, which is no entrance, looks from this cell of it at q, upon which it comes from this side: q is on the cell in front
+-- p, which is no entrance, looks from this cell of it at q, upon which it comes from this side: q is on the cell in
+-- front
 pub record LooksFrom (parts : List Part) (p : ℕ) (half : Cell) (q : ℕ) (side : Side) : Type 0 where
   pub giver : IsAt parts p half
   pub no_entrance : giver.part.kind ≢ Entrance
@@ -40,7 +41,8 @@ Feeds parts p q = (half : Cell) × FeedsFrom parts p half q
 abbrev pub Hands : List Part → ℕ → ℕ → Type 0
 Hands parts p q = Pairs parts p q ⊎ Feeds parts p q
 
--- the kind blocks what comes from this side: a belt and an entrance from ahead, an exit from behind and ahead, a splitter from all but behind
+-- the kind blocks what comes from this side: a belt and an entrance from ahead, an exit from behind and ahead, a
+-- splitter from all but behind
 abbrev pub BlocksFrom : Kind → Side → Type 0
 BlocksFrom Belt side = side ≡ Ahead
 BlocksFrom Entrance side = side ≡ Ahead

@@ -16,7 +16,8 @@ use Rattle.bt_model.specs.Chains.{IsInput, IsOutput}
 use Rattle.bt_model.specs.Requests.{LayoutRequest, HasEnd, Names, pinned, blocked}
 use Rattle.bt_model.specs.Shown.{Naming, Shows}
 
--- the parts lie in the request's rectangle, on none of its blocked cells, and have its tier; behind the first part of an input, and in front of the last part of an output, the rectangle ends
+-- the parts lie in the request's rectangle, on none of its blocked cells, and have its tier; behind the first part of
+-- an input, and in front of the last part of an output, the rectangle ends
 pub record Fits (parts : List Part) (request : LayoutRequest) : Type 0 where
   pub inside : (i : ℕ) (cell : Cell) → IsAt parts i cell → IsInside request.rect cell
   pub unblocked : (i : ℕ) (block : Block) → Contains request.blocks block → IsAt parts i (blocked block) → ⊥
@@ -26,12 +27,14 @@ pub record Fits (parts : List Part) (request : LayoutRequest) : Type 0 where
   pub outputs : (i : ℕ) (part : Part) → IsOutput parts i → HasPart parts i part
       → IsInside request.rect (step part.dir part.cell) → ⊥
 
--- the part with this index bears the name of this end: it is the first part of that input, or the last part of that output
+-- the part with this index bears the name of this end: it is the first part of that input, or the last part of that
+-- output
 abbrev pub IsNamed : Naming → End → ℕ → Type 0
 IsNamed naming (Input k) i = slice_get naming.inputs k ≡ Some i
 IsNamed naming (Output k) i = slice_get naming.outputs k ≡ Some i
 
--- the part that bears the name of the pinned end stands on the pinned cell, and points in the pinned direction where there is one
+-- the part that bears the name of the pinned end stands on the pinned cell, and points in the pinned direction where
+-- there is one
 pub record KeepsPin (parts : List Part) (naming : Naming) (pin : Pin) : Type 0 where
   pub index : ℕ
   pub named : IsNamed naming pin.end index
@@ -44,7 +47,8 @@ pub record KeepsPin (parts : List Part) (naming : Naming) (pin : Pin) : Type 0 w
 abbrev pub IsAtSide : Rect → Dir → Cell → Type 0
 IsAtSide rect dir cell = IsInside rect cell × (IsInside rect (step dir cell) → ⊥)
 
--- the direction of the part with which an end stands at this side: an input comes in across it, and an output leaves across it
+-- the direction of the part with which an end stands at this side: an input comes in across it, and an output leaves
+-- across it
 abbrev pub way_across : End → Dir → Dir
 way_across (Input k) dir = opposite dir
 way_across (Output k) dir = dir

@@ -1,4 +1,5 @@
--- What a layout is asked for: a network in a rectangle, whose ends may have to stand on cells or at sides, and blocked cells.
+-- What a layout is asked for: a network in a rectangle, whose ends may have to stand on cells or at sides, and blocked
+-- cells.
 use Rattle.std.specs.Prelude.{◌≡◌, ◌≢◌, ℕ, ◌≤◌, List, length, All, AllPairs}
 use Rattle.bt_parts.specs.declared.part.Cell.{Cell}
 use Rattle.bt_parts.specs.declared.part.Rect.{Rect}
@@ -17,7 +18,8 @@ pub use Rattle.bt_net.specs.Network.{HasEnd}
 pub use Rattle.bt_net.specs.PinText.{HasEnds}
 use Rattle.bt_model.specs.declared.request.TheConstants.{MOST_ACROSS, MOST_REQUESTED}
 
--- the network to be shown, the rectangle in which the parts are to lie, their tier, where ends are to stand, and the cells on which no part is to stand
+-- the network to be shown, the rectangle in which the parts are to lie, their tier, where ends are to stand, and the
+-- cells on which no part is to stand
 pub record LayoutRequest : Type 0 where
   pub net : Network
   pub rect : Rect
@@ -75,7 +77,9 @@ pub record IsGrid (rect : Rect) : Type 0 where
   pub some_height : 1 ≤ rect.height
   pub few_down : rect.height ≤ MOST_ACROSS
 
--- a request: a network of at most `MOST_REQUESTED` edges and splitters, with caps of 1 and without priorities, since a layout that is laid out has none to show; pins and sides of its ends, of each end at most one; pins on cells of the rectangle; and blocks of cells of the rectangle, at most one of each and none of a pinned cell
+-- a request: a network of at most `MOST_REQUESTED` edges and splitters, with caps of 1 and without priorities, since a
+-- layout that is laid out has none to show; pins and sides of its ends, of each end at most one; pins on cells of the
+-- rectangle; and blocks of cells of the rectangle, at most one of each and none of a pinned cell
 pub record IsRequest (request : LayoutRequest) : Type 0 where
   pub net : IsNetwork request.net
   pub plain : HasNoPriorities request.net

@@ -155,7 +155,8 @@ pub record GoesOver (es fs : List Edge) (more tail : List (List ℕ)) : Type 0 w
   pub all : fs ≡ es ++ edges
   pub more_is : more ≡ lines ++ tail
 
--- edge lines, and lines that begin with none, that begin with the lines of some edges: these come first, and the others follow
+-- edge lines, and lines that begin with none, that begin with the lines of some edges: these come first, and the others
+-- follow
 pub go_over : (tail : List (List ℕ)) → ((bytes : List ℕ) (rest : List (List ℕ)) (e : Edge) → tail ≡ bytes ∷ rest → IsEdgeLine bytes e → ⊥)
     → (ks : List (List ℕ)) (es : List Edge) (ls : List (List ℕ)) (fs : List Edge) (more : List (List ℕ)) → AreLines ks es → AreLines ls fs → ls ++ tail ≡ ks ++ more → GoesOver es fs more tail
 go_over tail none [] [] ls fs more p q is = record { edges = fs; lines = ls; are_edges = q.are_edges; all = refl; more_is = sym is }

@@ -22,7 +22,8 @@ nothing_no_edge bytes rest e is edge = cc
 go_edges : (ks : List (List ℕ)) (es : List Edge) (ls : List (List ℕ)) (fs : List Edge) (more : List (List ℕ)) → AreLines ks es → AreLines ls fs → ls ≡ ks ++ more → GoesOver es fs more []
 go_edges ks es ls fs more p q is = go_over [] nothing_no_edge ks es ls fs more p q (append-nil ls ∙ is)
 
--- the line behind the edges of one network so far, where the edges of another begin with these: the networks are one, or it is the line of the other's next edge
+-- the line behind the edges of one network so far, where the edges of another begin with these: the networks are one,
+-- or it is the line of the other's next edge
 abbrev pub Behind : (n m : Network) (bytes rest s : List ℕ) → Type 0
 Behind n m bytes rest s = ((n ≡ m) × (rest ≡ s)) ⊎ ((g : Edge) × IsEdgeLine bytes g × IsPartlyWired (with_edge n g) × (length n.edges < MOST_OF_EACH))
 

@@ -51,7 +51,8 @@ net_text n = line (header n) ++ flat_map (λ e. line (edge_text e)) n.edges ++ p
 abbrev pub alone : Network → Network
 alone n = network_of n.inputs n.outputs n.splitters n.edges
 
--- the bytes begin with the lines of the network: its header, a line for each edge in their order and for each priority in any order, and `end`; the last line feed may be missing at the end of the bytes, and this is what follows
+-- the bytes begin with the lines of the network: its header, a line for each edge in their order and for each priority
+-- in any order, and `end`; the last line feed may be missing at the end of the bytes, and this is what follows
 pub record BeginsWithNet (bytes : List ℕ) (n : Network) (rest : List ℕ) : Type 0 where
   pub edge_lines : List (List ℕ)
   pub are_edges : AllZip IsEdgeLine edge_lines n.edges

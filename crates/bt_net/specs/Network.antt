@@ -11,7 +11,8 @@ use Rattle.bt_net.specs.declared.network.Target.{Target}
 use Rattle.bt_net.specs.declared.network.Target.TheVariants as to
 use Rattle.bt_net.specs.declared.network.TheConstants.{MOST_OF_EACH, MOST_CAP}
 
--- numbers of inputs, outputs and splitters, the edges in their order, and for each splitter the out edge and the in edge that it prefers, where it prefers one
+-- numbers of inputs, outputs and splitters, the edges in their order, and for each splitter the out edge and the in
+-- edge that it prefers, where it prefers one
 pub record Network : Type 0 where
   pub inputs : ℕ
   pub outputs : ℕ
@@ -98,7 +99,8 @@ HasEnd n (end.Output o) = o < n.outputs
 abbrev pub IsCap : ℕ → Type 0
 IsCap cap = (1 ≤ cap) × (cap ≤ MOST_CAP)
 
--- the edges join what the network has and have caps from 1 to `MOST_CAP`, each input and each output has one edge, and each splitter has at most two in edges and two out edges
+-- the edges join what the network has and have caps from 1 to `MOST_CAP`, each input and each output has one edge, and
+-- each splitter has at most two in edges and two out edges
 pub record IsWired (n : Network) : Type 0 where
   pub starts : All (λ e. StartsIn n e.start) n.edges
   pub targets : All (λ e. EndsIn n e.target) n.edges
@@ -123,7 +125,8 @@ IsLarge n = (MOST_OF_EACH < n.inputs) ⊎ (MOST_OF_EACH < n.outputs) ⊎ (MOST_O
 abbrev pub LacksEnds : Network → Type 0
 LacksEnds n = (IsLarge n → ⊥) × ((n.inputs ≡ 0) ⊎ (n.outputs ≡ 0))
 
--- a network: wired, of at most `MOST_OF_EACH` of each kind, with an input and an output, and each splitter prefers edges of its own
+-- a network: wired, of at most `MOST_OF_EACH` of each kind, with an input and an output, and each splitter prefers
+-- edges of its own
 pub record IsNetwork (n : Network) : Type 0 where
   pub wired : IsWired n
   pub prioritised : IsPrioritised n
@@ -134,7 +137,8 @@ pub record IsNetwork (n : Network) : Type 0 where
   pub some_input : 1 ≤ n.inputs
   pub some_output : 1 ≤ n.outputs
 
--- what comes of making a network of numbers and edges that are wired: that network, or that it is too large, or that it lacks an input or an output
+-- what comes of making a network of numbers and edges that are wired: that network, or that it is too large, or that it
+-- lacks an input or an output
 abbrev pub IsNetOf : Network → Result Network NetFault → Type 0
 IsNetOf n (Ok net) = (net ≡ n) × IsNetwork net
 IsNetOf n (Err TooLarge) = IsLarge n

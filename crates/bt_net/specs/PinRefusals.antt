@@ -14,14 +14,17 @@ use Rattle.bt_net.specs.PinText.{IsDemandHere, IsBlockHere}
 use Rattle.bt_net.specs.Refusals.{HeaderRefused, LineRefused, BeginsWithEdges}
 use Rattle.bt_net.specs.Wiring.{IsPartlyWired, with_edge, HasSmallSizes}
 
--- this line, with this number, may not stand after the edges, pins, sides and blocks so far: it is not `end`, or an input or an output has no edge; it is the line of no edge that may stand, or other lines came before; it is the line of no pin and no side that may stand, or blocks came before; and it is that of no block that may
+-- this line, with this number, may not stand after the edges, pins, sides and blocks so far: it is not `end`, or an
+-- input or an output has no edge; it is the line of no edge that may stand, or other lines came before; it is the line
+-- of no pin and no side that may stand, or blocks came before; and it is that of no block that may
 pub record MayNotFollow (may : Admitted) (n : Network) (demands : List Demand) (blocks : List Block) (number : ℕ) (bytes : List ℕ) : Type 0 where
   pub no_end : bytes ≡ codes "end" → IsWired n → ⊥
   pub no_edge : demands ≡ [] → blocks ≡ [] → (e : Edge) → IsEdgeLine bytes e → IsPartlyWired (with_edge n e) → ⊥
   pub no_demand : blocks ≡ [] → (demand : Demand) → IsDemandHere may n number bytes demand → ⊥
   pub no_block : (block : Block) → IsBlockHere may number bytes block → ⊥
 
--- why this line, with this number, is refused after the edges, pins, sides and blocks so far: it may not stand there; or it is one edge too many, or ends a network without inputs or without outputs
+-- why this line, with this number, is refused after the edges, pins, sides and blocks so far: it may not stand there;
+-- or it is one edge too many, or ends a network without inputs or without outputs
 abbrev pub LineRefusedAfter : Admitted → Network → List Demand → List Block → ℕ → List ℕ → NetFault → Type 0
 LineRefusedAfter may n demands blocks number bytes (NetLine k) = MayNotFollow may n demands blocks number bytes × (k ≡ number)
 LineRefusedAfter may n demands blocks number bytes TooLarge = (demands ≡ []) × (blocks ≡ []) × LineRefused n bytes TooLarge
@@ -34,7 +37,8 @@ BeginsWithItems IsLine number text [] rest = text ≡ rest
 BeginsWithItems IsLine number text (x ∷ xs) rest = (bytes : List ℕ) × (after : List ℕ) × IsFirstLine text bytes after × IsLine number bytes x
     × BeginsWithItems IsLine (number + 1) after xs rest
 
--- the text goes on with lines of the network's edges so far, which may stand, then of pins and sides in any order, then of blocks, and then with this line
+-- the text goes on with lines of the network's edges so far, which may stand, then of pins and sides in any order, then
+-- of blocks, and then with this line
 pub record GoesOnAfter (may : Admitted) (n : Network) (demands : List Demand) (blocks : List Block) (text bytes after : List ℕ) : Type 0 where
   pub wired : IsPartlyWired n
   pub few : length n.edges ≤ MOST_OF_EACH
@@ -55,7 +59,8 @@ pub record BodyRefused (may : Admitted) (n : Network) (text : List ℕ) (fault :
   pub goes_on : GoesOnAfter may n demands blocks text bytes after
   pub refused : LineRefusedAfter may n demands blocks (length n.edges + length demands + length blocks + 2) bytes fault
 
--- why a text begins with no network: its first line is refused, or it is the header of a network, and behind it the line after some edges, pins, sides and blocks is refused
+-- why a text begins with no network: its first line is refused, or it is the header of a network, and behind it the
+-- line after some edges, pins, sides and blocks is refused
 abbrev pub RefusesAll : Admitted → List ℕ → NetFault → Type 0
 RefusesAll may text fault = (first rest : List ℕ) × IsFirstLine text first rest
     × (HeaderRefused first fault ⊎ ((n : Network) × (first ≡ header n) × HasSmallSizes n × BodyRefused may n rest fault))

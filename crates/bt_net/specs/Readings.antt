@@ -26,7 +26,9 @@ pub record Reading : Type 0 where
 abbrev pub what_is_read : NetRead → Reading
 what_is_read read = record { net = read.net; demands = read.demands.items; blocks = read.blocks.items; used = read.used; lines = read.lines }
 
--- the bytes begin with the lines of what was read: the header of the network, a line for each edge, each pin or side and each block, in their orders, and `end`; the last line feed may be missing at the end of the bytes, and this is what follows. No splitter prefers an edge
+-- the bytes begin with the lines of what was read: the header of the network, a line for each edge, each pin or side
+-- and each block, in their orders, and `end`; the last line feed may be missing at the end of the bytes, and this is
+-- what follows. No splitter prefers an edge
 pub record BeginsWithAll (may : Admitted) (bytes : List ℕ) (read : Reading) (rest : List ℕ) : Type 0 where
   pub plain : HasNoPriorities read.net
   pub edge_lines : List (List ℕ)
@@ -44,12 +46,14 @@ pub record StandsAtFront (may : Admitted) (bytes : List ℕ) (read : Reading) : 
   pub used : read.used ≤ length bytes
   pub lines : read.lines ≡ length read.net.edges + length read.demands + length read.blocks + 2
 
--- what is told of the network, the pins, the sides and the blocks at the front of the bytes, where such lines may stand: how their text stands there, or why none does, which never is want of memory
+-- what is told of the network, the pins, the sides and the blocks at the front of the bytes, where such lines may
+-- stand: how their text stands there, or why none does, which never is want of memory
 abbrev pub IsNetRead : Admitted → List ℕ → Result Reading NetFault → Type 0
 IsNetRead may bytes (Ok read) = StandsAtFront may bytes read
 IsNetRead may bytes (Err fault) = RefusesAll may bytes fault
 
--- the text of a network, maybe with priorities, stands at the front of the bytes and has so many bytes and lines, and neither pins, sides nor blocks
+-- the text of a network, maybe with priorities, stands at the front of the bytes and has so many bytes and lines, and
+-- neither pins, sides nor blocks
 pub record StandsPlain (bytes : List ℕ) (read : Reading) : Type 0 where
   pub network : IsNetwork read.net
   pub begins : BeginsWithNet bytes read.net (drop read.used bytes)
@@ -58,12 +62,14 @@ pub record StandsPlain (bytes : List ℕ) (read : Reading) : Type 0 where
   pub blocks : read.blocks ≡ []
   pub lines : read.lines ≡ length read.net.edges + length begins.priorities + 2
 
--- what is told of the network at the front of the bytes, where a line of a pin, a side or a block is none that may stand
+-- what is told of the network at the front of the bytes, where a line of a pin, a side or a block is none that may
+-- stand
 abbrev pub IsPlainRead : List ℕ → Result Reading NetFault → Type 0
 IsPlainRead bytes (Ok read) = StandsPlain bytes read
 IsPlainRead bytes (Err fault) = Refuses bytes fault
 
--- what there is to read of a network's own text: that network, no pins, no sides, no blocks, and the whole text, which has a line for each priority
+-- what there is to read of a network's own text: that network, no pins, no sides, no blocks, and the whole text, which
+-- has a line for each priority
 abbrev pub whole_reading : Network → Reading
 whole_reading n = record { net = n; demands = []; blocks = []; used = length (net_text n); lines = length n.edges + length (priorities_of n) + 2 }
 

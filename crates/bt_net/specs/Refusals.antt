@@ -28,12 +28,14 @@ HeaderRefused bytes TooLarge = (i o s : ℕ) × IsHeader bytes i o s × ((MOST_O
 HeaderRefused bytes NoEnds = ⊥
 HeaderRefused bytes Memory = ⊥
 
--- this line may not stand after the edges of the network so far: it is not `end`, or an input or an output has no edge yet; and it is the line of no edge that may stand there
+-- this line may not stand after the edges of the network so far: it is not `end`, or an input or an output has no edge
+-- yet; and it is the line of no edge that may stand there
 pub record MayNotStand (n : Network) (bytes : List ℕ) : Type 0 where
   pub no_end : bytes ≡ codes "end" → IsWired n → ⊥
   pub no_edge : (e : Edge) → IsEdgeLine bytes e → IsPartlyWired (with_edge n e) → ⊥
 
--- why this line is refused after the edges of the network so far: it may not stand there, or it is one edge more than `MOST_OF_EACH`, or it ends a network without inputs or without outputs
+-- why this line is refused after the edges of the network so far: it may not stand there, or it is one edge more than
+-- `MOST_OF_EACH`, or it ends a network without inputs or without outputs
 abbrev pub LineRefused : Network → List ℕ → NetFault → Type 0
 LineRefused n bytes (NetLine k) = MayNotStand n bytes × (k ≡ length n.edges + 2)
 LineRefused n bytes TooLarge = (e : Edge) × IsEdgeLine bytes e × IsPartlyWired (with_edge n e) × (length n.edges ≡ MOST_OF_EACH)

@@ -75,6 +75,8 @@ fn property_named(name: &str) -> Property {
         "balanced" => Property::Balanced,
         "drawn-evenly" => Property::DrawnEvenly,
         "full" => Property::Full,
+        "fair" => Property::Fair,
+        "drawn-fairly" => Property::DrawnFairly,
         _ => Property::Unlimited,
     }
 }

@@ -17,7 +17,8 @@ use Rattle.bt_facts.specs.declared.fact.Shape.{Shape}
 use Rattle.bt_facts.specs.declared.fact.Shape.TheVariants as shape
 use Rattle.bt_demands.specs.Classes.{same_class}
 
--- the sizes on which the numbers of variables depend: the outputs that may stop on cells, the greatest distance of an underground pair, the classes, and for each
+-- the sizes on which the numbers of variables depend: the outputs that may stop on cells, the greatest distance of an
+-- underground pair, the classes, and for each
 -- splitter its rank in the order in which the search places them
 pub record Sizes : Type 0 where
   pub width : ℕ
@@ -52,7 +53,8 @@ abbrev pub first_most : List ℕ → ℕ
 first_most [] = 0
 first_most (n ∷ ns) = place_of_most 0 n 1 ns
 
--- so many more splitters are placed after those that are: of those that are left always the first of those with the most
+-- so many more splitters are placed after those that are: of those that are left always the first of those with the
+-- most
 -- edges to those before it
 abbrev pub ordered : ℕ → List Edge → List ℕ → List ℕ → List ℕ
 ordered zero edges done left = done
@@ -162,8 +164,10 @@ places_from z = kinds_from z + spots z * 21
 abbrev pub variables : Sizes → ℕ
 variables z = places_from z + z.splitters * spots z * 4
 
--- the variable of a fact. The places of the first splitter come last, and before all places what cells hold. Both are numbered
--- from the last cell along the longer side to the first one, and of what a cell holds nothing comes last: so a search that
+-- the variable of a fact. The places of the first splitter come last, and before all places what cells hold. Both are
+-- numbered
+-- from the last cell along the longer side to the first one, and of what a cell holds nothing comes last: so a search
+-- that
 -- sets the highest variable to true places the splitters one after another, and keeps cells empty then
 abbrev pub variable_of : Sizes → Fact → ℕ
 variable_of z (fact.Carries c k) = spot_of z c * length z.classes + class_number z k

@@ -1,4 +1,10 @@
--- The placement formula of a request.
+-- The placement formula of a request. That there is no layout where a log refutes it rests on one law and not on how
+-- its
+-- rules read: parts that lay a request give an assignment that meets its formula (`LayingMeets`, which `laying_meets`
+-- has as
+-- its contract). That what is decoded is a layout rests on `MeetingKeeps`. The rules that count halves (`count_rules`)
+-- say
+-- nothing that the others don't; they are there for the search.
 use Rattle.std.specs.List.{range_with_len, position_or_len}
 use Rattle.std.specs.Prelude.{ℕ, ◌==◌, Bool, true, false, List, [], ◌++◌, map}
 use Rattle.bt_cnf.specs.declared.literal.Lit.{Lit}
@@ -14,7 +20,9 @@ use Rattle.bt_rules.specs.Underground.{most_distance}
 use Rattle.bt_demands.specs.Stopping.{stopping}
 use Rattle.bt_place.specs.Numbering.{Sizes, ordered, variable_of, variables}
 
--- the splitters of a network in the order in which the search places them
+-- the splitters of a network in the order in which the search places them: as the program finds it, step by step. It
+-- numbers
+-- variables and no more, and the laws of the formula hold of it as it is
 abbrev pub splitter_order : Network → List ℕ
 splitter_order net = ordered net.splitters net.edges [] (range_with_len 0 net.splitters)
 

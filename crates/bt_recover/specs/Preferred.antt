@@ -14,7 +14,8 @@ use Rattle.bt_model.specs.Shown.{Naming, IsNumbered}
 use Rattle.bt_recover.specs.declared.fault.RecoverFault.{RecoverFault}
 use Rattle.bt_recover.specs.Recovered.{IsRecovered}
 
--- the chain hands on from this cell of this part: of its last part, or, where it has no part, of the splitter at which it starts
+-- the chain hands on from this cell of this part: of its last part, or, where it has no part, of the splitter at which
+-- it starts
 abbrev pub HandsOnFrom : List Part → Chain → ℕ → Cell → Type 0
 HandsOnFrom parts chain giver cell = ((first : ℕ) × Path parts first giver chain.links)
     ⊎ ((chain.links ≡ []) × (chain.source ≡ leaves giver cell))
@@ -55,13 +56,15 @@ pub record ArePreferred (Prefers : Chain → ℕ → Type 0) (splitters : List �
       ((chain : Chain) → Contains chains chain → Prefers chain s → ⊥)
       (λ a. (chain : Chain) × (slice_get chains a ≡ Some chain) × Prefers chain s)
 
--- the clean layout has the network with its own numbering, and each splitter prefers the edges of the chains at the halves that it prefers
+-- the clean layout has the network with its own numbering, and each splitter prefers the edges of the chains at the
+-- halves that it prefers
 pub record IsPreferring (parts : List Part) (priorities : List Priority) (net : Network) (naming : Naming) : Type 0 where
   pub numbered : IsNumbered parts net naming
   pub gives : ArePreferred (IsGivenFirst parts priorities) naming.splitters numbered.chains net.gives
   pub takes : ArePreferred (IsTakenFirst parts priorities) naming.splitters numbered.chains net.takes
 
--- the right answer to a layout with priorities in which no two parts share a cell: its network with its own numbering and the edges
+-- the right answer to a layout with priorities in which no two parts share a cell: its network with its own numbering
+-- and the edges
 -- that its splitters prefer, and which parts bear the numbers; or the first fault of the layout
 abbrev pub IsRecoveredWith : List Part → List Priority → Result (Network × Naming) RecoverFault → Type 0
 IsRecoveredWith parts priorities (Ok found) = IsPreferring parts priorities found.0 found.1 × IsNetwork found.0

@@ -29,7 +29,8 @@ IsFarther West cell other = cell.x <ℤ other.x
 abbrev pub ReachesFarther : Part → Dir → Cell → Type 0
 ReachesFarther part dir cell = (c : Cell) × Covers part c × IsFarther dir c cell
 
--- the cell is at the side that lies in this direction of the least rectangle that holds the parts: none of their cells lies farther
+-- the cell is at the side that lies in this direction of the least rectangle that holds the parts: none of their cells
+-- lies farther
 abbrev pub IsAtSideOf : List Part → Dir → Cell → Type 0
 IsAtSideOf parts dir cell = All (λ part. ReachesFarther part dir cell → ⊥) parts
 
@@ -41,7 +42,8 @@ LooksAcross parts end part dir = (part.dir ≡ way_across end dir) × IsAtSideOf
 abbrev pub stay : End → Dir → Demand
 stay end dir = demand.Side (record { ends = One end; dir = dir; line = NO_LINE })
 
--- what there is of one end: that it is to stand at the side across which its part looks, and nothing where it looks across none
+-- what there is of one end: that it is to stand at the side across which its part looks, and nothing where it looks
+-- across none
 abbrev pub IsStayOf : List Part → End → Part → List Demand → Type 0
 IsStayOf parts end part stays = ((dir : Dir) × LooksAcross parts end part dir × (stays ≡ stay end dir ∷ []))
     ⊎ (((dir : Dir) → LooksAcross parts end part dir → ⊥) × (stays ≡ []))
@@ -57,7 +59,8 @@ abbrev pub AreStays : List Part → Naming → List Demand → Type 0
 AreStays parts naming stays = (ins outs : List Demand) × AreStaysOf parts Input 0 naming.inputs ins × AreStaysOf parts Output 0 naming.outputs outs
     × (stays ≡ ins ++ outs)
 
--- the right answer to a layout in which no two parts share a cell: that its ends are to stand at the sides across which they look, by the numbers of its own numbering; or the first fault of the layout
+-- the right answer to a layout in which no two parts share a cell: that its ends are to stand at the sides across which
+-- they look, by the numbers of its own numbering; or the first fault of the layout
 abbrev pub AreEndSides : List Part → Result (List Demand) RecoverFault → Type 0
 AreEndSides parts (Ok stays) = (found : Network × Naming) × IsRecovered parts (Ok found) × AreStays parts found.1 stays
 AreEndSides parts (Err fault) = IsRecovered parts (Err fault)

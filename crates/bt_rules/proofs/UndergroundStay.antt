@@ -56,7 +56,8 @@ module _ (r : LayoutRequest) (parts : List Part) (lays : Lays parts r) where
   pub tier : (i : ℕ) (part : Part) → HasPart parts i part → part.tier ≡ r.tier
   tier i part is = subst (λ p. p.tier ≡ r.tier) (get_or_from_slice_get parts i part part is) (lays.fits.one_tier i part (slice_get_within parts i part is))
 
-  -- no piece of the axis stands where a tunnel passes, but that of the entrance where it begins and that of the exit behind
+  -- no piece of the axis stands where a tunnel passes, but that of the entrance where it begins and that of the exit
+  -- behind
   clear_of : (c : Cell) (dir : Dir) (run : Runs parts c dir) (of : Shape) (d : Dir) → (of ≡ shape.Entrance) ⊎ (of ≡ shape.Exit) → (d ≡ dir) ⊎ (d ≡ opposite dir)
       → 0 < run.so_far → Stands parts c of d → ⊥
   clear_of c dir run of d piece axis some s =

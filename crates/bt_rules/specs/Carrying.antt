@@ -1,4 +1,5 @@
--- Rules of classes: each goes along with what is handed, to a splitter that edges of it go into, or out of the rectangle.
+-- Rules of classes: each goes along with what is handed, to a splitter that edges of it go into, or out of the
+-- rectangle.
 use Rattle.std.specs.List.{flat_map, filter}
 use Rattle.std.specs.Prelude.{ℕ, not, List, [], ◌∷◌, ◌++◌, map, if◌then◌else◌}
 use Rattle.bt_parts.specs.declared.part.Cell.{Cell}
@@ -14,7 +15,8 @@ use Rattle.bt_rules.specs.Going.{runners}
 use Rattle.bt_facts.specs.Rules.{Rule, rule, not_all}
 use Rattle.bt_facts.specs.Spots.{dirs, is_inside}
 
--- what is handed on to a part that is no half has one class before and after; what is handed to a half comes to a splitter
+-- what is handed on to a part that is no half has one class before and after; what is handed to a half comes to a
+-- splitter
 -- into which edges of its class go
 abbrev pub carried_rules : LayoutRequest → Cell → Dir → Class → List Rule
 carried_rules r c dir k = rule (Goes c dir ∷ Carries c k ∷ []) (HalfOn (step dir c) ∷ Carries (step dir c) k ∷ [])

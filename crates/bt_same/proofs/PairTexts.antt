@@ -1,4 +1,5 @@
--- The text of a pair: that every line of it is right, that it has one pair, and that what is written of a pair is its text.
+-- The text of a pair: that every line of it is right, that it has one pair, and that what is written of a pair is its
+-- text.
 use Rattle.std.proofs.Common.{◌≡◌, ℕ, List, [], ◌∷◌, ◌++◌, length, map, refl, sym, ◌∙◌, ap, subst, inl, inr, append_assoc, append-nil, codes, Ok, Err}
 use Rattle.std.specs.List.{All, flat_map, slice_index_or}
 use Rattle.std.proofs.lemmas.List.Elements.{All-tail, All-nil}

@@ -1,4 +1,5 @@
--- Each pair of states that shows a difference gives an assignment with values that meets the formula of the two networks.
+-- Each pair of states that shows a difference gives an assignment with values that meets the formula of the two
+-- networks.
 use Rattle.std.proofs.Common.{◌≡◌, ℕ, ◌<◌, ◌≤◌, ◌+◌, ◌-◌, ◌⊎◌, inl, inr, Bool, true, ℤ, pos, List, [], ◌∷◌, ◌++◌, length, map, get_or, cond, ltb, ap, sym, ◌∙◌, refl, subst, arith, append_assoc}
 use Rattle.std.specs.List.{AllByRecursion, flat_map, range_with_len}
 use Rattle.std.proofs.lemmas.Bool.{lt-ltb, le-ltb, cases_lt}
@@ -53,7 +54,7 @@ flow_value s c l =
 
 steady_met : (n : Network) → IsNetwork n → (s : Flows) → IsSteadyState n s → IsMetWith (variable_of n) (length n.edges) (steady_clauses n) (backed_at s) (values_of s)
 steady_met n is s steady =
-    true_claims_meet (variable_of n) (length n.edges) (steady_clauses n) (backed_at s) (values_of s) (families_named n is) (families_true n is s steady.state steady.steady steady.admissible)
+    true_claims_meet (variable_of n) (length n.edges) (steady_clauses n) (backed_at s) (values_of s) (families_named n is) (families_true n is s steady.state (pos 0) steady.steady steady.admissible)
 
 module _ (a b : Network) (s t : Flows) (first : IsNetwork a) (second : IsNetwork b) (ends : HaveEqualEnds a b) (shows : ShowsDifference a b s t) where
   abbrev m : ℕ
@@ -77,7 +78,8 @@ module _ (a b : Network) (s t : Flows) (first : IsNetwork a) (second : IsNetwork
   other : IsMetWith (variable_of b) n (steady_clauses b) (backed_at t) (values_of t)
   other = steady_met b second t shows.second
 
-  -- the values of both: the flows of the first, those of the second, and the loads and rooms of the first, which are those of the second
+  -- the values of both: the flows of the first, those of the second, and the loads and rooms of the first, which are
+  -- those of the second
   abbrev v : ℕ → Ratio
   v c = cond (ltb c m) (values_of s c) (cond (ltb c (m + n)) (values_of t (c - m)) (values_of s (c - n)))
 

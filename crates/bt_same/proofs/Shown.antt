@@ -1,4 +1,5 @@
--- What is written of a pair that shows a difference is read as that pair, and it is judged so, unless a sum leaves 128 bits.
+-- What is written of a pair that shows a difference is read as that pair, and it is judged so, unless a sum leaves 128
+-- bits.
 use Rattle.std.proofs.Common.{ℕ, Ok, Err, inl, inr, refl}
 use Rattle.bt_net.specs.Network.{Network}
 use Rattle.bt_flow.specs.declared.judgement.Test.{Test}

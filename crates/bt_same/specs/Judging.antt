@@ -34,7 +34,8 @@ IsFirstWideSum a b x y First sum = IsStateAnswer a x (Err sum)
 IsFirstWideSum a b x y Second sum = Passes a x × IsStateAnswer b y (Err sum)
 IsFirstWideSum a b x y Kept sum = ⊥
 
--- the right answer of `differs`: all tests pass, and the pair shows a difference; or the first test that fails; or the first wide sum
+-- the right answer of `differs`: all tests pass, and the pair shows a difference; or the first test that fails; or the
+-- first wide sum
 abbrev pub IsPairAnswer : Network → Network → Fractions → Fractions → Result PairJudgement PairWide → Type 0
 IsPairAnswer a b x y (Ok Holds) = Passes a x × Passes b y × IsTrueOfBoth a b x y (ShowsDifference a b)
 IsPairAnswer a b x y (Ok (Fails place test at)) = IsFirstFailed a b x y place test at

@@ -1,4 +1,5 @@
--- That the formula of two networks is met by just the pairs that show a difference, and what follows from a log that refutes it.
+-- That the formula of two networks is met by just the pairs that show a difference, and what follows from a log that
+-- refutes it.
 use Rattle.std.specs.Prelude.{◌≡◌, ◌↔◌, ℕ, ◌+◌, ◌<◌, Bool, List, length}
 use Rattle.bt_frac.specs.Ratio.{Ratio}
 use Rattle.bt_frac.specs.Values.{AreValues}
@@ -14,7 +15,8 @@ use Rattle.bt_fenc.specs.Solutions.{HasValues}
 use Rattle.bt_same.specs.Sameness.{HaveEqualEnds, AreSame, ShowsDifference}
 use Rattle.bt_same.specs.SameFormula.{shifted, first_shift, second_columns, second_vars, same_formula}
 
--- an assignment with values that meets the formula of two networks: its marks are those of two states, and its values are
+-- an assignment with values that meets the formula of two networks: its marks are those of two states, and its values
+-- are
 -- their flows, loads and rooms
 pub record IsMetByBoth (a b : Network) (s t : Flows) : Type 0 where
   pub assignment : ℕ → Bool
@@ -30,7 +32,8 @@ pub record IsMetByBoth (a b : Network) (s t : Flows) : Type 0 where
 abbrev pub ShowingMeets : Type 0
 ShowingMeets = (a b : Network) (s t : Flows) → IsNetwork a → IsNetwork b → HaveEqualEnds a b → ShowsDifference a b s t → IsMetByBoth a b s t
 
--- where an assignment with values, which may be any fractions, meets the formula of two networks, each two states over one
+-- where an assignment with values, which may be any fractions, meets the formula of two networks, each two states over
+-- one
 -- denominator with these marks and values show a difference
 abbrev pub MeetingShows : Type 0
 MeetingShows = (a b : Network) (assignment : ℕ → Bool) (values : ℕ → Ratio) (s t : Flows) → IsNetwork a → IsNetwork b → HaveEqualEnds a b

@@ -46,8 +46,10 @@ difference a b = flat_map (λ o. differ (output_edge a o) (output_edge b o + len
 abbrev pub difference_formula : Network → Network → ℕ → FormulaParts
 difference_formula a b vars = formula_of (λ pair. 0) vars (difference a b ∷ [])
 
--- the formula of two networks. Its columns are the flows of the first, those of the second, the loads and the rooms; its
--- variables the marks of the first, those of the second, and the atoms in the order of mention. Its clauses are those of
+-- the formula of two networks. Its columns are the flows of the first, those of the second, the loads and the rooms;
+-- its
+-- variables the marks of the first, those of the second, and the atoms in the order of mention. Its clauses are those
+-- of
 -- the steady states of the first, those of the second, and that they differ.
 abbrev pub same_formula : Network → Network → FormulaParts
 same_formula a b =

@@ -26,7 +26,9 @@ abbrev pub GiveEqually : Network → Network → Flows → Flows → Type 0
 GiveEqually a b s t = (o x y : ℕ) (e f : Edge) → HasEdge a x e → HasEdge b y f → IsTrue (is_output o e) → IsTrue (is_output o f)
     → AreEqual s t (flow_at s x) (flow_at t y)
 
--- two networks behave the same: whatever steady states of equal loads and rooms they are in, the flow of each output is equal
+-- two networks behave the same: whatever steady states of equal loads and rooms they are in, the flow of each output is
+-- equal.
+-- Caps, loads, rooms and flows of both are in one unit, which is for the caller to see to: `same` counts in basic belts
 abbrev pub AreSame : Network → Network → Type 0
 AreSame a b = (s t : Flows) → IsSteadyState a s → IsSteadyState b t → AreFedEqually s t → GiveEqually a b s t
 

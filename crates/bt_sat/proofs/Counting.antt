@@ -60,7 +60,8 @@ module _ {A B : Type 0} where
 abbrev lit_of : ℕ → Bool → Lit
 lit_of var positive = record { var = var; positive = positive }
 
--- the digit of a variable: 1 where it stands there positive, 2 where it does negative, and 0 where it doesn't stand there
+-- the digit of a variable: 1 where it stands there positive, 2 where it does negative, and 0 where it doesn't stand
+-- there
 digit : List Lit → ℕ → ℕ
 digit lits var = digit_by (contains_or lits (lit_of var true)) (contains_or lits (lit_of var false))
 

@@ -8,6 +8,7 @@ ghost use Rattle.bt_watch.specs.Levels.{AreLevels, IsInConflict, IsOrdered};
 
 use crate::agenda::Agenda;
 use crate::logged_formula::{KnownLits, LoggedFormula};
+use crate::minimizing::{Minimizer, Scene};
 use bt_watch::{Search, level_of, start};
 use std::alloc::AllocError;
 
@@ -19,6 +20,10 @@ pub struct Analysis {
     pub picked: Vec<usize>,
     /// The numbers of the clauses from which it follows.
     pub hints: Vec<usize>,
+    /// The variables that the conflict met, down to the literals of the clause before any of them was left out.
+    pub met: Vec<usize>,
+    /// Which literals the clause can do without.
+    pub minimizer: Minimizer,
 }
 
 /// The level of a conflict: where it begins on the trail, from where on a learnt clause is to have one literal alone (the
@@ -57,56 +62,87 @@ fn is_traced(agenda: &Agenda, conflict_level: ConflictLevel, place: usize) -> bo
         || (conflict_level.current <= place && agenda.reaches(conflict_level.current))
 }
 
-/// Whether each literal of a clause but the one at this place waits already, or is traced back anyway, so
-/// that by this clause the one at this place can be left out of the clause that is learnt.
-fn adds_none(
+/// Whether the literal at a place, which is before the conflict's level, can be left out of the clause that is learnt.
+fn is_left_out(
+    known: &LoggedFormula,
+    search: &Search,
     agenda: &Agenda,
-    places: &[usize],
-    clause: KnownLits<'_>,
+    minimizer: &mut Minimizer,
     conflict_level: ConflictLevel,
+    picked: usize,
     place: usize,
-) -> bool
-    requires { All (λ l. l.var < length places.now) (lits_in clause) }
+) -> Result<bool, AllocError>
+    ensures { IfOk result (λ is_left_out. IsTrue is_left_out → place < conflict_level.current) }
 {
-    for n in 0..clause.len() {
-        let other = places[clause.variable(n)];
-        if other != place && conflict_level.root <= other && !agenda.has(other) {
-            return false;
-        }
+    if place >= conflict_level.current {
+        return Ok(false);
     }
-    true
+    let root = conflict_level.root;
+    minimizer.is_implied(
+        Scene {
+            known,
+            search,
+            root,
+        },
+        agenda,
+        picked,
+        place,
+    )
 }
 
-/// The reason of the literal at a place, where it is traced back: because it has to be, or because the
-/// clause that is learnt gets shorter. The second literal of that clause is kept, since it tells how far the
-/// search jumps back.
+/// The reason of the literal at a place, where it is traced back: because it has to be, or because the clause that is
+/// learnt gets shorter.
 fn reason_for(
     known: &LoggedFormula,
     search: &Search,
-    analysis: &Analysis,
+    agenda: &Agenda,
+    minimizer: &mut Minimizer,
     conflict_level: ConflictLevel,
+    picked: usize,
     place: usize,
-) -> Option<usize>
+) -> Result<Option<usize>, AllocError>
     requires ordered { IsOrdered (clauses_in known.now) search.now }
     requires inside { place < length search.now.assignment.trail.items }
-    ensures { IsReasonFor search.now conflict_level analysis.now.agenda place result }
+    ensures { IfOk result (IsReasonFor search.now conflict_level agenda.now place) }
 {
-    let agenda = &analysis.agenda;
     let Some(number) = search.assignment.reasons[place] else {
-        return None;
+        return Ok(None);
     };
     if is_traced(agenda, conflict_level, place) {
-        return Some(number);
+        return Ok(Some(number));
     }
-    if place >= conflict_level.current || analysis.picked.len() < 2 {
-        return None;
-    }
-    let places = &search.assignment.places;
-    if adds_none(agenda, places, known.clause(number), conflict_level, place) {
-        Some(number)
+    let is_left_out = is_left_out(
+        known,
+        search,
+        agenda,
+        minimizer,
+        conflict_level,
+        picked,
+        place,
+    )?;
+    if is_left_out {
+        Ok(Some(number))
     } else {
-        None
+        Ok(None)
     }
+}
+
+/// Lists the variable of the literal at a place as one that the conflict met, but for those before the first choice, and
+/// for those that came up as reasons of what was left out.
+fn meet(
+    met: &mut Vec<usize>,
+    search: &Search,
+    minimizer: &Minimizer,
+    conflict_level: ConflictLevel,
+    place: usize,
+) -> Result<(), AllocError> {
+    if place < conflict_level.root || minimizer.is_marked_implied(place) {
+        return Ok(());
+    }
+    if let Some(lit) = search.assignment.trail.get(place) {
+        met.push(lit.var.place())?;
+    }
+    Ok(())
 }
 
 /// Traces the literal at a place back, or picks it.
@@ -123,7 +159,23 @@ fn deal(
     ensures { OnOk result (IsTracing (clauses_in known.now) search.now conflict_level
         analysis.new.agenda analysis.new.picked.items place analysis.new.hints.items) }
 {
-    match reason_for(known, search, analysis, conflict_level, place) {
+    meet(
+        &mut analysis.met,
+        search,
+        &analysis.minimizer,
+        conflict_level,
+        place,
+    )?;
+    let reason = reason_for(
+        known,
+        search,
+        &analysis.agenda,
+        &mut analysis.minimizer,
+        conflict_level,
+        analysis.picked.len(),
+        place,
+    )?;
+    match reason {
         Some(number) => {
             analysis.hints.push(number)?;
             mark_seen(
@@ -208,6 +260,8 @@ fn begin(
     analysis.agenda.clear();
     analysis.picked.clear();
     analysis.hints.clear();
+    analysis.met.clear();
+    analysis.minimizer.clear();
     analysis.hints.push(conflict)?;
     let size = search.assignment.trail.len();
     let clause = known.clause(conflict);

@@ -4,6 +4,7 @@ ghost use Rattle.bt_sat.specs.inner.Searching.{SearchesTo, LearnsAndTells, Resta
 ghost use Rattle.bt_sat.specs.inner.Progressing.{IsRunning, KeepsFormula};
 
 use crate::deciding::decide_until_conflict;
+use crate::learning::tell_released;
 use crate::progress::{Learning, Progress, learn};
 use crate::serving::{begins_epoch, tell};
 use bt_cnf::Chooser;
@@ -27,6 +28,7 @@ pub fn restart(progress: &mut Progress)
     ensures { Restarts progress.old progress.new }
 {
     if progress.search.starts.len() > 0 {
+        tell_released(&mut progress.plan, &progress.search, 0);
         backjump(&mut progress.search, 0);
         progress.settled = progress.search.assignment.trail.len();
         progress.conflict = None;

@@ -9,8 +9,9 @@ ghost use Rattle.bt_watch.specs.Levels.{IsInConflict, IsReady};
 
 use crate::analysis::{Analysis, analyse};
 use crate::logged_formula::LoggedFormula;
+use bt_choosers::Plan;
 use bt_cnf::Lit;
-use bt_watch::{Search, assign, backjump, keep, level_of, negation};
+use bt_watch::{Search, assign, backjump, keep, level_of, negation, start};
 use std::alloc::AllocError;
 
 /// A clause that is learnt, and how.
@@ -45,11 +46,37 @@ pub fn assertion_level(starts: &[usize], picked: &[usize]) -> usize
     }
 }
 
+/// At how many levels the literals at these places became true, the greatest of which come first.
+fn count_levels(starts: &[usize], picked: &[usize]) -> u32 {
+    let mut count = 0u32;
+    let mut last = None;
+    for place in picked {
+        let level = Some(starts.partition_point(|start| *start <= *place));
+        if level != last {
+            count = count.saturating_add(1);
+            last = level;
+        }
+    }
+    count
+}
+
+/// Tells a plan what is going to be unset by a backjump.
+pub fn tell_released(plan: &mut Plan, search: &Search, level: usize) {
+    plan.release(&search.assignment.trail, start(search, level));
+}
+
+/// Tells a plan what was learnt.
+fn tell_learnt(plan: &mut Plan, search: &Search, analysis: &Analysis) {
+    let levels = count_levels(&search.starts, &analysis.picked);
+    plan.learn(&analysis.met, levels);
+}
+
 /// Finds the clause that is learnt from a conflict, and backjumps to where it asserts its first literal.
 pub fn prepare(
     learnt_clause: &mut LearntClause,
     known: &LoggedFormula,
     search: &mut Search,
+    plan: &mut Plan,
     conflict: usize,
 ) -> Result<(), AllocError>
     requires { IsInConflict (clauses_in known.now) conflict search.old }
@@ -60,6 +87,8 @@ pub fn prepare(
     let picked = &learnt_clause.analysis.picked;
     name_lits(&mut learnt_clause.lits, picked, &search.assignment.trail)?;
     let level = assertion_level(&search.starts, picked);
+    tell_learnt(plan, search, &learnt_clause.analysis);
+    tell_released(plan, search, level);
     backjump(search, level);
     Ok(())
 }

@@ -9,9 +9,10 @@ ghost use Rattle.bt_sat.specs.inner.Progressing.{IsNextStep, KeepsFormula};
 ghost use Rattle.bt_cnf.specs.Truths.{IsFalseIn};
 
 use crate::analysis::{Analysis, mark_seen};
-use crate::learning::{LearntClause, adopt, assertion_level, name_lits};
+use crate::learning::{LearntClause, adopt, assertion_level, name_lits, tell_released};
 use crate::logged_formula::{KnownLits, LoggedFormula};
 use crate::progress::Progress;
+use bt_choosers::Plan;
 use bt_cnf::{Lit, is_lit_false};
 use bt_frac::Frac;
 use bt_watch::{Search, backjump, keep};
@@ -45,6 +46,7 @@ fn pick(analysis: &mut Analysis, search: &Search, lits: &[Lit]) -> Result<(), Al
 fn backjump_for(
     learnt_clause: &mut LearntClause,
     search: &mut Search,
+    plan: &mut Plan,
     lits: &[Lit],
 ) -> Result<(), AllocError>
     requires traceable { IsTraceable search.old }
@@ -55,6 +57,7 @@ fn backjump_for(
     let picked = &learnt_clause.analysis.picked;
     name_lits(&mut learnt_clause.lits, picked, &search.assignment.trail)?;
     let level = assertion_level(&search.starts, picked);
+    tell_released(plan, search, level);
     backjump(search, level);
     Ok(())
 }
@@ -89,7 +92,12 @@ pub fn take_lemma(progress: &mut Progress, lits: &[Lit], weights: &[Frac]) -> Re
     ensures kept { KeepsFormula progress.old progress.new }
     ensures takes { OnOk result (TakesLemma progress.old lits.now weights.now progress.new) }
 {
-    backjump_for(&mut progress.learnt_clause, &mut progress.search, lits)?;
+    backjump_for(
+        &mut progress.learnt_clause,
+        &mut progress.search,
+        &mut progress.plan,
+        lits,
+    )?;
     progress.settled = progress.search.assignment.trail.len();
     progress.conflict = admit(
         &mut progress.search,

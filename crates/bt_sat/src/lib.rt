@@ -13,6 +13,7 @@ mod learning;
 mod lemmas;
 mod loading;
 mod logged_formula;
+mod minimizing;
 mod progress;
 mod serving;
 mod solver;

@@ -8,6 +8,7 @@ use crate::agenda::Agenda;
 use crate::analysis::Analysis;
 use crate::learning::LearntClause;
 use crate::logged_formula::LoggedFormula;
+use crate::minimizing::{Minimizer, Reach};
 use crate::progress::Progress;
 use bt_choosers::{Order, Plan};
 use bt_cnf::Formula;
@@ -15,13 +16,27 @@ use bt_log::Log;
 use bt_watch::{Search, load_search};
 use std::alloc::{AllocError, Global};
 
+/// Where conflicts decide, so many reasons after another are followed back at most.
+const MOST_REASONS: usize = 500;
+
+/// How far literals are followed back in a search by a plan.
+fn reach_of(plan: &Plan) -> Reach {
+    if plan.is_by_conflicts() {
+        Reach::Far(MOST_REASONS)
+    } else {
+        Reach::Near
+    }
+}
+
 /// A learnt_clause over so many variables that is still to be learnt.
-fn no_lesson(alloc: Global, vars: usize) -> Result<LearntClause, AllocError> {
+fn no_lesson(alloc: Global, reach: Reach, vars: usize) -> Result<LearntClause, AllocError> {
     Ok(LearntClause {
         analysis: Analysis {
             agenda: Agenda::new(alloc, vars)?,
             picked: Vec::new(alloc),
             hints: Vec::new(alloc),
+            met: Vec::new(alloc),
+            minimizer: Minimizer::new(alloc, reach, vars)?,
         },
         lits: Vec::new(alloc),
     })
@@ -42,11 +57,12 @@ fn logged(alloc: Global, formula: Formula) -> Result<LoggedFormula, AllocError>
 fn loaded_work(
     alloc: Global,
     formula: &Formula,
+    reach: Reach,
 ) -> Result<(Search, LearntClause, Option<usize>), AllocError>
     ensures stands { IfOk result (λ work. Stands formula.now.clauses 0 work.0 work.2) }
     ensures same { IfOk result (λ work. length work.0.assignment.values ≡ formula.now.vars) }
 {
-    let learnt_clause = no_lesson(alloc, formula.vars())?;
+    let learnt_clause = no_lesson(alloc, reach, formula.vars())?;
     let (search, conflict) = load_search(alloc, formula)?;
     Ok((search, learnt_clause, conflict))
 }
@@ -62,7 +78,7 @@ fn started(
     requires logged { IsLogged known limit }
     ensures { IfOk result (IsLoaded known.formula limit) }
 {
-    let (search, learnt_clause, conflict) = loaded_work(alloc, &known.formula)?;
+    let (search, learnt_clause, conflict) = loaded_work(alloc, &known.formula, reach_of(&plan))?;
     Ok(Progress {
         known,
         search,

@@ -66,6 +66,14 @@ impl LoggedFormula {
         }
     }
 
+    /// The clause with a number, where there is one.
+    pub fn find(&self, number: usize) -> Option<KnownLits<'_>> {
+        match self.next() {
+            Ok(end) if number < end => Some(self.clause(number)),
+            _ => None,
+        }
+    }
+
     /// The clause with a number.
     pub fn clause(&self, number: usize) -> KnownLits<'_>
         requires { number < length (clauses_in self.now) }

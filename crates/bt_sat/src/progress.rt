@@ -62,6 +62,7 @@ pub fn learn(progress: &mut Progress, conflict: usize) -> Result<Learning, Alloc
         &mut progress.learnt_clause,
         &progress.known,
         &mut progress.search,
+        &mut progress.plan,
         conflict,
     )?;
     if progress.known.log.len() as u64 == progress.limit {

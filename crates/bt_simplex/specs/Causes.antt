@@ -1,4 +1,5 @@
--- Why a number that a check asks for leaves 128 bits: an operation, its two numbers, and what they are of the solved form.
+-- Why a number that a check asks for leaves 128 bits: an operation, its two numbers, and what they are of the solved
+-- form.
 use Rattle.std.specs.Prelude.{◌≡◌, ◌⊎◌, ℕ, ◌<◌, ◌==◌, ◌&&◌, pos, ◌<ℤ◌, List, ◌∷◌, ◌++◌, length, Option, Some, None, if◌then◌else◌}
 use Rattle.bt_frac.specs.Ratio.{Ratio, SameRatio, IsLowest, IsLess, IsAtMost, negated}
 use Rattle.bt_frac.specs.Products.{IsProduct, IsDivision}
@@ -39,7 +40,8 @@ number_in column (Some terms) = number_or_zero (coefficient_at column terms)
 abbrev pub entry_at : Slots → ℕ → ℕ → Ratio
 entry_at slots row column = number_in column (slot_at slots row)
 
--- the same, where the leaving position counts as one outside the basis, with the number -1 in its own line and 0 in every other
+-- the same, where the leaving position counts as one outside the basis, with the number -1 in its own line and 0 in
+-- every other
 abbrev pub turn_entry : Slots → ℕ → ℕ → ℕ → Ratio
 turn_entry slots leaves row column = if (row == leaves) && (column == leaves) then negated one else entry_at slots row column
 
@@ -58,7 +60,8 @@ IsEntryStep slots turn row column Add left right =
     × ((share : Ratio) × IsShare slots turn column share
     × ((product : Ratio) × IsLowest product × IsProduct (entry_at slots row turn.enters) share product × (right ≡ negated product)))
 
--- the numbers of an operation for the sum of a line, where this stands at the positions: a product, or the sum of the earlier ones and a product
+-- the numbers of an operation for the sum of a line, where this stands at the positions: a product, or the sum of the
+-- earlier ones and a product
 abbrev pub IsSumStep : (ℕ → Ratio) → Terms → ℕ → Operation → Ratio → Ratio → Type 0
 IsSumStep at terms column Mul left right = (coefficient_at column terms ≡ Some left) × (right ≡ at column)
 IsSumStep at terms column Add left right =
@@ -72,7 +75,8 @@ IsValueStep t row column operation left right =
     (terms : Terms) × (slot_at t.slots row ≡ Some terms)
     × (IsSumStep (λ q. (resting t q).value) terms column operation left right ⊎ IsSumStep (λ q. (resting t q).tiny) terms column operation left right)
 
--- a bound row stands above its bound, and lower by a multiple of the infinitesimal: its point would reach the bound where the infinitesimal grew
+-- a bound row stands above its bound, and lower by a multiple of the infinitesimal: its point would reach the bound
+-- where the infinitesimal grew
 pub record IsFalling (t : TableauParts) (position : ℕ) : Type 0 where
   pub row : RowParts
   pub is_bound : bound_row t position ≡ Some row

@@ -36,7 +36,8 @@ pub record MeetsBoundRows (t : TableauParts) (values : List Ratio) : Type 0 wher
   pub columns : length values ≡ t.columns
   pub holds : (row : ℕ) → IsBound t row → RowHolds (slice_index_or t.rows row empty_row) (value_in values)
 
--- the rows ascend and are bound, and with their weights they add up to a row that no values meet, where each product and each sum fits
+-- the rows ascend and are bound, and with their weights they add up to a row that no values meet, where each product
+-- and each sum fits
 pub record RefutesBoundRows (t : TableauParts) (weights : List (ℕ × Ratio)) : Type 0 where
   pub ascend : AreColumnsFrom 0 (columns_of weights)
   pub bound : All (λ w. IsBound t w.0) weights
@@ -47,7 +48,8 @@ pub record StartsAt (t : TableauParts) (trail : Trail) : Type 0 where
   pub start : trail.start.items ≡ basis_of t.slots
   pub bound : trail.bound.items ≡ bound_from 0 t.bound
 
--- the trail has so many turns of Bland's rule, which are fewer than there are bases, and the basis that they lead to isn't final
+-- the trail has so many turns of Bland's rule, which are fewer than there are bases, and the basis that they lead to
+-- isn't final
 pub record IsPivots (pivots : ℕ) (t : TableauParts) (trail : Trail) : Type 0 where
   pub starts : StartsAt t trail
   pub few : pivots < most_bases t.columns t.rows
@@ -58,7 +60,8 @@ abbrev pub cause_of : Wide → Cause
 cause_of wide =
     record { place = wide.place; row = wide.row; column = wide.column; operation = wide.operation; left = wide.left; right = wide.right }
 
--- the trail has at most so many turns of Bland's rule, which lead to the named basis, whose solved form has the two numbers
+-- the trail has at most so many turns of Bland's rule, which lead to the named basis, whose solved form has the two
+-- numbers
 pub record IsWideCheck (pivots : ℕ) (t : TableauParts) (wide : Wide) : Type 0 where
   pub starts : StartsAt t wide.trail
   pub few : length wide.trail.turns.items ≤ pivots
@@ -67,7 +70,8 @@ pub record IsWideCheck (pivots : ℕ) (t : TableauParts) (wide : Wide) : Type 0 
   pub basis : wide.basis.items ≡ basis_of last.slots
   pub cause : IsCause last (cause_of wide)
 
--- what a check answers of a tableau before it and after it: after values and after weights the basis is the final one to which Bland's turns lead, at most so many, and otherwise the tableau is as before
+-- what a check answers of a tableau before it and after it: after values and after weights the basis is the final one
+-- to which Bland's turns lead, at most so many, and otherwise the tableau is as before
 abbrev pub IsCheck : ℕ → TableauParts → TableauParts → Check → Type 0
 IsCheck pivots t t' (Sat values) = LeadsTo pivots t t' × IsMet t' × MeetsBoundRows t values.items
 IsCheck pivots t t' (Unsat weights) = LeadsTo pivots t t' × ((position : ℕ) × IsStuckAt t' position) × RefutesBoundRows t weights.items

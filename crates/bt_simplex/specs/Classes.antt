@@ -1,4 +1,5 @@
--- Classes of positions whose terms are the same up to the sign: what is held once of a class gives the slots of all its members.
+-- Classes of positions whose terms are the same up to the sign: what is held once of a class gives the slots of all its
+-- members.
 use Rattle.std.specs.Prelude.{◌≡◌, ℕ, ◌<◌, ◌+◌, ◌==◌, Bool, true, false, List, [], ◌∷◌, length, Option, Some, None, slice_index_or, if◌then◌else◌}
 use Rattle.bt_frac.specs.Ratio.{negated}
 use Rattle.bt_line.specs.Lines.{one, Terms, signed_terms}
@@ -47,7 +48,8 @@ slots_from slot position (member ∷ members) = slot position ∷ slots_from slo
 abbrev pub slots_of : List Member → Slots → List ℕ → Slots
 slots_of members lines outside = slots_from (slot_of members lines outside) 0 members
 
--- each position is in a class; a class has a first member, whose sign counts, and a member that is outside where the class has no line
+-- each position is in a class; a class has a first member, whose sign counts, and a member that is outside where the
+-- class has no line
 pub record AreClasses (members : List Member) (firsts : List ℕ) (lines : Slots) (outside : List ℕ) : Type 0 where
   pub lines_many : length lines ≡ length firsts
   pub outside_many : length outside ≡ length firsts

@@ -7,7 +7,8 @@ abbrev pub AscendsFrom : ℕ → ℕ → List ℕ → Type 0
 AscendsFrom least limit [] = Unit {0}
 AscendsFrom least limit (number ∷ numbers) = (least ≤ number) × (number < limit) × AscendsFrom (number + 1) limit numbers
 
--- as many as ascending lists of so many numbers below a limit: one of no numbers, none of more where nothing is below the limit, and else those that begin with the least number and those that lack it
+-- as many as ascending lists of so many numbers below a limit: one of no numbers, none of more where nothing is below
+-- the limit, and else those that begin with the least number and those that lack it
 abbrev pub ascending_lists : ℕ → ℕ → ℕ
 ascending_lists limit zero = 1
 ascending_lists zero (suc many) = 0
@@ -18,6 +19,7 @@ pub record IsAscendingOf (limit many : ℕ) (numbers : List ℕ) : Type 0 where
   pub ascends : AscendsFrom 0 limit numbers
   pub many_are : length numbers ≡ many
 
--- as many as the bases of rows over so many columns: a basis is an ascending list of as many positions as there are rows
+-- as many as the bases of rows over so many columns: a basis is an ascending list of as many positions as there are
+-- rows
 abbrev pub most_bases : ℕ → List RowParts → ℕ
 most_bases columns rows = ascending_lists (columns + length rows) (length rows)

@@ -14,7 +14,8 @@ OneSolvedForm =
     (rows : List RowParts) (columns : ℕ) (slots slots' : Slots) → All IsRow rows → IsSolvedForm rows columns slots → IsSolvedForm rows columns slots'
     → ((position : ℕ) → InBasis slots position ↔ InBasis slots' position) → slots ≡ slots'
 
--- one or more turns of Bland's rule never lead back to the basis that they begin at: as each stretch of a run is a run, its bases are pairwise different
+-- one or more turns of Bland's rule never lead back to the basis that they begin at: as each stretch of a run is a run,
+-- its bases are pairwise different
 abbrev pub NoBasisComesBack : Type 0
 NoBasisComesBack = (t t' : TableauParts) (turn : Turn) (turns : List Turn) → IsTableau t → Follows t (turn ∷ turns) t' → basis_of t'.slots ≢ basis_of t.slots
 

@@ -1,4 +1,5 @@
--- Positions, a basis, and its solved form: what stands at each position of the basis, by what stands at those outside it.
+-- Positions, a basis, and its solved form: what stands at each position of the basis, by what stands at those outside
+-- it.
 use Rattle.std.specs.Prelude.{◌≡◌, ℕ, ◌+◌, ◌-◌, ◌<◌, nat_lt, List, [], ◌∷◌, length, Option, Some, None, slice_index_or, if◌then◌else◌}
 use Rattle.std.specs.List.{All}
 use Rattle.bt_frac.specs.Ratio.{Ratio, SameRatio}
@@ -25,7 +26,8 @@ basis_of slots = basis_from 0 slots
 abbrev pub slot_at : Slots → ℕ → Option Terms
 slot_at slots position = slice_index_or slots position None
 
--- what stands at a position for values of the columns: below the number of columns that column's value, and from there on the sum of each row's terms
+-- what stands at a position for values of the columns: below the number of columns that column's value, and from there
+-- on the sum of each row's terms
 abbrev pub at_position : List RowParts → ℕ → (ℕ → Ratio) → ℕ → Ratio
 at_position rows columns values position =
     if nat_lt position columns then values position else total values (slice_index_or rows (position - columns) empty_row).terms
@@ -35,7 +37,8 @@ pub record IsOutside (slots : Slots) (position : ℕ) : Type 0 where
   pub within : position < length slots
   pub outside : slot_at slots position ≡ None
 
--- the lines of a basis give what stands there for all values of the columns, by positions outside the basis, at which any numbers can stand
+-- the lines of a basis give what stands there for all values of the columns, by positions outside the basis, at which
+-- any numbers can stand
 pub record IsSolvedForm (rows : List RowParts) (columns : ℕ) (slots : Slots) : Type 0 where
   pub positions : length slots ≡ columns + length rows
   pub basis : length (basis_of slots) ≡ length rows

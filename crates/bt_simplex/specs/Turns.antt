@@ -32,7 +32,8 @@ abbrev pub MovesTowards : RowParts → Delta → Ratio → Type 0
 MovesTowards row point number =
     (IsLessDelta point (bound_value row) × (pos 0 <ℤ number.over)) ⊎ (IsLessDelta (bound_value row) point × (number.over <ℤ pos 0))
 
--- the position may be moved: it is a column or a row that isn't bound, or a bound row that is no equation, and raising it moves the failing row towards its bound value
+-- the position may be moved: it is a column or a row that isn't bound, or a bound row that is no equation, and raising
+-- it moves the failing row towards its bound value
 abbrev pub MayMove : TableauParts → ℕ → ℕ → Ratio → Type 0
 MayMove t fails enters number =
     (bound_row t enters ≡ None)

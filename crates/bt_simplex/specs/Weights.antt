@@ -21,7 +21,8 @@ pub record StandsAbove (t : TableauParts) (position : ℕ) : Type 0 where
 abbrev pub IsSign : TableauParts → ℕ → Ratio → Type 0
 IsSign t fails sign = (StandsAbove t fails × (sign ≡ negated one)) ⊎ ((StandsAbove t fails → ⊥) × (sign ≡ one))
 
--- the row of a position with its weight: the failing one has the sign, and a bound one outside the basis has the sign times its number in the failing line, negated
+-- the row of a position with its weight: the failing one has the sign, and a bound one outside the basis has the sign
+-- times its number in the failing line, negated
 abbrev pub IsWeight : TableauParts → ℕ → Ratio → ℕ → Ratio → Type 0
 IsWeight t fails sign position weight =
     ((position ≡ fails) × (weight ≡ sign))

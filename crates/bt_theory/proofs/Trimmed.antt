@@ -169,5 +169,5 @@ told_refuted log (outcome.Refuted left) trimmed pivots b s e is =
     let short = is_short log left trimmed in (
       trimmed_refutation s.formula log left trimmed (ap (λ (l : LogParts). l.first) e) (subst (IsRefutation s.formula) (sym steps) is.0),
       omega (arith, short, ap length steps, is.1),
-      trimmed.tight,
+      record { first = trimmed.first ∙ ap (λ (l : LogParts). l.first) e; tight = trimmed.tight },
     )

@@ -1,13 +1,12 @@
 -- What `smallest` asks for: bytes have one request, or one refusal, and it may be asked of any grid.
-use Rattle.std.proofs.Common.{◌≡◌, ℕ, List, [], Ok, inl, inr, refl, ap, sym, subst, ◌∙◌}
+use Rattle.std.proofs.Common.{◌≡◌, ℕ, List, [], Option, Ok, inl, inr, refl, ap, sym, subst, ◌∙◌}
 use Rattle.bt_answers.specs.Answers.{HasOneAnswer}
 use Rattle.bt_parts.specs.declared.part.Rect.{Rect}
 use Rattle.bt_parts.specs.declared.part.Tier.{Tier}
-use Rattle.bt_net.specs.NetText.{alone}
 use Rattle.std.specs.List.{All as Each}
 use Rattle.std.proofs.lemmas.List.Elements.{All-nil}
 use Rattle.bt_net.specs.declared.network.Admitted.TheVariants.{Sides}
-use Rattle.bt_model.specs.Requests.{LayoutRequest, IsRequest, request_of}
+use Rattle.bt_model.specs.Requests.{LayoutRequest, IsRequest}
 use Rattle.bt_layout.specs.Smallest.{NamesNoCell, NamesNoCells}
 use Rattle.bt_words.specs.declared.command.AskedSides.{AskedSides}
 use Rattle.bt_words.specs.declared.command.AskedSides.TheVariants.{Any, Kept}
@@ -17,19 +16,19 @@ use Rattle.bt_designs.specs.Kept.{IsKeptRequest}
 use Rattle.bt_designs.proofs.OneRequest.{one_lone_request, one_kept_request, one_sided_request}
 use Rattle.bt_designs.specs.Designs.{IsJsonText}
 use Rattle.bt_designs.specs.Refusals.{net_told, request_told}
-use Rattle.bt_designs.specs.Requested.{PinnedNet, pinned_net, IsPinnedText, IsPinned, IsLoneRequest, IsSidedRequest}
+use Rattle.bt_designs.specs.Requested.{PinnedNet, asked_for, pinned_laid, pinned_net, IsPinnedText, IsPinned, IsLoneRequest, IsSidedRequest}
 use Rattle.bt_designs.specs.Steps.{stopped, went_on}
 use Rattle.bt_designs.proofs.InTurns.{same_value, not_both}
 use Rattle.bt_top.proofs.SidesRead.{sides_read}
 use Rattle.bt_top.proofs.OwnSides.{own_sides_name_no_cells}
 
 -- two right answers to the bytes of a request for a blueprint alone are equal
-one_drawn_request : (sides : AskedSides) (rect : Rect) (tier : Tier) (bytes : List ℕ) → HasOneAnswer (IsDrawnRequest sides rect tier bytes)
+one_drawn_request : (sides : AskedSides) (rect : Rect) (tier : Option Tier) (bytes : List ℕ) → HasOneAnswer (IsDrawnRequest sides rect tier bytes)
 one_drawn_request Any rect tier bytes = one_lone_request rect tier bytes
 one_drawn_request Kept rect tier bytes = one_kept_request rect tier bytes
 
 -- and of a request for a design alone
-pub one_design_request : (sides : AskedSides) (most : Rect) (tier : Tier) (bytes : List ℕ) → HasOneAnswer (IsDesignRequest sides most tier bytes)
+pub one_design_request : (sides : AskedSides) (most : Rect) (tier : Option Tier) (bytes : List ℕ) → HasOneAnswer (IsDesignRequest sides most tier bytes)
 one_design_request sides most tier bytes a b (inl h) (inl k) = one_drawn_request sides most tier bytes a b h.1 k.1
 one_design_request sides most tier bytes a b (inl h) (inr k) = absurd (k.0 h.0)
 one_design_request sides most tier bytes a b (inr h) (inl k) = absurd (h.0 k.0)
@@ -58,11 +57,10 @@ pub record IsForAll (most : Rect) (r : LayoutRequest) : Type 0 where
   pub rect : r.rect ≡ most
   pub cells : NamesNoCells r
 
-for_all : (most : Rect) (tier : Tier) (n : PinnedNet) → IsSided n → IsRequest (request_of (alone n.net) most tier n.demands n.blocks)
-    → IsForAll most (request_of (alone n.net) most tier n.demands n.blocks)
+for_all : (most : Rect) (tier : Option Tier) (n : PinnedNet) → IsSided n → IsRequest (asked_for most tier n) → IsForAll most (asked_for most tier n)
 for_all most tier n is asked = record { request = asked; rect = refl; cells = record { demands = is.cells; blocks = is.blocks } }
 
-pub sided_request : (most : Rect) (tier : Tier) (bytes : List ℕ) (r : LayoutRequest) → IsSidedRequest most tier bytes (Ok r) → IsForAll most r
+pub sided_request : (most : Rect) (tier : Option Tier) (bytes : List ℕ) (r : LayoutRequest) → IsSidedRequest most tier bytes (Ok r) → IsForAll most r
 sided_request most tier bytes r (stopped fault h e) = absurd (not_both r fault e)
 sided_request most tier bytes r (went_on n h (stopped fault k e)) = absurd (not_both r (request_told fault) e)
 sided_request most tier bytes r (went_on n h (went_on made k e)) =
@@ -72,7 +70,7 @@ sided_request most tier bytes r (went_on n h (went_on made k e)) =
 front_drawn : (bytes : List ℕ) (found : PinnedNet × ℕ) → IsJsonText bytes → IsPinned bytes (Ok found) → IsSided found.0
 front_drawn bytes found json (inl (is, stopped fault h e)) = absurd (not_both found fault e)
 front_drawn bytes found json (inl (is, went_on read h e)) =
-    subst IsSided (ap (λ (pair : PinnedNet × ℕ). pair.0) (sym (same_value found (pinned_net read.0 [] [], read.1) e)))
+    subst IsSided (ap (λ (pair : PinnedNet × ℕ). pair.0) (sym (same_value found (pinned_laid read.0, read.1) e)))
     (record { cells = All-nil NamesNoCell; blocks = refl })
 front_drawn bytes found json (inr h) = absurd (h.0 json)
 
@@ -81,22 +79,22 @@ alone_drawn bytes n json (stopped fault h e) = absurd (not_both n fault e)
 alone_drawn bytes n json (went_on found h (text, skips, inl ended)) = subst IsSided (sym (same_value n found.0 ended.1)) (front_drawn bytes found json h)
 alone_drawn bytes n json (went_on found h (text, skips, inr (more, r, at, e))) = absurd (not_both n _ e)
 
-drawn : (most : Rect) (tier : Tier) (bytes : List ℕ) (r : LayoutRequest) → IsJsonText bytes → IsLoneRequest most tier bytes (Ok r) → IsForAll most r
+drawn : (most : Rect) (tier : Option Tier) (bytes : List ℕ) (r : LayoutRequest) → IsJsonText bytes → IsLoneRequest most tier bytes (Ok r) → IsForAll most r
 drawn most tier bytes r json (stopped fault h e) = absurd (not_both r fault e)
 drawn most tier bytes r json (went_on n h (stopped fault k e)) = absurd (not_both r (request_told fault) e)
 drawn most tier bytes r json (went_on n h (went_on made k e)) =
     subst (IsForAll most) (sym (same_value r made e ∙ k.0)) (for_all most tier n (alone_drawn bytes n json h) (subst IsRequest k.0 k.1))
 
 -- so what a design is found to ask for may be asked of any grid
-kept : (most : Rect) (tier : Tier) (bytes : List ℕ) (r : LayoutRequest) → IsJsonText bytes → IsKeptRequest most tier bytes (Ok r) → IsForAll most r
+kept : (most : Rect) (tier : Option Tier) (bytes : List ℕ) (r : LayoutRequest) → IsJsonText bytes → IsKeptRequest most tier bytes (Ok r) → IsForAll most r
 kept most tier bytes r json (stopped fault h e) = absurd (not_both r fault e)
 kept most tier bytes r json (went_on n h (stays, own, stopped fault k e)) = absurd (not_both r (request_told fault) e)
 kept most tier bytes r json (went_on n h (stays, own, went_on made k e)) =
     let is = alone_drawn bytes n json h in
     subst (IsForAll most) (sym (same_value r made e ∙ k.0))
-    (for_all most tier (pinned_net n.net stays n.blocks) (record { cells = own_sides_name_no_cells bytes stays own; blocks = is.blocks }) (subst IsRequest k.0 k.1))
+    (for_all most tier (record n { demands = stays }) (record { cells = own_sides_name_no_cells bytes stays own; blocks = is.blocks }) (subst IsRequest k.0 k.1))
 
-pub design_request : (sides : AskedSides) (most : Rect) (tier : Tier) (bytes : List ℕ) (r : LayoutRequest) → IsDesignRequest sides most tier bytes (Ok r) → IsForAll most r
+pub design_request : (sides : AskedSides) (most : Rect) (tier : Option Tier) (bytes : List ℕ) (r : LayoutRequest) → IsDesignRequest sides most tier bytes (Ok r) → IsForAll most r
 design_request Any most tier bytes r (inl h) = drawn most tier bytes r h.0 h.1
 design_request Kept most tier bytes r (inl h) = kept most tier bytes r h.0 h.1
 design_request sides most tier bytes r (inr h) = sided_request most tier bytes r h.1

@@ -163,7 +163,7 @@ layout_never r learnt (layout.Found parts) ample is = other_status 4 high_four (
 layout_never r learnt (layout.Nowhere log) ample is = other_status 4 high_four (answer.Nowhere log) (λ e. omega (arith, e))
 layout_never r learnt (layout.Spent log) ample is = absurd (never_used_up (place_formula r) learnt log.steps ample is)
 
-lay_never : (rect : Rect) (tier : Tier) (learnt : ℕ) (bytes : List ℕ) (a : Answer) → HasAmple (Layout rect tier learnt) bytes
+lay_never : (rect : Rect) (tier : Option Tier) (learnt : ℕ) (bytes : List ℕ) (a : Answer) → HasAmple (Layout rect tier learnt) bytes
     → IsRightTo (Layout rect tier learnt) bytes (Ok a) → status_of a ≢ 4
 lay_never rect tier learnt bytes a ample (stopped fault h e) = design_other 4 high_four fault a (sym e)
 lay_never rect tier learnt bytes a (r, alone, ample) (went_on s h (found, is, again, e)) =
@@ -182,7 +182,7 @@ least_never first r learnt (smallest.Spent earlier grid log) ample is =
     absurd (never_used_up (place_formula (request_on r grid)) learnt log.steps
     (ample grid (left_within first r learnt earlier.items grid is.0) (left_taken first r learnt earlier.items grid is.0)) is.1)
 
-search_never : (first : Option Rect) (most : Rect) (tier : Tier) (learnt : ℕ) (bytes : List ℕ) (a : Answer) → HasAmple (Smallest first most tier learnt) bytes
+search_never : (first : Option Rect) (most : Rect) (tier : Option Tier) (learnt : ℕ) (bytes : List ℕ) (a : Answer) → HasAmple (Smallest first most tier learnt) bytes
     → IsRightTo (Smallest first most tier learnt) bytes (Ok a) → status_of a ≢ 4
 search_never first most tier learnt bytes a ample (stopped fault h e) = design_other 4 high_four fault a (sym e)
 search_never first most tier learnt bytes a (r, alone, ample) (went_on s h (found, is, again, e)) =

@@ -31,7 +31,8 @@ whole_told f lines limit source told is h =
 never_rose : (source : Passage) → source.faults ≡ 0 → source.faults_after ≡ 0 → HasFault source → ⊥
 never_rose source before after rose = let a = rose.risen in absurd (omega (arith, a, before, after))
 
--- of a source that never fails and has no more than the limit, what is told is right of its bytes, unless memory ran out
+-- of a source that never fails and has no more than the limit, what is told is right of its bytes, unless memory ran
+-- out
 pub log_told : (f : FormulaParts) (lines : List ℕ) (source : Passage) (told : Result (Unit {0}) CertFault) → source.before ≡ Some lines
     → source.faults ≡ 0 → source.faults_after ≡ 0 → IsLogChecked f [] (length lines) source told → UnlessMemory Memory (IsCertRead f lines) told
 log_told f lines source (Ok done) is before after h = whole_told f lines (length lines) source (Ok done) is h

@@ -293,7 +293,7 @@ check_answered p source (Ok a) h = h
 check_answered p source (Err fault) h = h
 
 -- and what `check-layout` answers to it
-pub layout_answered : (rect : Rect) (tier : Tier) (source : Passage) (result : Result Answer ReadAll) → AnswersLeft (IsClaimed (claim.NoLayout rect tier)) MOST_CHECKED source result
+pub layout_answered : (rect : Rect) (tier : Option Tier) (source : Passage) (result : Result Answer ReadAll) → AnswersLeft (IsClaimed (claim.NoLayout rect tier)) MOST_CHECKED source result
     → IsAnswered (CheckLayout rect tier) source result
 layout_answered rect tier source (Ok a) h = h
 layout_answered rect tier source (Err fault) h = h

@@ -1,5 +1,5 @@
 -- What the front of an input tells of the answer of `check-layout`.
-use Rattle.std.proofs.Common.{◌≡◌, ℕ, Bool, List, ◌++◌, Result, Ok, Err, drop, inl, inr, refl, sym, subst}
+use Rattle.std.proofs.Common.{◌≡◌, ℕ, Bool, List, ◌++◌, Option, Result, Ok, Err, drop, inl, inr, refl, sym, subst}
 use Rattle.bt_text.specs.Lines.{IsFirstLine}
 use Rattle.bt_text.proofs.FirstLines.{IsFirstLine-unique}
 use Rattle.bt_parts.specs.declared.part.Rect.{Rect}
@@ -25,7 +25,7 @@ use Rattle.bt_top.specs.inner.RequestParts.{IsRequestChecked}
 use Rattle.bt_top.proofs.Fronts.{known_front, line_goes}
 use Rattle.bt_top.proofs.NoneCertified.{none_told}
 
-module _ (rect : Rect) (tier : Tier) (all : List ℕ) where
+module _ (rect : Rect) (tier : Option Tier) (all : List ℕ) where
   -- a refusal of the design
   pub design_refused : (r : Refusal) → IsPinned all (Err (Refused r)) → IsLayoutChecked rect tier all (Ok (answer.Brief (brief.Refused r)))
   design_refused r h = stopped (Refused r) (stopped (Refused r) h refl) refl

@@ -136,7 +136,7 @@ one_none_certificate : (r : LayoutRequest) → IsRequest r → (rest : List ℕ)
 one_none_certificate r is rest a b h k =
     one_none_text r is k.0 a b (subst (λ text. IsNoneTextChecked r text a) (one_rest rest h.0 k.0 h.1 k.1) h.2) k.2
 
-one_layout_checked : (rect : Rect) (tier : Tier) (bytes : List ℕ) → HasOneAnswer (IsLayoutChecked rect tier bytes)
+one_layout_checked : (rect : Rect) (tier : Option Tier) (bytes : List ℕ) → HasOneAnswer (IsLayoutChecked rect tier bytes)
 one_layout_checked rect tier bytes =
     one_in_turn_of (IsFrontRequest rect tier bytes) design_told _ (one_front_request rect tier bytes)
     (λ found is. one_none_certificate found.0 (front_request rect tier bytes found is) (drop found.1 bytes))
@@ -146,7 +146,7 @@ one_layout_checked rect tier bytes =
 one_flow_formula : (p : Property) (bytes : List ℕ) → HasOneAnswer (IsFlowFormulaFrom p bytes)
 one_flow_formula p bytes = one_in_turn (IsLoneNet bytes) design_told _ (one_lone_net bytes) (λ n a b h k. h ∙ sym k)
 
-one_place_formula : (rect : Rect) (tier : Tier) (bytes : List ℕ) → HasOneAnswer (IsPlaceFormulaFrom rect tier bytes)
+one_place_formula : (rect : Rect) (tier : Option Tier) (bytes : List ℕ) → HasOneAnswer (IsPlaceFormulaFrom rect tier bytes)
 one_place_formula rect tier bytes = one_in_turn (IsLoneRequest rect tier bytes) design_told _ (one_lone_request rect tier bytes) (λ r a b h k. h ∙ sym k)
 
 -- ---- what is refused
@@ -194,7 +194,7 @@ least_apart first (smallest.Nowhere earlier) is = omega (arith, is)
 least_apart first (smallest.Spent earlier grid log) is = omega (arith, is)
 
 small_apart : (found : ASmall) → status_of (answer.Small found) ≢ 3
-small_apart (small.Found grid parts steps) is = omega (arith, is)
+small_apart (small.Found grid parts) is = omega (arith, is)
 small_apart (small.Spent steps) is = omega (arith, is)
 
 -- ---- make

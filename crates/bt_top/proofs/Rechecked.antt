@@ -8,7 +8,7 @@ use Rattle.bt_text.specs.Lines.{Lacks}
 use Rattle.bt_net.specs.Network.{Network}
 use Rattle.bt_text.proofs.Lacking.{lacks}
 use Rattle.bt_flow.specs.declared.property.Property.{Property}
-use Rattle.bt_flow.specs.declared.property.Property.TheVariants.{Balanced, DrawnEvenly, Unlimited, Full}
+use Rattle.bt_flow.specs.declared.property.Property.TheVariants.{Balanced, DrawnEvenly, Unlimited, Full, Fair, DrawnFairly}
 use Rattle.bt_flow.specs.declared.judgement.Test.{Test}
 use Rattle.bt_flow.specs.declared.judgement.Judgement.TheVariants.{Passes, Fails}
 use Rattle.bt_flow.specs.declared.judgement.Judgement.{Judgement}
@@ -74,6 +74,8 @@ yes_lacks Balanced = lacks 10 (codes "yes balanced") refl
 yes_lacks DrawnEvenly = lacks 10 (codes "yes drawn-evenly") refl
 yes_lacks Unlimited = lacks 10 (codes "yes unlimited") refl
 yes_lacks Full = lacks 10 (codes "yes full") refl
+yes_lacks Fair = lacks 10 (codes "yes fair") refl
+yes_lacks DrawnFairly = lacks 10 (codes "yes drawn-fairly") refl
 
 says_yes : (p : Property) (definitions : List Definition) (steps : List Step) → SaysYes p (proved_text p definitions steps) (steps_text definitions steps)
 says_yes p definitions steps =

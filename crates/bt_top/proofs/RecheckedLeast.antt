@@ -5,11 +5,10 @@ use Rattle.std.specs.List.{All}
 use Rattle.std.specs.declared.option.Option.{Option}
 use Rattle.std.proofs.lemmas.List.{append_assoc, append-nil}
 use Rattle.std.proofs.lemmas.List.Elements.{All-nil, All-cons, All-head, All-tail}
-use Rattle.bt_net.specs.NetText.{alone}
 use Rattle.bt_net.specs.declared.network.Admitted.TheVariants.{Sides}
 use Rattle.bt_parts.specs.declared.part.Rect.{Rect}
 use Rattle.bt_parts.specs.declared.part.Tier.{Tier}
-use Rattle.bt_model.specs.Requests.{LayoutRequest, IsRequest, request_of}
+use Rattle.bt_model.specs.Requests.{LayoutRequest, IsRequest}
 use Rattle.bt_layout.specs.declared.outcome.RuledOut.{RuledOut}
 use Rattle.bt_layout.specs.declared.outcome.Smallest.{Smallest}
 use Rattle.bt_layout.specs.declared.outcome.Smallest.TheVariants.{Found, Nowhere, Spent}
@@ -24,7 +23,7 @@ use Rattle.bt_top.specs.Answers.{text_of}
 use Rattle.bt_designs.specs.Designs.{IsJsonText}
 use Rattle.bt_top.specs.RecheckingLeast.{certified_in, IsAccepted, BeginsWithGrids, LeastIsChecked}
 use Rattle.bt_designs.specs.Refusals.{net_told, request_told}
-use Rattle.bt_designs.specs.Requested.{PinnedNet, IsPinned, IsPinnedText, IsRequestFor}
+use Rattle.bt_designs.specs.Requested.{PinnedNet, asked_for, IsPinned, IsPinnedText, IsRequestFor}
 use Rattle.bt_designs.specs.Requested.{IsSidedRequest}
 use Rattle.bt_designs.specs.Steps.{stopped, went_on}
 use Rattle.bt_designs.proofs.BareReadings.{wider_is_read}
@@ -34,7 +33,8 @@ use Rattle.bt_designs.proofs.Followed.{other_than}
 use Rattle.bt_top.proofs.Printed.{no_refusal}
 use Rattle.bt_designs.proofs.InTurns.{same_value, not_both}
 use Rattle.bt_designs.proofs.LongerDesigns.{other_text_stays, net_first}
-use Rattle.bt_top.proofs.RecheckedLayouts.{pinned_within, pinned_stays, certificate_follows}
+use Rattle.bt_designs.proofs.LongerRequests.{pinned_within, pinned_stays}
+use Rattle.bt_top.proofs.RecheckedLayouts.{certificate_follows}
 
 -- a network text behind whose edges sides alone stand is read alike where pins and blocks may stand too
 text_pinned : (bytes : List ℕ) (n : PinnedNet) (used : ℕ) → IsPinnedText Sides bytes (Ok (n, used)) → IsPinned bytes (Ok (n, used))
@@ -46,10 +46,10 @@ text_pinned bytes n used (went_on read h e) =
 same_found : (first other_first : Option Rect) (found other : Smallest) → answer.Least first found ≡ answer.Least other_first other → found ≡ other
 same_found first other_first found other e = cc
 
-module _ (first : Option Rect) (most : Rect) (tier : Tier) (learnt : ℕ) (bytes : List ℕ) (n : PinnedNet) (whole : IsAlone (IsPinnedText Sides) bytes (Ok n))
-    (asked : IsRequest (request_of (alone n.net) most tier n.demands n.blocks)) (none : NamesNoCells (request_of (alone n.net) most tier n.demands n.blocks)) where
+module _ (first : Option Rect) (most : Rect) (tier : Option Tier) (learnt : ℕ) (bytes : List ℕ) (n : PinnedNet) (whole : IsAlone (IsPinnedText Sides) bytes (Ok n))
+    (asked : IsRequest (asked_for most tier n)) (none : NamesNoCells (asked_for most tier n)) where
   abbrev asks : LayoutRequest
-  asks = request_of (alone n.net) most tier n.demands n.blocks
+  asks = asked_for most tier n
 
   -- the certificate of a grid follows the network text
   one_accepted : (one : RuledOut) → IsRuledOut asks learnt one → IsWithin most one.grid → IsAccepted tier bytes one
@@ -84,12 +84,12 @@ begins_with first (Nowhere earlier) = ([], sym (append-nil (from_line first ++ e
 begins_with first (Spent earlier grid log) = (spent_on_text grid log.steps, ap (λ front. front ++ spent_on_text grid log.steps) (sym (append-nil (from_line first))))
 
 -- what is searched for is the network of the text, with its sides
-searched : (first : Option Rect) (most : Rect) (tier : Tier) (learnt : ℕ) (bytes : List ℕ) (found : Smallest) (r : LayoutRequest) → IsSidedRequest most tier bytes (Ok r) → NamesNoCells r → IsSmallest first r learnt found
+searched : (first : Option Rect) (most : Rect) (tier : Option Tier) (learnt : ℕ) (bytes : List ℕ) (found : Smallest) (r : LayoutRequest) → IsSidedRequest most tier bytes (Ok r) → NamesNoCells r → IsSmallest first r learnt found
     → All (IsAccepted tier bytes) (certified_in found)
 searched first most tier learnt bytes found r (stopped fault h e) none is = absurd (not_both r fault e)
 searched first most tier learnt bytes found r (went_on n whole (stopped fault h e)) none is = absurd (not_both r (request_told fault) e)
 searched first most tier learnt bytes found r (went_on n whole (went_on made h e)) none is =
-    let same : r ≡ request_of (alone n.net) most tier n.demands n.blocks = same_value r made e ∙ h.0 in
+    let same : r ≡ asked_for most tier n = same_value r made e ∙ h.0 in
     found_accepted first most tier learnt bytes n whole (subst IsRequest h.0 h.1) (subst NamesNoCells same none) found
     (subst (λ (x : LayoutRequest). IsSmallest first x learnt found) same is)
 

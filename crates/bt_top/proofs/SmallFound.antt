@@ -11,5 +11,5 @@ use Rattle.bt_layout.specs.Smallest.{NamesNoCells, request_on}
 use Rattle.bt_top.specs.Finding.{IsFoundAgain}
 
 pub found_again : (cells : Option ℕ) (learnt : ℕ) (r : LayoutRequest) (small : Small) → IsRequest r → NamesNoCells r → IsSmall r cells learnt small → IsFoundAgain small
-found_again cells learnt r (Found grid parts steps) is none h = laid_is_read_back (request_on r grid) parts.items (asked_on r grid is none h.0.0) h.1
+found_again cells learnt r (Found grid parts) is none h = laid_is_read_back (request_on r grid) parts.items (asked_on r grid is none h.0.0) h.1
 found_again cells learnt r (Spent steps) is none h = tt

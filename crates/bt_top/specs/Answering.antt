@@ -35,7 +35,8 @@ IsRightTo (PlaceFormula rect tier) bytes = IsPlaceFormulaFrom rect tier bytes
 IsRightTo (Same limits) bytes = IsComparedFrom limits bytes
 IsRightTo CheckSame bytes = IsSameCertified bytes
 
--- where it is right, it is the one right answer: what is refused has no other answer, and of most commands nothing has; of `decide`, `make` of a chain, `layout`, `smallest` and `same` others may be right, with other evidence
+-- where it is right, it is the one right answer: what is refused has no other answer, and of most commands nothing has;
+-- of `decide`, `make` of a chain, `layout`, `smallest` and `same` others may be right, with other evidence
 abbrev pub IsOnly : Command → Answer → Type 0
 IsOnly (FlowCheck p) a = Unit {0}
 IsOnly Recover a = Unit {0}

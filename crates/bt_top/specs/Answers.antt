@@ -51,7 +51,7 @@ least_status (SpentOn earlier grid log) = 4
 
 -- the status of a search for small grids: 0 where one is found, else 4
 abbrev pub small_status : ASmall → ℕ
-small_status (small.Found grid parts steps) = 0
+small_status (small.Found grid parts) = 0
 small_status (small.Spent steps) = 4
 
 -- the status of an answer that is said in one line
@@ -109,7 +109,8 @@ family_name Chain = codes "chain"
 abbrev pub balance_word : Bool → List ℕ
 balance_word balanced = if balanced then codes "yes" else codes "no"
 
--- the lines of a network that was made: its kind and order, how many edges and outputs it has, and whether it is balanced
+-- the lines of a network that was made: its kind and order, how many edges and outputs it has, and whether it is
+-- balanced
 abbrev pub made_text : making.Made → List ℕ
 made_text made =
     line (family_name made.family ++ codes " " ++ decimal made.order) ++ line (codes "edges " ++ decimal made.edges)

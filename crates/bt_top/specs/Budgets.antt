@@ -39,7 +39,9 @@ IsAmple f learnt = 3 ^ f.vars ≤ learnt
 abbrev pub IsAmpleFor : ℕ → FormulaParts → ℕ → Type 0
 IsAmpleFor splitters f learnt = (definitions : List Definition) → AreMade splitters f definitions → IsAmple (extended f definitions) learnt
 
--- the command may log that many steps of the formula that it decides: the flow formula of the design's network or of the chain that is made, or the placement formula of the request, or of the network on each grid that isn't passed by, or the formula of two networks; a butterfly takes none
+-- the command may log that many steps of the formula that it decides: the flow formula of the design's network or of
+-- the chain that is made, or the placement formula of the request, or of the network on each grid that isn't passed by,
+-- or the formula of two networks; a butterfly takes none
 abbrev pub HasAmple : Command → List ℕ → Type 0
 HasAmple (Decide p limits) bytes = (n : Network) × IsLoneNet bytes (Ok n) × IsAmpleFor n.splitters (flow_formula n p) limits.learnt
 HasAmple (Make Butterfly order limits) bytes = Unit {0}
@@ -64,7 +66,8 @@ AmpleNeverEndsSpent = (words : List (List ℕ)) (source sink : Passage) (status 
 abbrev pub IsAmpleOfTurns : FormulaParts → ℕ → Type 0
 IsAmpleOfTurns f pivots = most_bases (columns_of f) (atom_rows f) ≤ pivots
 
--- the command may make that many turns of the formula that it decides: the flow formula of the design's network or of the chain that is made, or the formula of two networks; a butterfly takes none
+-- the command may make that many turns of the formula that it decides: the flow formula of the design's network or of
+-- the chain that is made, or the formula of two networks; a butterfly takes none
 abbrev pub HasAmpleTurns : Command → List ℕ → Type 0
 HasAmpleTurns (Decide p limits) bytes = (n : Network) × IsLoneNet bytes (Ok n) × IsAmpleOfTurns (flow_formula n p) limits.pivots
 HasAmpleTurns (Make Butterfly order limits) bytes = Unit {0}

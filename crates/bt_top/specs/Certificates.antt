@@ -31,11 +31,13 @@ cert_told cert.Memory = Err alloc_error
 abbrev pub SaysYes : Property → List ℕ → List ℕ → Type 0
 SaysYes p text lines = IsFirstLine text (codes "yes " ++ property_name p) lines
 
--- what is answered to the lines of steps: that the network has the property, which it then has in every steady state; or the first line for which the steps are no certificate
+-- what is answered to the lines of steps: that the network has the property, which it then has in every steady state;
+-- or the first line for which the steps are no certificate
 abbrev pub IsYesChecked : Network → Property → List ℕ → Reply → Type 0
 IsYesChecked n p lines = InTurn (IsCertRead (flow_formula n p) lines) cert_told (λ done reply. Holds n p × (reply ≡ Ok (answer.Brief (brief.Yes p))))
 
--- what is answered to a certificate: the answer to its steps where its first line says yes, and else that to a written state
+-- what is answered to a certificate: the answer to its steps where its first line says yes, and else that to a written
+-- state
 abbrev pub IsTextChecked : Network → Property → List ℕ → Reply → Type 0
 IsTextChecked n p text reply = ((lines : List ℕ) × SaysYes p text lines × IsYesChecked n p lines reply)
     ⊎ (((lines : List ℕ) → SaysYes p text lines → ⊥) × IsStateJudged n p (brief.No p) text reply)

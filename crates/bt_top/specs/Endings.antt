@@ -45,7 +45,8 @@ pub data IsEnding (words : List (List ℕ)) (source sink : Passage) (status : �
   no_memory : (command : Command) → IsCommand command words → ReadsInput command source (Err Memory)
       → IsUntouched sink → status ≡ NO_MEMORY → IsEnding words source sink status
 
--- how the program ends: in one of these ways; and where the source tells the command's input, within its limit, a right answer to that is told, and where there is one right answer that one, but where the source fails or memory runs out
+-- how the program ends: in one of these ways; and where the source tells the command's input, within its limit, a right
+-- answer to that is told, and where there is one right answer that one, but where the source fails or memory runs out
 pub record Ends (words : List (List ℕ)) (source sink : Passage) (status : ℕ) : Type 0 where
   pub ending : IsEnding words source sink status
   pub complete : (command : Command) (bytes : List ℕ) → IsCommand command words → IsInput command source bytes

@@ -25,12 +25,13 @@ use Rattle.bt_designs.specs.Requested.{IsLoneRequest, IsSidedRequest}
 use Rattle.bt_designs.specs.Steps.{InTurn}
 
 -- what comes of bytes that are to be a blueprint alone, whose ends are asked to stand at these sides
-abbrev pub IsDrawnRequest : AskedSides → Rect → Tier → List ℕ → Result LayoutRequest DesignFault → Type 0
+abbrev pub IsDrawnRequest : AskedSides → Rect → Option Tier → List ℕ → Result LayoutRequest DesignFault → Type 0
 IsDrawnRequest Any rect tier bytes = IsLoneRequest rect tier bytes
 IsDrawnRequest Kept rect tier bytes = IsKeptRequest rect tier bytes
 
--- what comes of bytes that are to be a design alone, for parts of a tier on the greatest grid: what `layout` takes or refuses of a blueprint, whose ends are asked to stand at these sides, and what `smallest` does of a network text
-abbrev pub IsDesignRequest : AskedSides → Rect → Tier → List ℕ → Result LayoutRequest DesignFault → Type 0
+-- what comes of bytes that are to be a design alone, for parts of a tier on the greatest grid: what `layout` takes or
+-- refuses of a blueprint, whose ends are asked to stand at these sides, and what `smallest` does of a network text
+abbrev pub IsDesignRequest : AskedSides → Rect → Option Tier → List ℕ → Result LayoutRequest DesignFault → Type 0
 IsDesignRequest sides most tier bytes answer = (IsJsonText bytes × IsDrawnRequest sides most tier bytes answer) ⊎ ((IsJsonText bytes → ⊥) × IsSidedRequest most tier bytes answer)
 
 -- the JSON value at the front of the bytes is a blueprint of these parts
@@ -49,21 +50,24 @@ pub record IsSpanned (cells : ℕ) (parts : List Part) : Type 0 where
   pub area : area_of rect ≡ cells
   pub least : (at : Cell) (other : Rect) → Holds at other parts → cells ≤ area_of other
 
--- how many cells a grid has to have fewer of: of a blueprint, those of its least rectangle; of a network text there is no such number
+-- how many cells a grid has to have fewer of: of a blueprint, those of its least rectangle; of a network text there is
+-- no such number
 abbrev pub IsOwn : List ℕ → Option ℕ → Type 0
 IsOwn bytes None = IsJsonText bytes → ⊥
 IsOwn bytes (Some cells) = (parts : List Part) × AreLaidOut bytes parts × IsSpanned cells parts
 
 -- the blueprint that is written of the parts is read as these parts
 abbrev pub IsFoundAgain : Small → Type 0
-IsFoundAgain (Found grid parts steps) = IsReadBack parts.items
+IsFoundAgain (Found grid parts) = IsReadBack parts.items
 IsFoundAgain (Spent steps) = Unit {0}
 
--- what is answered to a request on the greatest grid: a grid that may be asked, which is within that and lesser than a design that is laid out, and parts that lay the request there, whose blueprint is read as these parts; or that none was found
+-- what is answered to a request on the greatest grid: a grid that may be asked, which is within that and lesser than a
+-- design that is laid out, and parts that lay the request there, whose blueprint is read as these parts; or that none
+-- was found
 abbrev pub IsFound : List ℕ → ℕ → LayoutRequest → Reply → Type 0
 IsFound bytes learnt r reply =
     (own : Option ℕ) × (small : Small) × IsOwn bytes own × IsSmall r own learnt small × IsFoundAgain small × (reply ≡ Ok (answer.Small small))
 
 -- what `smallest --found` answers to bytes: what is answered to the request that they are, or the first refusal
-abbrev pub IsFoundFrom : Rect → Tier → AskedSides → ℕ → List ℕ → Reply → Type 0
+abbrev pub IsFoundFrom : Rect → Option Tier → AskedSides → ℕ → List ℕ → Reply → Type 0
 IsFoundFrom most tier sides learnt bytes = InTurn (IsDesignRequest sides most tier bytes) design_told (IsFound bytes learnt)

@@ -1,5 +1,5 @@
 -- What `formula` answers.
-use Rattle.std.specs.Prelude.{◌≡◌, ℕ, List, Ok, length}
+use Rattle.std.specs.Prelude.{◌≡◌, ℕ, List, Ok, length, Option}
 use Rattle.bt_parts.specs.declared.part.Rect.{Rect}
 use Rattle.bt_parts.specs.declared.part.Tier.{Tier}
 use Rattle.bt_net.specs.Network.{Network}
@@ -18,7 +18,7 @@ use Rattle.bt_designs.specs.Steps.{InTurn}
 
 -- the columns of a network's flow formulas
 abbrev pub columns_of : Network → Columns
-columns_of n = record { edges = length n.edges; inputs = n.inputs }
+columns_of n = record { edges = length n.edges; inputs = n.inputs; outputs = n.outputs }
 
 -- what is answered to a network and a property: their flow formula
 abbrev pub flow_formula_told : Property → Network → Answer
@@ -28,10 +28,11 @@ flow_formula_told p n = answer.FlowFormula (columns_of n) (flow_formula n p)
 abbrev pub place_formula_told : LayoutRequest → Answer
 place_formula_told r = answer.PlaceFormula (starts_of (sizes_of r)) (place_formula r)
 
--- what `formula` answers to bytes about a property: what is answered to the network of the design that they are, or the first refusal
+-- what `formula` answers to bytes about a property: what is answered to the network of the design that they are, or the
+-- first refusal
 abbrev pub IsFlowFormulaFrom : Property → List ℕ → Reply → Type 0
 IsFlowFormulaFrom p bytes = InTurn (IsLoneNet bytes) design_told (λ n reply. reply ≡ Ok (flow_formula_told p n))
 
 -- what `formula` answers to bytes about layouts: what is answered to the request that they are, or the first refusal
-abbrev pub IsPlaceFormulaFrom : Rect → Tier → List ℕ → Reply → Type 0
+abbrev pub IsPlaceFormulaFrom : Rect → Option Tier → List ℕ → Reply → Type 0
 IsPlaceFormulaFrom rect tier bytes = InTurn (IsLoneRequest rect tier bytes) design_told (λ r reply. reply ≡ Ok (place_formula_told r))

@@ -1,5 +1,5 @@
 -- What `layout` answers.
-use Rattle.std.specs.Prelude.{◌≡◌, ℕ, List, Ok}
+use Rattle.std.specs.Prelude.{◌≡◌, ℕ, List, Ok, Option}
 use Rattle.bt_parts.specs.declared.part.Rect.{Rect}
 use Rattle.bt_parts.specs.declared.part.Tier.{Tier}
 use Rattle.bt_model.specs.Requests.{LayoutRequest}
@@ -26,10 +26,11 @@ IsFoundAgain (Found parts) = IsReadBack parts.items
 IsFoundAgain (Nowhere log) = Unit {0}
 IsFoundAgain (Spent log) = Unit {0}
 
--- what is answered to a request: parts that lay it, whose blueprint is read as these parts; or that no parts do, with a log that refutes its placement formula; or that the log is used up
+-- what is answered to a request: parts that lay it, whose blueprint is read as these parts; or that no parts do, with a
+-- log that refutes its placement formula; or that the log is used up
 abbrev pub IsLaidOut : ℕ → LayoutRequest → Reply → Type 0
 IsLaidOut learnt r reply = (found : Layout) × IsLayout r learnt found × IsFoundAgain found × (reply ≡ Ok (layout_told found))
 
 -- what `layout` answers to bytes: what is answered to the request that they are, or the first refusal
-abbrev pub IsLaidOutFrom : Rect → Tier → ℕ → List ℕ → Reply → Type 0
+abbrev pub IsLaidOutFrom : Rect → Option Tier → ℕ → List ℕ → Reply → Type 0
 IsLaidOutFrom rect tier learnt bytes = InTurn (IsLoneRequest rect tier bytes) design_told (IsLaidOut learnt)

@@ -1,5 +1,5 @@
 -- What `check-layout` answers: a request, blanks, and a certificate that no layout lays it.
-use Rattle.std.specs.Prelude.{◌≡◌, ◌<◌, ◌^◌, ℕ, List, ◌∷◌, ◌⊎◌, Ok, drop, length}
+use Rattle.std.specs.Prelude.{◌≡◌, ◌<◌, ◌^◌, ℕ, List, ◌∷◌, ◌⊎◌, Ok, drop, length, Option}
 use Rattle.bt_text.specs.Blanks.{SkipsBlanks}
 use Rattle.bt_text.specs.Lines.{IsFirstLine}
 use Rattle.bt_parts.specs.declared.part.Rect.{Rect}
@@ -22,11 +22,13 @@ use Rattle.bt_designs.specs.Steps.{InTurn}
 abbrev pub SaysNone : List ℕ → List ℕ → Type 0
 SaysNone text lines = IsFirstLine text none_word lines
 
--- what is answered to the lines of steps: that there is no layout, and then no parts lay the request; or the first line for which the steps are no certificate
+-- what is answered to the lines of steps: that there is no layout, and then no parts lay the request; or the first line
+-- for which the steps are no certificate
 abbrev pub IsNoneChecked : LayoutRequest → List ℕ → Reply → Type 0
 IsNoneChecked r lines = InTurn (IsCertRead (place_formula r) lines) cert_told (λ done reply. HasNoLayout r × (reply ≡ Ok (answer.Brief brief.NoLayout)))
 
--- what is answered to a certificate: the answer to its steps where its first line says none, and else that this line isn't one that belongs there
+-- what is answered to a certificate: the answer to its steps where its first line says none, and else that this line
+-- isn't one that belongs there
 abbrev pub IsNoneTextChecked : LayoutRequest → List ℕ → Reply → Type 0
 IsNoneTextChecked r text reply = ((lines : List ℕ) × SaysNone text lines × IsNoneChecked r lines reply)
     ⊎ (((lines : List ℕ) → SaysNone text lines → ⊥) × (reply ≡ Ok (answer.Brief (brief.CertLine 1))))
@@ -35,11 +37,13 @@ IsNoneTextChecked r text reply = ((lines : List ℕ) × SaysNone text lines × I
 abbrev pub IsNoneCertificateChecked : LayoutRequest → List ℕ → Reply → Type 0
 IsNoneCertificateChecked r rest reply = (text : List ℕ) × SkipsBlanks rest text × IsNoneTextChecked r text reply
 
--- what `check-layout` answers to bytes: the refusal of the request at their front, or what is answered to what follows it
-abbrev pub IsLayoutChecked : Rect → Tier → List ℕ → Reply → Type 0
+-- what `check-layout` answers to bytes: the refusal of the request at their front, or what is answered to what follows
+-- it
+abbrev pub IsLayoutChecked : Rect → Option Tier → List ℕ → Reply → Type 0
 IsLayoutChecked rect tier bytes = InTurn (IsFrontRequest rect tier bytes) design_told (λ found. IsNoneCertificateChecked found.0 (drop found.1 bytes))
 
--- what is written where a log soundly refutes the placement formula of a request is accepted behind that request and a line feed, where the log has fewer than 10 ^ 17 steps
+-- what is written where a log soundly refutes the placement formula of a request is accepted behind that request and a
+-- line feed, where the log has fewer than 10 ^ 17 steps
 abbrev pub NoneIsAccepted : Type 0
 NoneIsAccepted = (r : LayoutRequest) (steps : List Step) → IsRequest r → IsRefutation (place_formula r) steps → length steps < 10 ^ 17
     → IsNoneCertificateChecked r (10 ∷ nowhere_text steps) (Ok (answer.Brief brief.NoLayout))

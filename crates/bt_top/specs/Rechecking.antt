@@ -20,13 +20,15 @@ use Rattle.bt_top.specs.Replies.{Reply}
 abbrev pub followed_by : List ℕ → Answer → List ℕ
 followed_by bytes answer = bytes ++ 10 ∷ text_of answer
 
--- where `decide` proves a property, and the design and the proof aren't more than `check` reads, it is right for `check` to say yes to them
+-- where `decide` proves a property, and the design and the proof aren't more than `check` reads, it is right for
+-- `check` to say yes to them
 abbrev pub ProofIsChecked : Type 0
 ProofIsChecked = (p : Property) (limits : Limits) (bytes : List ℕ) (definitions : Vec Definition Global) (log : Log) → IsDecidedFrom p limits bytes (Ok (Proved p definitions log))
     → length (followed_by bytes (Proved p definitions log)) ≤ MOST_CHECKED
     → IsChecked p (followed_by bytes (Proved p definitions log)) (Ok (Brief (Yes p)))
 
--- where `decide` finds a state that breaks it, what is right for `check` to say to the design and that state is no, or that a sum leaves 128 bits
+-- where `decide` finds a state that breaks it, what is right for `check` to say to the design and that state is no, or
+-- that a sum leaves 128 bits
 abbrev pub StateIsChecked : Type 0
 StateIsChecked = (p : Property) (limits : Limits) (bytes : List ℕ) (state : Fractions) (reply : Reply) → IsDecidedFrom p limits bytes (Ok (Broken p state))
     → IsChecked p (followed_by bytes (Broken p state)) reply

@@ -19,8 +19,9 @@ certified_in (Found earlier grid parts) = earlier.items
 certified_in (Nowhere earlier) = earlier.items
 certified_in (Spent earlier grid log) = []
 
--- behind the network text, the certificate of a grid is accepted with this grid and the tier, where both aren't more than `check-layout` reads
-abbrev pub IsAccepted : Tier → List ℕ → RuledOut → Type 0
+-- behind the network text, the certificate of a grid is accepted with this grid and the tier, where both aren't more
+-- than `check-layout` reads
+abbrev pub IsAccepted : Option Tier → List ℕ → RuledOut → Type 0
 IsAccepted tier bytes one = length (bytes ++ 10 ∷ nowhere_text one.log.steps) ≤ MOST_CHECKED
     → IsLayoutChecked one.grid tier (bytes ++ 10 ∷ nowhere_text one.log.steps) (Ok (answer.Brief brief.NoLayout))
 
@@ -28,7 +29,8 @@ IsAccepted tier bytes one = length (bytes ++ 10 ∷ nowhere_text one.log.steps) 
 abbrev pub BeginsWithGrids : Option Rect → List ℕ → List RuledOut → Type 0
 BeginsWithGrids first text ones = (rest : List ℕ) × (text ≡ from_line first ++ earlier_text ones ++ rest)
 
--- what `smallest` writes begins with the line of the grid with which it begins, where one is named, and the lines of grids and their certificates, and each certificate is accepted behind the network text
+-- what `smallest` writes begins with the line of the grid with which it begins, where one is named, and the lines of
+-- grids and their certificates, and each certificate is accepted behind the network text
 abbrev pub LeastIsChecked : Type 0
-LeastIsChecked = (first : Option Rect) (most : Rect) (tier : Tier) (learnt : ℕ) (bytes : List ℕ) (found : Smallest)
+LeastIsChecked = (first : Option Rect) (most : Rect) (tier : Option Tier) (learnt : ℕ) (bytes : List ℕ) (found : Smallest)
     → IsSearchedFrom first most tier learnt bytes (Ok (answer.Least first found)) → BeginsWithGrids first (text_of (answer.Least first found)) (certified_in found) × All (IsAccepted tier bytes) (certified_in found)

@@ -15,13 +15,15 @@ use Rattle.bt_top.specs.Rechecking.{followed_by}
 use Rattle.bt_top.specs.Replies.{Reply}
 use Rattle.bt_top.specs.SameCertificates.{IsSameCertified}
 
--- where `same` proves that two networks behave the same, and the designs and the proof aren't more than `check-same` reads, it is right for `check-same` to say so
+-- where `same` proves that two networks behave the same, and the designs and the proof aren't more than `check-same`
+-- reads, it is right for `check-same` to say so
 abbrev pub SameIsChecked : Type 0
 SameIsChecked = (limits : Limits) (bytes : List ℕ) (definitions : Vec Definition Global) (log : Log) → IsComparedFrom limits bytes (Ok (Same definitions log))
     → length (followed_by bytes (Same definitions log)) ≤ MOST_CHECKED
     → IsSameCertified (followed_by bytes (Same definitions log)) (Ok (Brief ShownSame))
 
--- where `same` finds a pair that shows a difference, what is right for `check-same` to say to the designs and that pair is that they differ, or that a sum leaves 128 bits
+-- where `same` finds a pair that shows a difference, what is right for `check-same` to say to the designs and that pair
+-- is that they differ, or that a sum leaves 128 bits
 abbrev pub DifferenceIsChecked : Type 0
 DifferenceIsChecked = (limits : Limits) (bytes : List ℕ) (pair : Pair) (reply : Reply) → IsComparedFrom limits bytes (Ok (Differ pair))
     → IsSameCertified (followed_by bytes (Differ pair)) reply

@@ -1,4 +1,5 @@
--- What `check-same` answers: two designs, blanks, and a certificate that their networks behave the same, or a written pair of states that shows a difference.
+-- What `check-same` answers: two designs, blanks, and a certificate that their networks behave the same, or a written
+-- pair of states that shows a difference.
 use Rattle.std.specs.Prelude.{◌≡◌, ℕ, List, ◌⊎◌, Ok, Err, Result, drop, codes}
 use Rattle.bt_text.specs.Blanks.{SkipsBlanks}
 use Rattle.bt_text.specs.Lines.{IsFirstLine}
@@ -25,11 +26,13 @@ use Rattle.bt_designs.specs.TwoDesigns.{IsFrontNets}
 abbrev pub SaysSame : List ℕ → List ℕ → Type 0
 SaysSame text lines = IsFirstLine text (codes "same") lines
 
--- what is answered to the lines of steps: that the networks behave the same; or the first line for which the steps are no certificate
+-- what is answered to the lines of steps: that the networks behave the same; or the first line for which the steps are
+-- no certificate
 abbrev pub IsSameChecked : Network × Network → List ℕ → Reply → Type 0
 IsSameChecked nets lines = InTurn (IsCertRead (same_formula nets.0 nets.1) lines) cert_told (λ done reply. AreSame nets.0 nets.1 × (reply ≡ Ok (answer.Brief brief.ShownSame)))
 
--- the verdict on a pair of states: that it shows a difference, the first test that it fails and at which place, or a sum that leaves 128 bits
+-- the verdict on a pair of states: that it shows a difference, the first test that it fails and at which place, or a
+-- sum that leaves 128 bits
 abbrev pub pair_verdict : Result PairJudgement PairWide → Answer
 pair_verdict (Ok Holds) = answer.Brief brief.ShownDiffer
 pair_verdict (Ok (Fails which test place)) = answer.Brief (brief.NotDiffering which test place)
@@ -43,7 +46,8 @@ IsPairJudged nets pair reply = (told : Result PairJudgement PairWide) × IsPairA
 abbrev pub IsPairTextJudged : Network × Network → List ℕ → Reply → Type 0
 IsPairTextJudged nets text = InTurn (IsPairRead nets.0 nets.1 text) state_told (IsPairJudged nets)
 
--- what is answered to a certificate: the answer to its steps where its first line says same, and else that to a written pair
+-- what is answered to a certificate: the answer to its steps where its first line says same, and else that to a written
+-- pair
 abbrev pub IsSameTextChecked : Network × Network → List ℕ → Reply → Type 0
 IsSameTextChecked nets text reply = ((lines : List ℕ) × SaysSame text lines × IsSameChecked nets lines reply)
     ⊎ (((lines : List ℕ) → SaysSame text lines → ⊥) × IsPairTextJudged nets text reply)
@@ -52,6 +56,7 @@ IsSameTextChecked nets text reply = ((lines : List ℕ) × SaysSame text lines �
 abbrev pub IsSameCertificateChecked : Network × Network → List ℕ → Reply → Type 0
 IsSameCertificateChecked nets rest reply = (text : List ℕ) × SkipsBlanks rest text × IsSameTextChecked nets text reply
 
--- what `check-same` answers to bytes: the refusal of the designs at their front, or what is answered to what follows them
+-- what `check-same` answers to bytes: the refusal of the designs at their front, or what is answered to what follows
+-- them
 abbrev pub IsSameCertified : List ℕ → Reply → Type 0
 IsSameCertified bytes = InTurn (IsFrontNets bytes) design_told (λ found. IsSameCertificateChecked found.0 (drop found.1 bytes))

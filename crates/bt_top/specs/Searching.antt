@@ -18,10 +18,12 @@ IsFoundAgain (Found earlier grid parts) = IsReadBack parts.items
 IsFoundAgain (Nowhere earlier) = Unit {0}
 IsFoundAgain (Spent earlier grid log) = Unit {0}
 
--- what is answered to a request on the greatest grid: the least grid with a layout, and parts on it whose blueprint is read as these parts; or that none has one; or the grid at which the log is used up; with a log for each grid before it; of the grids that come before the first, where one is named, nothing, and the answer names that one
+-- what is answered to a request on the greatest grid: the least grid with a layout, and parts on it whose blueprint is
+-- read as these parts; or that none has one; or the grid at which the log is used up; with a log for each grid before
+-- it; of the grids that come before the first, where one is named, nothing, and the answer names that one
 abbrev pub IsSearched : Option Rect → ℕ → LayoutRequest → Reply → Type 0
 IsSearched first learnt r reply = (found : Smallest) × IsSmallest first r learnt found × IsFoundAgain found × (reply ≡ Ok (answer.Least first found))
 
 -- what `smallest` answers to bytes: what is answered to the request that they are, or the first refusal
-abbrev pub IsSearchedFrom : Option Rect → Rect → Tier → ℕ → List ℕ → Reply → Type 0
+abbrev pub IsSearchedFrom : Option Rect → Rect → Option Tier → ℕ → List ℕ → Reply → Type 0
 IsSearchedFrom first most tier learnt bytes = InTurn (IsSidedRequest most tier bytes) design_told (IsSearched first learnt)

@@ -23,7 +23,8 @@ abbrev pub state_told : StateFault → Reply
 state_told (state.CertLine k) = Ok (answer.Brief (brief.CertLine k))
 state_told state.Memory = Err alloc_error
 
--- the verdict on a state: this answer where it breaks the property, the first test that it fails and at which place, or a sum that leaves 128 bits
+-- the verdict on a state: this answer where it breaks the property, the first test that it fails and at which place, or
+-- a sum that leaves 128 bits
 abbrev pub verdict : Brief → Result Judgement WideSum → Brief
 verdict broken (Ok Passes) = broken
 verdict broken (Ok (Fails test place)) = brief.NotBreaking test place
@@ -33,7 +34,8 @@ verdict broken (Err wide) = brief.WideState wide.test wide.place
 abbrev pub IsJudged : Network → Property → Brief → Fractions → Reply → Type 0
 IsJudged n p broken t reply = (told : Result Judgement WideSum) × IsBreakingAnswer n p t told × (reply ≡ Ok (answer.Brief (verdict broken told)))
 
--- what is answered to a text: the first line that isn't that of a state which is written for the property, or the verdict on the state
+-- what is answered to a text: the first line that isn't that of a state which is written for the property, or the
+-- verdict on the state
 abbrev pub IsStateJudged : Network → Property → Brief → List ℕ → Reply → Type 0
 IsStateJudged n p broken text = InTurn (IsStateRead n p text) state_told (IsJudged n p broken)
 

@@ -8,7 +8,7 @@ pub enum CertificateClaim {
     /// That the design's network has the property, or that it hasn't.
     Flow(Property),
     /// That no parts of the tier lay the request in the rectangle.
-    NoLayout(Rect, Tier),
+    NoLayout(Rect, Option<Tier>),
     /// That the networks of two designs behave the same, or that they don't.
     Same,
 }

@@ -30,7 +30,7 @@ pub fn flow_formula(alloc: Global, property: Property, bytes: &[u8]) -> Result<A
 pub fn place_formula(
     alloc: Global,
     rect: Rect,
-    tier: Tier,
+    tier: Option<Tier>,
     bytes: &[u8],
 ) -> Result<Answer, AllocError>
     requires { IsGrid rect }
@@ -59,6 +59,7 @@ fn columns_of(net: &Net) -> Columns
     Columns {
         edges: net.edges().len(),
         inputs: net.inputs() as usize,
+        outputs: net.outputs() as usize,
     }
 }
 

@@ -17,7 +17,7 @@ use std::alloc::{AllocError, Global};
 pub fn layout(
     alloc: Global,
     rect: Rect,
-    tier: Tier,
+    tier: Option<Tier>,
     learnt: u64,
     bytes: &[u8],
     choosers: Vec<Box<dyn Chooser>>,

@@ -22,7 +22,7 @@ use std::alloc::{AllocError, Global};
 pub fn layout_front<'a>(
     alloc: Global,
     rect: Rect,
-    tier: Tier,
+    tier: Option<Tier>,
     held: Held<'a>,
 ) -> Result<Option<Front<'a>>, AllocError>
     requires grid { IsGrid rect }
@@ -43,7 +43,7 @@ pub fn layout_front<'a>(
 fn behind_design<'a>(
     alloc: Global,
     rect: Rect,
-    tier: Tier,
+    tier: Option<Tier>,
     design: PinnedDesign,
     rest: &'a [u8],
     ended: bool,

@@ -16,7 +16,7 @@ pub fn smallest(
     alloc: Global,
     first: Option<Rect>,
     most: Rect,
-    tier: Tier,
+    tier: Option<Tier>,
     learnt: u64,
     bytes: &[u8],
 ) -> Result<Answer, AllocError>

@@ -22,7 +22,7 @@ use std::alloc::{AllocError, Global};
 pub fn smallest_found(
     alloc: Global,
     most: Rect,
-    tier: Tier,
+    tier: Option<Tier>,
     sides: AskedSides,
     learnt: u64,
     bytes: &[u8],
@@ -42,7 +42,7 @@ fn read_design_request(
     alloc: Global,
     sides: AskedSides,
     most: Rect,
-    tier: Tier,
+    tier: Option<Tier>,
     bytes: &[u8],
 ) -> Result<Request, DesignFault>
     requires { IsGrid most }
@@ -60,7 +60,7 @@ fn read_drawn_request(
     alloc: Global,
     sides: AskedSides,
     rect: Rect,
-    tier: Tier,
+    tier: Option<Tier>,
     bytes: &[u8],
 ) -> Result<Request, DesignFault>
     requires { IsGrid rect }

@@ -1,6 +1,7 @@
 -- Logs of which the steps are left out that the last one doesn't need.
 use Rattle.std.specs.Prelude.{◌≡◌, ◌⊎◌, ℕ, ◌+◌, ◌-◌, ◌<◌, ◌≤◌, List, [], AllPairs, Contains, length, slice_index, slice_index_or}
 use Rattle.std.specs.List.{AllZip}
+use Rattle.bt_cnf.specs.Formulas.{FormulaParts}
 use Rattle.bt_log.specs.Logs.{Step, Lemma, Learnt, LogParts}
 
 -- the step at a place
@@ -53,6 +54,11 @@ pub record IsNeeded (log : LogParts) (place : ℕ) : Type 0 where
 -- each step but the last is needed
 abbrev pub IsTight : LogParts → Type 0
 IsTight log = (place : ℕ) → place + 1 < length log.steps → IsNeeded log place
+
+-- the log's steps are numbered on from all clauses of the formula, and each of them but the last is needed
+pub record IsTightOver (f : FormulaParts) (log : LogParts) : Type 0 where
+  pub first : log.first ≡ length f.clauses
+  pub tight : IsTight log
 
 -- the steps at some places are left, in their order and renumbered; the last is among them, and each but that is needed
 pub record IsTrimmed (old new : LogParts) : Type 0 where

@@ -32,7 +32,8 @@ pub record IsOrdered (all : List (List Lit)) (s : Search) : Type 0 where
   pub reasoned : IsReasoned all s
   pub levels : AreLevels s
 
--- where a clause that was given is kept: it is one of the watched ones, or it has one literal alone, which is true before
+-- where a clause that was given is kept: it is one of the watched ones, or it has one literal alone, which is true
+-- before
 -- the first choice
 pub data IsHeld (s : Search) (clause : List Lit) : Type 0 where
   among_watched : (id : ℕ) → id < length s.clauses → AreSame clause (kept_at s.clauses id) → IsHeld s clause

@@ -9,7 +9,8 @@ use Rattle.bt_words.specs.declared.argument.Argument.TheVariants.{Named, Order, 
 use Rattle.bt_words.specs.Arguments.{IsPlain, IsValued}
 use Rattle.bt_words.specs.inner.Reading.{BeginsWith}
 
--- how an argument stands at the front of a word and the words behind it: as the word, as it and the next one, or joined by `=`
+-- how an argument stands at the front of a word and the words behind it: as the word, as it and the next one, or joined
+-- by `=`
 pub data Front (word : List ℕ) (rest : List (List ℕ)) (a : Argument) (more : List (List ℕ)) : Type 0 where
   alone : IsPlain a word → more ≡ rest → Front word rest a more
   apart : (name value : List ℕ) → IsValued a name value → word ≡ codes "--" ++ name → rest ≡ value ∷ more → Front word rest a more

@@ -210,11 +210,11 @@ grid_given (Found ∷ more) words grid (front, rest, is, at, are) e = grid_given
 grid_given (Sides ∷ more) words grid (front, rest, is, at, are) e = grid_given more rest grid are e
 
 -- the grid of `layout`, of `check-layout` and of `formula` has from 1 to `MOST_ACROSS` cells each way
-pub grid_to_lay : (grid : Rect) (tier : Tier) (learnt : ℕ) (words : List (List ℕ)) → IsCommand (Layout grid tier learnt) words → IsGrid grid
+pub grid_to_lay : (grid : Rect) (tier : Option Tier) (learnt : ℕ) (words : List (List ℕ)) → IsCommand (Layout grid tier learnt) words → IsGrid grid
 grid_to_lay grid tier learnt words (behind, g, e, (arguments, are, gives), suits) =
     grid_given arguments behind grid are (gives.grid ∙ ap (λ x. option_to_list x.grid) suits.0)
 
-pub grid_to_check : (grid : Rect) (tier : Tier) (words : List (List ℕ)) → IsCommand (CheckLayout grid tier) words → IsGrid grid
+pub grid_to_check : (grid : Rect) (tier : Option Tier) (words : List (List ℕ)) → IsCommand (CheckLayout grid tier) words → IsGrid grid
 grid_to_check grid tier words (behind, g, e, (arguments, are, gives), suits) =
     grid_given arguments behind grid are (gives.grid ∙ ap (λ x. option_to_list x.grid) suits.0)
 
@@ -245,13 +245,13 @@ greatest_given arguments words most None are none is = subst IsGrid (sym is) gre
 greatest_given arguments words most (Some grid) are one is = subst IsGrid (sym is) (most_given arguments words grid are one)
 
 -- and that of `smallest`, with `--found` or without
-pub grid_to_search : (first : Option Rect) (most : Rect) (tier : Tier) (learnt : ℕ) (words : List (List ℕ)) → IsCommand (Smallest first most tier learnt) words → IsGrid most
+pub grid_to_search : (first : Option Rect) (most : Rect) (tier : Option Tier) (learnt : ℕ) (words : List (List ℕ)) → IsCommand (Smallest first most tier learnt) words → IsGrid most
 grid_to_search first most tier learnt words (behind, g, e, (arguments, are, gives), suits) = greatest_given arguments behind most g.most are gives.most suits.0.1
 
-pub grid_to_find : (most : Rect) (tier : Tier) (sides : AskedSides) (learnt : ℕ) (words : List (List ℕ)) → IsCommand (FindSmall most tier sides learnt) words → IsGrid most
+pub grid_to_find : (most : Rect) (tier : Option Tier) (sides : AskedSides) (learnt : ℕ) (words : List (List ℕ)) → IsCommand (FindSmall most tier sides learnt) words → IsGrid most
 grid_to_find most tier sides learnt words (behind, g, e, (arguments, are, gives), suits) = greatest_given arguments behind most g.most are gives.most suits.0.1
 
 -- and that of `formula`
-pub grid_of_formula : (grid : Rect) (tier : Tier) (words : List (List ℕ)) → IsCommand (PlaceFormula grid tier) words → IsGrid grid
+pub grid_of_formula : (grid : Rect) (tier : Option Tier) (words : List (List ℕ)) → IsCommand (PlaceFormula grid tier) words → IsGrid grid
 grid_of_formula grid tier words (behind, g, e, (arguments, are, gives), suits) =
     grid_given arguments behind grid are (gives.grid ∙ ap (λ x. option_to_list x.grid) suits.0)

@@ -5,7 +5,7 @@ use Rattle.std.specs.Int.{IsInRange}
 use Rattle.std.proofs.lemmas.List.{append-nil}
 use Rattle.std.proofs.lemmas.List.Elements.{All-head}
 use Rattle.bt_flow.specs.declared.property.Property.{Property}
-use Rattle.bt_flow.specs.declared.property.Property.TheVariants.{Balanced, DrawnEvenly, Unlimited, Full}
+use Rattle.bt_flow.specs.declared.property.Property.TheVariants.{Balanced, DrawnEvenly, Unlimited, Full, Fair, DrawnFairly}
 use Rattle.bt_flow.specs.Names.{property_name}
 use Rattle.bt_frac.proofs.Numerals.{decimal-lacks, decimal_apart}
 use Rattle.bt_text.specs.Lines.{Lacks, SplitsAt}
@@ -17,19 +17,26 @@ use Rattle.bt_words.proofs.Grids.{same_grid, same_tier}
 use Rattle.bt_words.specs.inner.Reading.{BeginsWith}
 use Rattle.bt_words.proofs.Fronts.{Front, alone, apart, joined, front_of, name_lacks, some_word}
 
--- the property whose name begins with this byte
-abbrev begun_by : ℕ → Property
-begun_by byte = cond (nat_eq byte 98) Balanced (cond (nat_eq byte 100) DrawnEvenly (cond (nat_eq byte 117) Unlimited Full))
+-- the property whose name has these bytes as its first, second and seventh
+abbrev begun_by : ℕ → ℕ → ℕ → Property
+begun_by byte second seventh =
+    cond (nat_eq byte 98) Balanced
+    (cond (nat_eq byte 100) (cond (nat_eq seventh 101) DrawnEvenly DrawnFairly) (cond (nat_eq byte 117) Unlimited (cond (nat_eq second 117) Full Fair)))
 
-begins : (p : Property) → begun_by (get_or (property_name p) 0 0) ≡ p
+abbrev begun : List ℕ → Property
+begun name = begun_by (get_or name 0 0) (get_or name 1 0) (get_or name 6 0)
+
+begins : (p : Property) → begun (property_name p) ≡ p
 begins Balanced = refl
 begins DrawnEvenly = refl
 begins Unlimited = refl
 begins Full = refl
+begins Fair = refl
+begins DrawnFairly = refl
 
 -- properties with one name are one
 same_property : (p q : Property) → property_name p ≡ property_name q → p ≡ q
-same_property p q e = sym (begins p) ∙ ap (λ name. begun_by (get_or name 0 0)) e ∙ begins q
+same_property p q e = sym (begins p) ∙ ap begun e ∙ begins q
 
 -- a numeral begins with a digit
 digit_first : (k byte : ℕ) (rest : List ℕ) → k < 10 ^ 64 → ¬ IsInRange 48 57 byte → byte ∷ rest ≡ decimal k → ⊥
@@ -42,6 +49,8 @@ no_number Balanced k small e = digit_first k 98 (drop 1 (codes "balanced")) smal
 no_number DrawnEvenly k small e = digit_first k 100 (drop 1 (codes "drawn-evenly")) small (λ r. omega (arith, r.1)) e
 no_number Unlimited k small e = digit_first k 117 (drop 1 (codes "unlimited")) small (λ r. omega (arith, r.1)) e
 no_number Full k small e = digit_first k 102 (drop 1 (codes "full")) small (λ r. omega (arith, r.1)) e
+no_number Fair k small e = digit_first k 102 (drop 1 (codes "fair")) small (λ r. omega (arith, r.1)) e
+no_number DrawnFairly k small e = digit_first k 100 (drop 1 (codes "drawn-fairly")) small (λ r. omega (arith, r.1)) e
 
 -- no property's name begins with a dash
 no_dash : (p : Property) (rest : List ℕ) → property_name p ≡ 45 ∷ rest → ⊥
@@ -49,6 +58,8 @@ no_dash Balanced rest e = omega (arith, ap (λ w. get_or w 0 0) e)
 no_dash DrawnEvenly rest e = omega (arith, ap (λ w. get_or w 0 0) e)
 no_dash Unlimited rest e = omega (arith, ap (λ w. get_or w 0 0) e)
 no_dash Full rest e = omega (arith, ap (λ w. get_or w 0 0) e)
+no_dash Fair rest e = omega (arith, ap (λ w. get_or w 0 0) e)
+no_dash DrawnFairly rest e = omega (arith, ap (λ w. get_or w 0 0) e)
 
 -- a word is one argument for itself
 plain_apart : (a b : Argument) (word : List ℕ) → IsPlain a word → IsPlain b word → a ≡ b

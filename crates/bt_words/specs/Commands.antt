@@ -1,5 +1,5 @@
 -- The words of commands.
-use Rattle.std.specs.Prelude.{◌≡◌, ℕ, Bool, true, false, List, ◌∷◌, Some, None, unwrap_or}
+use Rattle.std.specs.Prelude.{◌≡◌, ◌≤◌, ℕ, Bool, true, false, List, ◌∷◌, IfSome, Some, None, unwrap_or}
 use Rattle.std.specs.Option.{option_to_list}
 use Rattle.std.specs.List.{filter_map}
 use Rattle.std.specs.declared.option.Option.{Option}
@@ -7,7 +7,6 @@ use Rattle.bt_flow.specs.declared.property.Property.{Property}
 use Rattle.bt_model.specs.declared.request.TheConstants.{MOST_ACROSS}
 use Rattle.bt_parts.specs.declared.part.Rect.{Rect}
 use Rattle.bt_parts.specs.declared.part.Tier.{Tier}
-use Rattle.bt_parts.specs.declared.part.Tier.TheVariants.{Basic}
 use Rattle.bt_words.specs.declared.argument.Argument.{Argument}
 use Rattle.bt_words.specs.declared.argument.Argument.TheVariants.{Named, Order, Chain, Learnt, Pivots, Grid, OfTier, Most, From, Found, Sides}
 use Rattle.bt_words.specs.declared.given.Given.{Given}
@@ -108,10 +107,6 @@ nothing = record { property = None; order = None; chain = false; learnt = None; 
 abbrev pub limits_of : Given → Limits
 limits_of g = record { learnt = unwrap_or g.learnt USUAL_LEARNT; pivots = unwrap_or g.pivots USUAL_PIVOTS }
 
--- the tier that is given, or else the basic one
-abbrev pub tier_of : Given → Tier
-tier_of g = unwrap_or g.tier Basic
-
 -- a butterfly, or a chain where `--chain` says so
 abbrev pub is_chain : NetworkFamily → Bool
 is_chain family.Butterfly = false
@@ -146,27 +141,38 @@ IsToCheckLayout grid g = g ≡ record nothing { grid = Some grid; tier = g.tier 
 abbrev pub greatest_grid : Rect
 greatest_grid = record { width = MOST_ACROSS; height = MOST_ACROSS }
 
--- perhaps a greatest grid, which is else the greatest of all, a grid with which a search begins, a tier and the most steps of a log are given
+-- the grid is no wider and no higher than the greatest one
+abbrev pub IsAmong : Rect → Rect → Type 0
+IsAmong most grid = (grid.width ≤ most.width) × (grid.height ≤ most.height)
+
+-- perhaps a greatest grid, which is else the greatest of all, a grid with which a search begins, which is one of those
+-- up to the greatest, a tier and the most steps of a log are given
 abbrev pub IsToSearch : Rect → Given → Type 0
-IsToSearch most g = (g ≡ record nothing { most = g.most; from = g.from; tier = g.tier; learnt = g.learnt }) × (most ≡ unwrap_or g.most greatest_grid)
+IsToSearch most g =
+    (g ≡ record nothing { most = g.most; from = g.from; tier = g.tier; learnt = g.learnt }) × (most ≡ unwrap_or g.most greatest_grid) × IfSome g.from (IsAmong most)
 
 -- `--found` is given, and perhaps `--sides`, a greatest grid likewise, a tier and the most steps of all logs
 abbrev pub IsToFind : Rect → Given → Type 0
 IsToFind most g = (g ≡ record nothing { found = true; sides = g.sides; most = g.most; tier = g.tier; learnt = g.learnt }) × (most ≡ unwrap_or g.most greatest_grid)
 
--- what a command is given: a property, or nothing; `decide` a property, and limits where they aren't the usual ones; `make` an order, and whether it is that of a chain, and limits; those that speak of layouts a grid, and a tier where it isn't the basic one, and `layout` the most steps of a log where they aren't the usual ones; `smallest` a greatest grid where it isn't the greatest of all, the grid with which it begins where that isn't the least of all, a tier and the most steps likewise, and with `--found` it looks for small layouts, and perhaps for those that keep sides; `formula` a property, or a grid and a tier; and `same` limits where they aren't the usual ones
+-- what a command is given: a property, or nothing; `decide` a property, and limits where they aren't the usual ones;
+-- `make` an order, and whether it is that of a chain, and limits; those that speak of layouts a grid, and a tier where
+-- it isn't the request's own, and `layout` the most steps of a log where they aren't the usual ones; `smallest` a
+-- greatest grid where it isn't the greatest of all, the grid with which it begins where that isn't the least of all, a
+-- tier and the most steps likewise, and with `--found` it looks for small layouts, and perhaps for those that keep
+-- sides; `formula` a property, or a grid and a tier; and `same` limits where they aren't the usual ones
 abbrev pub Suits : Command → Given → Type 0
 Suits (FlowCheck p) g = g ≡ record nothing { property = Some p }
 Suits Recover g = g ≡ nothing
 Suits (Check p) g = g ≡ record nothing { property = Some p }
 Suits (Decide p limits) g = IsToDecide p g × (limits ≡ limits_of g)
 Suits (Make kind order limits) g = IsToMake order g × (is_chain kind ≡ g.chain) × (limits ≡ limits_of g)
-Suits (Layout grid tier learnt) g = IsToLay grid g × (tier ≡ tier_of g) × (learnt ≡ (limits_of g).learnt)
-Suits (CheckLayout grid tier) g = IsToCheckLayout grid g × (tier ≡ tier_of g)
-Suits (Smallest first most tier learnt) g = IsToSearch most g × (first ≡ g.from) × (tier ≡ tier_of g) × (learnt ≡ (limits_of g).learnt)
-Suits (FindSmall most tier sides learnt) g = IsToFind most g × (tier ≡ tier_of g) × (are_kept sides ≡ g.sides) × (learnt ≡ (limits_of g).learnt)
+Suits (Layout grid tier learnt) g = IsToLay grid g × (tier ≡ g.tier) × (learnt ≡ (limits_of g).learnt)
+Suits (CheckLayout grid tier) g = IsToCheckLayout grid g × (tier ≡ g.tier)
+Suits (Smallest first most tier learnt) g = IsToSearch most g × (first ≡ g.from) × (tier ≡ g.tier) × (learnt ≡ (limits_of g).learnt)
+Suits (FindSmall most tier sides learnt) g = IsToFind most g × (tier ≡ g.tier) × (are_kept sides ≡ g.sides) × (learnt ≡ (limits_of g).learnt)
 Suits (FlowFormula p) g = g ≡ record nothing { property = Some p }
-Suits (PlaceFormula grid tier) g = IsToCheckLayout grid g × (tier ≡ tier_of g)
+Suits (PlaceFormula grid tier) g = IsToCheckLayout grid g × (tier ≡ g.tier)
 Suits (Same limits) g = IsToCompare g × (limits ≡ limits_of g)
 Suits CheckSame g = g ≡ nothing
 

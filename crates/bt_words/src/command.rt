@@ -46,22 +46,23 @@ pub enum Command {
     Decide(Property, Limits),
     /// `make`: is the network of this kind and order balanced?
     Make(NetworkFamily, u32, Limits),
-    /// `layout`: how do parts of this tier on this grid show the network that is asked for, found in at
-    /// most so many steps of a log?
-    Layout(Rect, Tier, u64),
-    /// `check-layout`: does the certificate show that no parts of this tier on this grid do?
-    CheckLayout(Rect, Tier),
+    /// `layout`: how do parts of this tier, or of the request's own, on this grid show the network that is asked for,
+    /// found in at most so many steps of a log?
+    Layout(Rect, Option<Tier>, u64),
+    /// `check-layout`: does the certificate show that no parts of this tier, or of the request's own, on this grid do?
+    CheckLayout(Rect, Option<Tier>),
     /// `smallest`: what is the least grid, from the first on where one is named, and of at most so many cells each
-    /// way, on which parts of this tier show the network, found in at most so many steps of a log for each grid?
-    Smallest(Option<Rect>, Rect, Tier, u64),
+    /// way, on which parts of this tier, or of basic ones, show the network, found in at most so many steps of a log for
+    /// each grid?
+    Smallest(Option<Rect>, Rect, Option<Tier>, u64),
     /// `smallest --found`: on which small grids, of at most so many cells each way and within the design's own
-    /// cells, do parts of this tier show the design's network, with its ends at these sides, found in at most so
-    /// many steps of all searches?
-    FindSmall(Rect, Tier, AskedSides, u64),
+    /// cells, do parts of this tier, or of the design's own, show the design's network, with its ends at these sides,
+    /// found in at most so many steps of all searches?
+    FindSmall(Rect, Option<Tier>, AskedSides, u64),
     /// `formula`: which formula do the states meet in which the design hasn't the property?
     FlowFormula(Property),
-    /// `formula`: which formula do the layouts meet of parts of this tier on this grid?
-    PlaceFormula(Rect, Tier),
+    /// `formula`: which formula do the layouts meet of parts of this tier, or of the request's own, on this grid?
+    PlaceFormula(Rect, Option<Tier>),
     /// `same`: do the networks of two designs behave the same?
     Same(Limits),
     /// `check-same`: does the certificate show that they do, or that they don't?
@@ -116,7 +117,7 @@ fn laid(given: Given) -> Option<Command>
         (λ c. (Layout ≡ verb_of c) × Suits c given) }
 {
     let grid = given.grid_to_lay()?;
-    Some(Command::Layout(grid, given.tier(), given.limits().learnt))
+    Some(Command::Layout(grid, given.tier, given.limits().learnt))
 }
 
 /// `check-layout`, where what is given suits it.
@@ -125,7 +126,7 @@ fn layout_checked(given: Given) -> Option<Command>
         (λ c. (CheckLayout ≡ verb_of c) × Suits c given) }
 {
     let grid = given.grid_to_check()?;
-    Some(Command::CheckLayout(grid, given.tier()))
+    Some(Command::CheckLayout(grid, given.tier))
 }
 
 /// `smallest`, where what is given suits it, with `--found` or without.
@@ -135,10 +136,10 @@ fn smallest(given: Given) -> Option<Command>
 {
     let learnt = given.limits().learnt;
     if let Some(most) = given.most_to_find() {
-        return Some(Command::FindSmall(most, given.tier(), given.asked_sides(), learnt));
+        return Some(Command::FindSmall(most, given.tier, given.asked_sides(), learnt));
     }
     let most = given.most_to_search()?;
-    Some(Command::Smallest(given.from, most, given.tier(), learnt))
+    Some(Command::Smallest(given.from, most, given.tier, learnt))
 }
 
 /// `formula`, where what is given suits it: a property, or a grid.
@@ -150,5 +151,5 @@ fn formula_of(given: Given) -> Option<Command>
         return Some(Command::FlowFormula(property));
     }
     let grid = given.grid_to_check()?;
-    Some(Command::PlaceFormula(grid, given.tier()))
+    Some(Command::PlaceFormula(grid, given.tier))
 }

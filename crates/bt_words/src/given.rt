@@ -1,10 +1,10 @@
 //! What is given behind a command's word, each argument at most once.
-ghost use Rattle.std.specs.Prelude.{◌≡◌, ℕ, List, [], ◌∷◌, Some, MatchOption, map, string_bytes};
+ghost use Rattle.std.specs.Prelude.{◌≡◌, ℕ, IfSome, List, [], ◌∷◌, Some, MatchOption, map, string_bytes};
 ghost use Rattle.std.specs.Prelude.{◌↔◌, IsTrue};
 ghost use Rattle.bt_flow.specs.declared.property.Property.{Property as AProperty};
 ghost use Rattle.bt_parts.specs.declared.part.Rect.{Rect as ARect};
-ghost use Rattle.bt_words.specs.Commands.{IsGiven, IsToDecide, IsToMake, IsToLay, IsToCheckLayout, IsToSearch, IsToFind, IsToCompare};
-ghost use Rattle.bt_words.specs.Commands.{are_kept, is_chain, limits_of, tier_of, nothing};
+ghost use Rattle.bt_words.specs.Commands.{IsAmong, IsGiven, IsToDecide, IsToMake, IsToLay, IsToCheckLayout, IsToSearch, IsToFind, IsToCompare};
+ghost use Rattle.bt_words.specs.Commands.{are_kept, is_chain, limits_of, nothing};
 ghost use Rattle.bt_words.specs.inner.Reading.{Adds};
 ghost use Rattle.bt_words.specs.declared.argument.Argument.{Argument as AnArgument};
 ghost use Rattle.bt_words.specs.declared.given.Given.{Given as AGiven};
@@ -288,8 +288,8 @@ impl Given {
         }
     }
 
-    /// The greatest grid that is searched, where nothing is given but it, the grid with which a search begins, the
-    /// tier and the most steps of a log: the one that is given, or else the greatest of all.
+    /// The greatest grid that is searched, where nothing is given but it, the grid with which a search begins, which is
+    /// one of those up to it, the tier and the most steps of a log: the one that is given, or else the greatest of all.
     pub fn most_to_search(self) -> Option<Rect>
         ensures { MatchOption result ((r : ARect) → IsToSearch r self → ⊥) (λ r. IsToSearch r self) }
     {
@@ -301,10 +301,11 @@ impl Given {
                 pivots: None,
                 grid: None,
                 most,
+                from,
                 found: false,
                 sides: false,
                 ..
-            } => Some(most.unwrap_or(GREATEST_GRID)),
+            } => most_from(most.unwrap_or(GREATEST_GRID), from),
             _ => None,
         }
     }
@@ -340,13 +341,6 @@ impl Given {
         }
     }
 
-    /// The tier that is given, or else the basic one.
-    pub fn tier(self) -> Tier
-        ensures { result ≡ tier_of self }
-    {
-        self.tier.unwrap_or(Tier::Basic)
-    }
-
     /// The limits that are given, or else the usual ones.
     pub fn limits(self) -> Limits
         ensures { result ≡ limits_of self }
@@ -355,5 +349,16 @@ impl Given {
             learnt: self.learnt.unwrap_or(USUAL_LEARNT),
             pivots: self.pivots.unwrap_or(USUAL_PIVOTS),
         }
+    }
+}
+
+/// The greatest grid, where the one with which a search begins is among those up to it.
+fn most_from(most: Rect, from: Option<Rect>) -> Option<Rect>
+    ensures { MatchOption result (IfSome from (IsAmong most) → ⊥)
+        (λ r. (r ≡ most) × IfSome from (IsAmong most)) }
+{
+    match from {
+        Some(grid) if grid.width > most.width || grid.height > most.height => None,
+        _ => Some(most),
     }
 }

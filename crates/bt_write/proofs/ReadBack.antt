@@ -38,10 +38,12 @@ use Rattle.bt_entities.specs.Members.{IsWhole}
 use Rattle.bt_entities.specs.Names.{name_of}
 use Rattle.bt_entities.specs.Places.{width_of, height_of, IsMiddle}
 use Rattle.bt_entities.specs.Entities.{HasKind, HasDirection, direction_value, IsHalves, IsPlaced, HasPriority, IsPlain, IsEntity, special_in_layouts}
-use Rattle.bt_entities.specs.Blueprints.{AreParts, IsBlueprintOf}
+use Rattle.bt_entities.specs.Blueprints.{AreParts, IsBlueprintOf, IsVersion}
 use Rattle.bt_entities.proofs.Placed.{plain_layout}
 use Rattle.bt_entities.proofs.Whole.{all_in_range}
-use Rattle.bt_write.specs.Written.{family_of, half_text, halves_text, twice_middle, entity_text, blueprint_text, type_member}
+use Rattle.bt_write.specs.declared.version.Version.{Version}
+use Rattle.bt_write.specs.declared.version.Version.TheVariants.{Older, Newer}
+use Rattle.bt_write.specs.Written.{family_of, half_text, halves_text, twice_middle, end_text, entity_text, blueprint_text, major_of, type_member, version_digits, version_for}
 use Rattle.bt_write.specs.ReadBack.{HasCentreInRange, WrittenIsRead}
 use Rattle.bt_write.proofs.CompactJson.{is_simple, quoted, simple_text, values, value_after, number_by, number_spelled, no_more_members, more_member, first_member, no_more_items, more_item, first_item, empty_list}
 
@@ -100,7 +102,7 @@ halves_are : (z : ℤ) → unsigned_abs z ≤ MOST_HALVES → IsHalves (halves_n
 halves_are (pos n) near = (half_is false n (omega (arith, near)), near)
 halves_are (negsuc n) near = (subst (IsTimes 2 (half_number true (n + 1))) (omega (arith, ints)) (half_is true (n + 1) (omega (arith, ints, near))), near)
 
--- ---- entities
+-- ---- what is the same in each version
 
 abbrev type_members : Kind → Members
 type_members Belt = no_members
@@ -110,10 +112,6 @@ type_members Splitter = no_members
 
 abbrev position_json : Part → Json
 position_json p = object (member (codes "x") (number (halves_number (twice_middle p.cell.x (width_of p.kind p.dir)))) (member (codes "y") (number (halves_number (twice_middle p.cell.y (height_of p.kind p.dir)))) no_members))
-
-abbrev entity_json : ℕ → Part → Json
-entity_json n p = object (member (codes "entity_number") (number (natural n)) (member (codes "name") (text (name_of (family_of p.kind) p.tier)) (member (codes "position") (position_json p)
-    (member (codes "direction") (number (natural (direction_value 1 p.dir))) (type_members p.kind)))))
 
 name_simple : (f : EntityFamily) (t : Tier) → list_all is_simple (name_of f t) ≡ true
 name_simple Belts Basic = refl
@@ -134,12 +132,6 @@ type_spelled Belt = no_more_members
 type_spelled Entrance = more_member (codes "type") (text (codes "input")) no_members (quoted (codes "type")) (quoted (codes "input")) (125 ∷ []) (simple_text (codes "type") refl) (simple_text (codes "input") refl) no_more_members
 type_spelled Exit = more_member (codes "type") (text (codes "output")) no_members (quoted (codes "type")) (quoted (codes "output")) (125 ∷ []) (simple_text (codes "type") refl) (simple_text (codes "output") refl) no_more_members
 type_spelled Splitter = no_more_members
-
-direction_small : (d : Dir) → direction_value 1 d < 10 ^ 64
-direction_small North = omega arith
-direction_small East = omega arith
-direction_small South = omega arith
-direction_small West = omega arith
 
 abbrev position_text : List ℕ → List ℕ → List ℕ
 position_text x y = 123 ∷ (quoted (codes "x") ++ 58 ∷ (x ++ 44 ∷ (quoted (codes "y") ++ 58 ∷ (y ++ 125 ∷ []))))
@@ -182,107 +174,23 @@ entity_of number_is direction name position types d x y k t is_number simple is_
     (more_member (codes "position") position with_direction (quoted (codes "position")) (position_text x y) direction_text (simple_text (codes "position") refl) is_position
     (more_member (codes "direction") (number direction) types (quoted (codes "direction")) k t (simple_text (codes "direction") refl) is_direction more))))
 
-entity_spelled : (n : ℕ) (p : Part) → n < 10 ^ 64 → HasCentreInRange p → IsValue (entity_json n p) (entity_text n p)
-entity_spelled n p small near =
-    let x = twice_middle p.cell.x (width_of p.kind p.dir) in
-    let y = twice_middle p.cell.y (height_of p.kind p.dir) in
-    entity_of (natural n) (natural (direction_value 1 p.dir)) (name_of (family_of p.kind) p.tier) (position_json p) (type_members p.kind) (decimal n) (halves_text x) (halves_text y) (decimal (direction_value 1 p.dir)) (type_member p.kind)
-    (natural_spelled n small) (name_simple (family_of p.kind) p.tier) (position_spelled (halves_number x) (halves_number y) (halves_text x) (halves_text y) (halves_spelled x near.0) (halves_spelled y near.1))
-    (natural_spelled (direction_value 1 p.dir) (direction_small p.dir)) (type_spelled p.kind)
-
--- ---- the list of entities
-
 abbrev Numbered : Type 0
 Numbered = ℕ × Part
-
-abbrev numbered_text : Numbered → List ℕ
-numbered_text numbered = entity_text numbered.0 numbered.1
-
-abbrev numbered_json : Numbered → Json
-numbered_json numbered = entity_json numbered.0 numbered.1
-
-abbrev more_text : List Numbered → List ℕ
-more_text [] = 93 ∷ []
-more_text (x ∷ xs) = 44 ∷ (numbered_text x ++ more_text xs)
-
-joined : (x : Numbered) (xs : List Numbered) → join_with_byte 44 (map numbered_text (x ∷ xs)) ++ 93 ∷ [] ≡ numbered_text x ++ more_text xs
-joined x [] = refl
-joined x (y ∷ ys) = append_assoc (numbered_text x) (44 ∷ join_with_byte 44 (map numbered_text (y ∷ ys))) (93 ∷ []) ∙ ap (λ t. numbered_text x ++ 44 ∷ t) (joined y ys)
 
 -- each has a number that can be written and a centre in range
 abbrev CanBeWritten : List Numbered → Type 0
 CanBeWritten [] = Unit {0}
 CanBeWritten (x ∷ xs) = (x.0 < 10 ^ 64) × HasCentreInRange x.1 × CanBeWritten xs
 
-more_spelled : (xs : List Numbered) → CanBeWritten xs → MoreItems (items_of (map numbered_json xs)) (more_text xs)
-more_spelled [] can = no_more_items
-more_spelled (x ∷ xs) can = more_item (numbered_json x) (items_of (map numbered_json xs)) (numbered_text x) (more_text xs) (entity_spelled x.0 x.1 can.0 can.1) (more_spelled xs can.2)
-
-list_spelled : (xs : List Numbered) → CanBeWritten xs → IsValue (list (items_of (map numbered_json xs))) (91 ∷ (join_with_byte 44 (map numbered_text xs) ++ 93 ∷ []))
-list_spelled [] can = empty_list
-list_spelled (x ∷ xs) can = subst (λ t. IsValue (list (items_of (map numbered_json (x ∷ xs)))) (91 ∷ t)) (sym (joined x xs))
-    (first_item (numbered_json x) (items_of (map numbered_json xs)) (numbered_text x) (more_text xs) (entity_spelled x.0 x.1 can.0 can.1) (more_spelled xs can.2))
-
 can_all : (n : ℕ) (parts : List Part) → n + length parts < 10 ^ 64 → All HasCentreInRange parts → CanBeWritten (enumerate_from n parts)
 can_all n [] small near = tt
 can_all n (p ∷ ps) small near = (omega arith, All-head HasCentreInRange p ps near, can_all (n + 1) ps (omega arith) (All-tail HasCentreInRange p ps near))
-
--- ---- the whole
-
--- version 1.1.0
-abbrev version_number : Number
-version_number = number_by false (codes "281479271677952") []
-
-version_spells : Spells (codes "281479271677952") 281479271677952
-version_spells = record {
-  some_digit = lit< tt;
-  digits = (lit< tt, (lit< tt, (lit< tt, (lit< tt, (lit< tt, (lit< tt, (lit< tt, (lit< tt, (lit< tt, (lit< tt, (lit< tt, (lit< tt, (lit< tt, (lit< tt, (lit< tt, tt)))))))))))))));
-  no_zero = λ e. absurd (omega (arith, e));
-  value = refl;
-}
-
-version_is : IsWhole (number version_number) 281479271677952
-version_is = (version_number, refl, (281479271677952, refl, refl))
-
-abbrev blueprint_json : List Json → Json
-blueprint_json entities = object (member (codes "item") (text (codes "blueprint")) (member (codes "entities") (list (items_of entities)) (member (codes "version") (number version_number) no_members)))
-
-abbrev root_json : List Json → Json
-root_json entities = object (member (codes "blueprint") (blueprint_json entities) no_members)
-
-abbrev root_text : List ℕ → List ℕ
-root_text all = 123 ∷ (quoted (codes "blueprint") ++ 58 ∷ ((123 ∷ (quoted (codes "item") ++ 58 ∷ (quoted (codes "blueprint") ++ 44 ∷ (quoted (codes "entities") ++ 58 ∷ ((91 ∷ (all ++ 93 ∷ [])) ++ 44 ∷ (quoted (codes "version") ++ 58 ∷ (codes "281479271677952" ++ 125 ∷ []))))))) ++ 125 ∷ []))
-
-root_spelled : (entities : List Json) (all : List ℕ) → IsValue (list (items_of entities)) (91 ∷ (all ++ 93 ∷ [])) → IsValue (root_json entities) (root_text all)
-root_spelled entities all is_list =
-    let version_member : Members = member (codes "version") (number version_number) no_members in
-    let version_text : List ℕ = 44 ∷ (quoted (codes "version") ++ 58 ∷ (codes "281479271677952" ++ 125 ∷ [])) in
-    let list_member : Members = member (codes "entities") (list (items_of entities)) version_member in
-    let list_text : List ℕ = 44 ∷ (quoted (codes "entities") ++ 58 ∷ ((91 ∷ (all ++ 93 ∷ [])) ++ version_text)) in
-    first_member (codes "blueprint") (blueprint_json entities) no_members (quoted (codes "blueprint")) (123 ∷ (quoted (codes "item") ++ 58 ∷ (quoted (codes "blueprint") ++ list_text))) (125 ∷ []) (simple_text (codes "blueprint") refl)
-    (first_member (codes "item") (text (codes "blueprint")) list_member (quoted (codes "item")) (quoted (codes "blueprint")) list_text (simple_text (codes "item") refl) (simple_text (codes "blueprint") refl)
-    (more_member (codes "entities") (list (items_of entities)) version_member (quoted (codes "entities")) (91 ∷ (all ++ 93 ∷ [])) version_text (simple_text (codes "entities") refl) is_list
-    (more_member (codes "version") (number version_number) no_members (quoted (codes "version")) (codes "281479271677952") (125 ∷ []) (simple_text (codes "version") refl)
-    (subst (IsNumber version_number) (append-nil (codes "281479271677952")) (number_spelled false (codes "281479271677952") 281479271677952 [] [] [] version_spells refl refl)) no_more_members)))
-    no_more_members
-
-whole_text : (all : List ℕ) → codes "{\"blueprint\":{\"item\":\"blueprint\",\"entities\":[" ++ all ++ codes "],\"version\":281479271677952}}\n" ≡ root_text all ++ 10 ∷ []
-whole_text all = simp append_assoc
-
--- ---- levels and names
 
 type_flat : (k : Kind) → members_depth (type_members k) ≡ 0
 type_flat Belt = refl
 type_flat Entrance = refl
 type_flat Exit = refl
 type_flat Splitter = refl
-
-entity_depth : (n : ℕ) (p : Part) → depth_of (entity_json n p) ≤ 2
-entity_depth n p = omega (arith, type_flat p.kind)
-
-entities_depth : (xs : List Numbered) → items_depth (items_of (map numbered_json xs)) ≤ 2
-entities_depth [] = omega arith
-entities_depth (x ∷ xs) = omega (arith, entity_depth x.0 x.1, entities_depth xs)
 
 unnamed : (names : List (List ℕ)) (n : List ℕ) → has_name names n ≡ false → Contains names n → ⊥
 unnamed names n e c = false≢true (sym e ∙ named_there names n c)
@@ -293,58 +201,8 @@ type_names Entrance = (unnamed (codes "entity_number" ∷ codes "name" ∷ codes
 type_names Exit = (unnamed (codes "entity_number" ∷ codes "name" ∷ codes "position" ∷ codes "direction" ∷ []) (codes "type") refl, tt, tt)
 type_names Splitter = tt
 
-entity_names : (n : ℕ) (p : Part) → HasDistinctNames (entity_json n p)
-entity_names n p = (
-  unnamed [] (codes "entity_number") refl,
-  tt,
-  (
-    unnamed (codes "entity_number" ∷ []) (codes "name") refl,
-    tt,
-    (
-      unnamed (codes "entity_number" ∷ codes "name" ∷ []) (codes "position") refl,
-      (unnamed [] (codes "x") refl, tt, (unnamed (codes "x" ∷ []) (codes "y") refl, tt, tt)),
-      (unnamed (codes "entity_number" ∷ codes "name" ∷ codes "position" ∷ []) (codes "direction") refl, tt, type_names p.kind),
-    ),
-  ),
-)
-
-entities_names : (xs : List Numbered) → ItemsHaveDistinctNames (items_of (map numbered_json xs))
-entities_names [] = tt
-entities_names (x ∷ xs) = (entity_names x.0 x.1, entities_names xs)
-
-root_names : (xs : List Numbered) → HasDistinctNames (root_json (map numbered_json xs))
-root_names xs = (unnamed [] (codes "blueprint") refl, (unnamed [] (codes "item") refl, tt, (unnamed (codes "item" ∷ []) (codes "entities") refl, entities_names xs, (unnamed (codes "item" ∷ codes "entities" ∷ []) (codes "version") refl, tt, tt))), tt)
-
--- ---- what it says
-
-family_kind : (n : ℕ) (p : Part) (k : Kind) → p.kind ≡ k → HasKind (entity_json n p) k
-family_kind n p Belt is = (p.tier, ap (λ k. Some (text (name_of (family_of k) p.tier))) is)
-family_kind n p Entrance is = ((p.tier, ap (λ k. Some (text (name_of (family_of k) p.tier))) is), ap (λ k. value_at (type_members k) (codes "type")) is)
-family_kind n p Exit is = ((p.tier, ap (λ k. Some (text (name_of (family_of k) p.tier))) is), ap (λ k. value_at (type_members k) (codes "type")) is)
-family_kind n p Splitter is = (p.tier, ap (λ k. Some (text (name_of (family_of k) p.tier))) is)
-
 middle : (z : ℤ) (size : ℕ) → IsMiddle (twice_middle z size) size 0 z
 middle z size = ap (λ s. (pos 2 *ℤ z) +ℤ pos s) (omega arith)
-
-entity_dir : (n : ℕ) (p : Part) → HasDirection 1 (entity_json n p) p.dir
-entity_dir n p = inr (number (natural (direction_value 1 p.dir)), refl, natural_is (direction_value 1 p.dir) (direction_small p.dir))
-
-entity_placed : (n : ℕ) (p : Part) → HasCentreInRange p → IsPlaced 1 (record { x = 0; y = 0 }) (entity_json n p) p.cell
-entity_placed n p near = record {
-  kind = p.kind;
-  has_kind = family_kind n p p.kind refl;
-  dir = p.dir;
-  has_dir = entity_dir n p;
-  x = halves_number (twice_middle p.cell.x (width_of p.kind p.dir));
-  y = halves_number (twice_middle p.cell.y (height_of p.kind p.dir));
-  has_position = record { position = position_json p; is_there = refl; has_x = refl; has_y = refl };
-  twice_x = twice_middle p.cell.x (width_of p.kind p.dir);
-  halves_x = halves_are _ near.0;
-  middle_x = middle p.cell.x (width_of p.kind p.dir);
-  twice_y = twice_middle p.cell.y (height_of p.kind p.dir);
-  halves_y = halves_are _ near.1;
-  middle_y = middle p.cell.y (height_of p.kind p.dir);
-}
 
 -- an entity has no member that no layout has
 record LacksAll (members : Members) : Type 0 where
@@ -363,79 +221,248 @@ type_lacks Splitter = record { input = refl; output = refl; condition = refl; fi
 abbrev even : Priority
 even = record { give = None; take = None }
 
-entity_even : (n : ℕ) (p : Part) → HasPriority (entity_json n p) even
-entity_even n p = let lacks = type_lacks p.kind in record { gives = λ f. inl lacks.output; takes = λ f. inl lacks.input }
+-- ---- versions
 
-entity_plain : (n : ℕ) (p : Part) → IsPlain special_in_layouts (entity_json n p)
-entity_plain n p = let lacks = type_lacks p.kind in plain_layout (entity_json n p) even lacks.condition lacks.filter refl refl (entity_even n p)
+-- the version of a blueprint
+abbrev version_number : Version → Number
+version_number version = number_by false (version_digits version) []
 
-entity_is : (m n : ℕ) (first p : Part) → HasCentreInRange first → HasCentreInRange p → IsEntity special_in_layouts 1 (entity_json m first) (entity_json n p) p
-entity_is m n first p near_first near = record {
-  has_kind = family_kind n p p.kind refl;
-  has_tier = (family_of p.kind, refl);
-  has_dir = entity_dir n p;
-  in_cell = record {
-    shift = record { x = 0; y = 0 };
-    sets = record { small_x = omega arith; small_y = omega arith; cell = first.cell; placed = entity_placed m first near_first };
-    placed = entity_placed n p near;
-  };
-  priority = even;
-  has_priority = entity_even n p;
-  plain = entity_plain n p;
+older_spells : Spells (codes "281479271677952") 281479271677952
+older_spells = record {
+  some_digit = lit< tt;
+  digits = (lit< tt, (lit< tt, (lit< tt, (lit< tt, (lit< tt, (lit< tt, (lit< tt, (lit< tt, (lit< tt, (lit< tt, (lit< tt, (lit< tt, (lit< tt, (lit< tt, (lit< tt, tt)))))))))))))));
+  no_zero = λ e. absurd (omega (arith, e));
+  value = refl;
 }
 
-entity_there : (n : ℕ) (parts : List Part) (i : ℕ) (v : Json) → slice_get (map numbered_json (enumerate_from n parts)) i ≡ Some v → (p : Part) × (slice_get parts i ≡ Some p) × (v ≡ entity_json (n + i) p)
-entity_there n [] i v is = absurd (none-some v is)
-entity_there n (p ∷ ps) zero v is = (p, refl, sym (same_Some (entity_json n p) v is) ∙ ap (λ k. entity_json k p) (omega arith))
-entity_there n (p ∷ ps) (suc i) v is =
-    let on = entity_there (n + 1) ps i v is in
-    (on.0, on.1, on.2 ∙ ap (λ k. entity_json k on.0) (omega arith))
-
-parts_are : (parts : List Part) → All HasCentreInRange parts → AreParts special_in_layouts 1 (map numbered_json (enumerate_from 1 parts)) parts
-parts_are parts near = record {
-  same_length = sym (length-map (enumerate_from 1 parts) numbered_json ∙ length-enumerate_from 1 parts);
-  each = λ first v part i is_first is_v is_part.
-      let a = entity_there 1 parts 0 first is_first in
-      let b = entity_there 1 parts i v is_v in
-      let same = same_Some b.0 part (sym b.1 ∙ is_part) in
-      let near_of : (j : ℕ) (p : Part) → slice_get parts j ≡ Some p → HasCentreInRange p = λ j p h. subst HasCentreInRange (get_or_from_slice_get parts j p p h) (near j p (slice_get_within parts j p h)) in
-      subst (λ p. IsEntity special_in_layouts 1 first v p) same (subst (λ w. IsEntity special_in_layouts 1 first w b.0) (sym b.2) (subst (λ w. IsEntity special_in_layouts 1 w (entity_json (1 + i) b.0) b.0) (sym a.2)
-      (entity_is (1 + 0) (1 + i) a.0 b.0 (near_of 0 a.0 a.1) (near_of i b.0 b.1))));
+newer_spells : Spells (codes "562949953421312") 562949953421312
+newer_spells = record {
+  some_digit = lit< tt;
+  digits = (lit< tt, (lit< tt, (lit< tt, (lit< tt, (lit< tt, (lit< tt, (lit< tt, (lit< tt, (lit< tt, (lit< tt, (lit< tt, (lit< tt, (lit< tt, (lit< tt, (lit< tt, tt)))))))))))))));
+  no_zero = λ e. absurd (omega (arith, e));
+  value = refl;
 }
 
-blueprint_of : (parts : List Part) → length parts ≤ MOST_ENTITIES → All HasCentreInRange parts → IsBlueprintOf special_in_layouts (root_json (map numbered_json (enumerate_from 1 parts))) parts
-blueprint_of parts few near = record {
-  major = 1;
-  entities = map numbered_json (enumerate_from 1 parts);
-  is_blueprint = record {
-    blueprint = blueprint_json (map numbered_json (enumerate_from 1 parts));
-    is_there = refl;
-    is_object = (_, refl);
-    has_major = inr (number version_number, refl, (281479271677952, omega arith, version_is, refl));
-    has_entities = inr refl;
-  };
-  few = omega (arith, few, length-map (enumerate_from 1 parts) numbered_json, length-enumerate_from 1 parts);
-  are_parts = parts_are parts near;
-}
+version_spelled : (version : Version) → IsNumber (version_number version) (version_digits version)
+version_spelled Older =
+    subst (IsNumber (version_number Older)) (append-nil (version_digits Older)) (number_spelled false (version_digits Older) 281479271677952 [] [] [] older_spells refl refl)
+version_spelled Newer =
+    subst (IsNumber (version_number Newer)) (append-nil (version_digits Newer)) (number_spelled false (version_digits Newer) 562949953421312 [] [] [] newer_spells refl refl)
+
+has_version : (version : Version) → IsVersion (number (version_number version)) (major_of version)
+has_version Older = (281479271677952, omega arith, (version_number Older, refl, (281479271677952, refl, refl)), refl)
+has_version Newer = (562949953421312, omega arith, (version_number Newer, refl, (562949953421312, refl, refl)), refl)
+
+direction_small : (version : Version) (d : Dir) → direction_value (major_of version) d < 10 ^ 64
+direction_small Older North = omega arith
+direction_small Older East = omega arith
+direction_small Older South = omega arith
+direction_small Older West = omega arith
+direction_small Newer North = omega arith
+direction_small Newer East = omega arith
+direction_small Newer South = omega arith
+direction_small Newer West = omega arith
+
+abbrev text_of_version : Version → List ℕ → List ℕ
+text_of_version version all = 123 ∷ (quoted (codes "blueprint") ++ 58 ∷ ((123 ∷ (quoted (codes "item") ++ 58 ∷ (quoted (codes "blueprint") ++ 44 ∷ (quoted (codes "entities") ++ 58 ∷ ((91 ∷ (all ++ 93 ∷ [])) ++ 44 ∷ (quoted (codes "version") ++ 58 ∷ (version_digits version ++ 125 ∷ []))))))) ++ 125 ∷ []))
+
+-- ---- entities, and the whole
+
+module _ (version : Version) where
+  abbrev entity_json : ℕ → Part → Json
+  entity_json n p = object (member (codes "entity_number") (number (natural n)) (member (codes "name") (text (name_of (family_of p.kind) p.tier)) (member (codes "position") (position_json p)
+      (member (codes "direction") (number (natural (direction_value (major_of version) p.dir))) (type_members p.kind)))))
+
+  entity_spelled : (n : ℕ) (p : Part) → n < 10 ^ 64 → HasCentreInRange p → IsValue (entity_json n p) (entity_text version n p)
+  entity_spelled n p small near =
+      let x = twice_middle p.cell.x (width_of p.kind p.dir) in
+      let y = twice_middle p.cell.y (height_of p.kind p.dir) in
+      entity_of (natural n) (natural (direction_value (major_of version) p.dir)) (name_of (family_of p.kind) p.tier) (position_json p) (type_members p.kind) (decimal n) (halves_text x) (halves_text y) (decimal (direction_value (major_of version) p.dir)) (type_member p.kind)
+      (natural_spelled n small) (name_simple (family_of p.kind) p.tier) (position_spelled (halves_number x) (halves_number y) (halves_text x) (halves_text y) (halves_spelled x near.0) (halves_spelled y near.1))
+      (natural_spelled (direction_value (major_of version) p.dir) (direction_small version p.dir)) (type_spelled p.kind)
+
+  abbrev numbered_text : Numbered → List ℕ
+  numbered_text numbered = entity_text version numbered.0 numbered.1
+
+  abbrev numbered_json : Numbered → Json
+  numbered_json numbered = entity_json numbered.0 numbered.1
+
+  abbrev more_text : List Numbered → List ℕ
+  more_text [] = 93 ∷ []
+  more_text (x ∷ xs) = 44 ∷ (numbered_text x ++ more_text xs)
+
+  joined : (x : Numbered) (xs : List Numbered) → join_with_byte 44 (map numbered_text (x ∷ xs)) ++ 93 ∷ [] ≡ numbered_text x ++ more_text xs
+  joined x [] = refl
+  joined x (y ∷ ys) = append_assoc (numbered_text x) (44 ∷ join_with_byte 44 (map numbered_text (y ∷ ys))) (93 ∷ []) ∙ ap (λ t. numbered_text x ++ 44 ∷ t) (joined y ys)
+
+  more_spelled : (xs : List Numbered) → CanBeWritten xs → MoreItems (items_of (map numbered_json xs)) (more_text xs)
+  more_spelled [] can = no_more_items
+  more_spelled (x ∷ xs) can = more_item (numbered_json x) (items_of (map numbered_json xs)) (numbered_text x) (more_text xs) (entity_spelled x.0 x.1 can.0 can.1) (more_spelled xs can.2)
+
+  list_spelled : (xs : List Numbered) → CanBeWritten xs → IsValue (list (items_of (map numbered_json xs))) (91 ∷ (join_with_byte 44 (map numbered_text xs) ++ 93 ∷ []))
+  list_spelled [] can = empty_list
+  list_spelled (x ∷ xs) can = subst (λ t. IsValue (list (items_of (map numbered_json (x ∷ xs)))) (91 ∷ t)) (sym (joined x xs))
+      (first_item (numbered_json x) (items_of (map numbered_json xs)) (numbered_text x) (more_text xs) (entity_spelled x.0 x.1 can.0 can.1) (more_spelled xs can.2))
+
+  abbrev blueprint_json : List Json → Json
+  blueprint_json entities = object (member (codes "item") (text (codes "blueprint")) (member (codes "entities") (list (items_of entities)) (member (codes "version") (number (version_number version)) no_members)))
+
+  abbrev root_json : List Json → Json
+  root_json entities = object (member (codes "blueprint") (blueprint_json entities) no_members)
+
+  abbrev root_text : List ℕ → List ℕ
+  root_text all = text_of_version version all
+
+  root_spelled : (entities : List Json) (all : List ℕ) → IsValue (list (items_of entities)) (91 ∷ (all ++ 93 ∷ [])) → IsValue (root_json entities) (root_text all)
+  root_spelled entities all is_list =
+      let version_member : Members = member (codes "version") (number (version_number version)) no_members in
+      let version_text : List ℕ = 44 ∷ (quoted (codes "version") ++ 58 ∷ (version_digits version ++ 125 ∷ [])) in
+      let list_member : Members = member (codes "entities") (list (items_of entities)) version_member in
+      let list_text : List ℕ = 44 ∷ (quoted (codes "entities") ++ 58 ∷ ((91 ∷ (all ++ 93 ∷ [])) ++ version_text)) in
+      first_member (codes "blueprint") (blueprint_json entities) no_members (quoted (codes "blueprint")) (123 ∷ (quoted (codes "item") ++ 58 ∷ (quoted (codes "blueprint") ++ list_text))) (125 ∷ []) (simple_text (codes "blueprint") refl)
+      (first_member (codes "item") (text (codes "blueprint")) list_member (quoted (codes "item")) (quoted (codes "blueprint")) list_text (simple_text (codes "item") refl) (simple_text (codes "blueprint") refl)
+      (more_member (codes "entities") (list (items_of entities)) version_member (quoted (codes "entities")) (91 ∷ (all ++ 93 ∷ [])) version_text (simple_text (codes "entities") refl) is_list
+      (more_member (codes "version") (number (version_number version)) no_members (quoted (codes "version")) (version_digits version) (125 ∷ []) (simple_text (codes "version") refl)
+      (version_spelled version) no_more_members)))
+      no_more_members
+
+  whole_text : (all : List ℕ) → codes "{\"blueprint\":{\"item\":\"blueprint\",\"entities\":[" ++ all ++ end_text version ≡ root_text all ++ 10 ∷ []
+  whole_text all = by version
+    where
+      by : (v : Version) → codes "{\"blueprint\":{\"item\":\"blueprint\",\"entities\":[" ++ all ++ end_text v ≡ text_of_version v all ++ 10 ∷ []
+      by Older = simp append_assoc
+      by Newer = simp append_assoc
+
+  entity_depth : (n : ℕ) (p : Part) → depth_of (entity_json n p) ≤ 2
+  entity_depth n p = omega (arith, type_flat p.kind)
+
+  entities_depth : (xs : List Numbered) → items_depth (items_of (map numbered_json xs)) ≤ 2
+  entities_depth [] = omega arith
+  entities_depth (x ∷ xs) = omega (arith, entity_depth x.0 x.1, entities_depth xs)
+
+  entity_names : (n : ℕ) (p : Part) → HasDistinctNames (entity_json n p)
+  entity_names n p = (
+    unnamed [] (codes "entity_number") refl,
+    tt,
+    (
+      unnamed (codes "entity_number" ∷ []) (codes "name") refl,
+      tt,
+      (
+        unnamed (codes "entity_number" ∷ codes "name" ∷ []) (codes "position") refl,
+        (unnamed [] (codes "x") refl, tt, (unnamed (codes "x" ∷ []) (codes "y") refl, tt, tt)),
+        (unnamed (codes "entity_number" ∷ codes "name" ∷ codes "position" ∷ []) (codes "direction") refl, tt, type_names p.kind),
+      ),
+    ),
+  )
+
+  entities_names : (xs : List Numbered) → ItemsHaveDistinctNames (items_of (map numbered_json xs))
+  entities_names [] = tt
+  entities_names (x ∷ xs) = (entity_names x.0 x.1, entities_names xs)
+
+  root_names : (xs : List Numbered) → HasDistinctNames (root_json (map numbered_json xs))
+  root_names xs = (unnamed [] (codes "blueprint") refl, (unnamed [] (codes "item") refl, tt, (unnamed (codes "item" ∷ []) (codes "entities") refl, entities_names xs, (unnamed (codes "item" ∷ codes "entities" ∷ []) (codes "version") refl, tt, tt))), tt)
+
+  family_kind : (n : ℕ) (p : Part) (k : Kind) → p.kind ≡ k → HasKind (entity_json n p) k
+  family_kind n p Belt is = (p.tier, ap (λ k. Some (text (name_of (family_of k) p.tier))) is)
+  family_kind n p Entrance is = ((p.tier, ap (λ k. Some (text (name_of (family_of k) p.tier))) is), ap (λ k. value_at (type_members k) (codes "type")) is)
+  family_kind n p Exit is = ((p.tier, ap (λ k. Some (text (name_of (family_of k) p.tier))) is), ap (λ k. value_at (type_members k) (codes "type")) is)
+  family_kind n p Splitter is = (p.tier, ap (λ k. Some (text (name_of (family_of k) p.tier))) is)
+
+  entity_dir : (n : ℕ) (p : Part) → HasDirection (major_of version) (entity_json n p) p.dir
+  entity_dir n p = inr (number (natural (direction_value (major_of version) p.dir)), refl, natural_is (direction_value (major_of version) p.dir) (direction_small version p.dir))
+
+  entity_placed : (n : ℕ) (p : Part) → HasCentreInRange p → IsPlaced (major_of version) (record { x = 0; y = 0 }) (entity_json n p) p.cell
+  entity_placed n p near = record {
+    kind = p.kind;
+    has_kind = family_kind n p p.kind refl;
+    dir = p.dir;
+    has_dir = entity_dir n p;
+    x = halves_number (twice_middle p.cell.x (width_of p.kind p.dir));
+    y = halves_number (twice_middle p.cell.y (height_of p.kind p.dir));
+    has_position = record { position = position_json p; is_there = refl; has_x = refl; has_y = refl };
+    twice_x = twice_middle p.cell.x (width_of p.kind p.dir);
+    halves_x = halves_are _ near.0;
+    middle_x = middle p.cell.x (width_of p.kind p.dir);
+    twice_y = twice_middle p.cell.y (height_of p.kind p.dir);
+    halves_y = halves_are _ near.1;
+    middle_y = middle p.cell.y (height_of p.kind p.dir);
+  }
+
+  entity_even : (n : ℕ) (p : Part) → HasPriority (entity_json n p) even
+  entity_even n p = let lacks = type_lacks p.kind in record { gives = λ f. inl lacks.output; takes = λ f. inl lacks.input }
+
+  entity_plain : (n : ℕ) (p : Part) → IsPlain special_in_layouts (entity_json n p)
+  entity_plain n p = let lacks = type_lacks p.kind in plain_layout (entity_json n p) even lacks.condition lacks.filter refl refl (entity_even n p)
+
+  entity_is : (m n : ℕ) (first p : Part) → HasCentreInRange first → HasCentreInRange p → IsEntity special_in_layouts (major_of version) (entity_json m first) (entity_json n p) p
+  entity_is m n first p near_first near = record {
+    has_kind = family_kind n p p.kind refl;
+    has_tier = (family_of p.kind, refl);
+    has_dir = entity_dir n p;
+    in_cell = record {
+      shift = record { x = 0; y = 0 };
+      sets = record { small_x = omega arith; small_y = omega arith; cell = first.cell; placed = entity_placed m first near_first };
+      placed = entity_placed n p near;
+    };
+    priority = even;
+    has_priority = entity_even n p;
+    plain = entity_plain n p;
+  }
+
+  entity_there : (n : ℕ) (parts : List Part) (i : ℕ) (v : Json) → slice_get (map numbered_json (enumerate_from n parts)) i ≡ Some v → (p : Part) × (slice_get parts i ≡ Some p) × (v ≡ entity_json (n + i) p)
+  entity_there n [] i v is = absurd (none-some v is)
+  entity_there n (p ∷ ps) zero v is = (p, refl, sym (same_Some (entity_json n p) v is) ∙ ap (λ k. entity_json k p) (omega arith))
+  entity_there n (p ∷ ps) (suc i) v is =
+      let on = entity_there (n + 1) ps i v is in
+      (on.0, on.1, on.2 ∙ ap (λ k. entity_json k on.0) (omega arith))
+
+  parts_are : (parts : List Part) → All HasCentreInRange parts → AreParts special_in_layouts (major_of version) (map numbered_json (enumerate_from 1 parts)) parts
+  parts_are parts near = record {
+    same_length = sym (length-map (enumerate_from 1 parts) numbered_json ∙ length-enumerate_from 1 parts);
+    each = λ first v part i is_first is_v is_part.
+        let a = entity_there 1 parts 0 first is_first in
+        let b = entity_there 1 parts i v is_v in
+        let same = same_Some b.0 part (sym b.1 ∙ is_part) in
+        let near_of : (j : ℕ) (p : Part) → slice_get parts j ≡ Some p → HasCentreInRange p = λ j p h. subst HasCentreInRange (get_or_from_slice_get parts j p p h) (near j p (slice_get_within parts j p h)) in
+        subst (λ p. IsEntity special_in_layouts (major_of version) first v p) same (subst (λ w. IsEntity special_in_layouts (major_of version) first w b.0) (sym b.2) (subst (λ w. IsEntity special_in_layouts (major_of version) w (entity_json (1 + i) b.0) b.0) (sym a.2)
+        (entity_is (1 + 0) (1 + i) a.0 b.0 (near_of 0 a.0 a.1) (near_of i b.0 b.1))));
+  }
+
+  blueprint_of : (parts : List Part) → length parts ≤ MOST_ENTITIES → All HasCentreInRange parts → IsBlueprintOf special_in_layouts (root_json (map numbered_json (enumerate_from 1 parts))) parts
+  blueprint_of parts few near = record {
+    major = major_of version;
+    entities = map numbered_json (enumerate_from 1 parts);
+    is_blueprint = record {
+      blueprint = blueprint_json (map numbered_json (enumerate_from 1 parts));
+      is_there = refl;
+      is_object = (_, refl);
+      has_major = inr (number (version_number version), refl, has_version version);
+      has_entities = inr refl;
+    };
+    few = omega (arith, few, length-map (enumerate_from 1 parts) numbered_json, length-enumerate_from 1 parts);
+    are_parts = parts_are parts near;
+  }
 
 pub written_read : WrittenIsRead
 written_read parts few near =
+    let version = version_for parts in
     let xs = enumerate_from 1 parts in
-    let all = join_with_byte 44 (map numbered_text xs) in
-    let is : blueprint_text parts ≡ root_text all ++ 10 ∷ [] = whole_text all in
-    let blueprint = blueprint_of parts few near in
+    let all = join_with_byte 44 (map (numbered_text version) xs) in
+    let is : blueprint_text parts ≡ root_text version all ++ 10 ∷ [] = whole_text version all in
+    let blueprint = blueprint_of version parts few near in
     record {
-      root = root_json (map numbered_json xs);
-      used = length (root_text all);
-      is_json = subst (λ t. IsRead t (Ok (root_json (map numbered_json xs), length (root_text all)))) (sym is) (record {
+      root = root_json version (map (numbered_json version) xs);
+      used = length (root_text version all);
+      is_json = subst (λ t. IsRead t (Ok (root_json version (map (numbered_json version) xs), length (root_text version all)))) (sym is) (record {
         front = record {
-          within = omega (arith, length-append (root_text all) (10 ∷ []));
-          spelled = subst (Blanks ▸ IsValue (root_json (map numbered_json xs))) (sym (take-append_seam (root_text all) (10 ∷ []))) (join [] (root_text all) tt (root_spelled (map numbered_json xs) all (list_spelled xs (can_all 1 parts (omega (arith, few)) near))));
+          within = omega (arith, length-append (root_text version all) (10 ∷ []));
+          spelled = subst (Blanks ▸ IsValue (root_json version (map (numbered_json version) xs))) (sym (take-append_seam (root_text version all) (10 ∷ [])))
+              (join [] (root_text version all) tt (root_spelled version (map (numbered_json version) xs) all (list_spelled version xs (can_all 1 parts (omega (arith, few)) near))));
           ends = tt;
         };
-        shallow = omega (arith, entities_depth xs);
-        distinct = root_names xs;
+        shallow = omega (arith, entities_depth version xs);
+        distinct = root_names version xs;
       });
-      line_feed = ap (drop (length (root_text all))) is ∙ drop-append_seam (root_text all) (10 ∷ []);
+      line_feed = ap (drop (length (root_text version all))) is ∙ drop-append_seam (root_text version all) (10 ∷ []);
       is_parts = (blueprint, all_in_range special_in_layouts _ parts blueprint);
     }

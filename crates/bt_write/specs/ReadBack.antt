@@ -14,7 +14,8 @@ abbrev pub HasCentreInRange : Part → Type 0
 HasCentreInRange part = (unsigned_abs (twice_middle part.cell.x (width_of part.kind part.dir)) ≤ MOST_HALVES)
     × (unsigned_abs (twice_middle part.cell.y (height_of part.kind part.dir)) ≤ MOST_HALVES)
 
--- the text that is written of the parts is JSON, behind which its line feed alone follows, and the value that it says is a blueprint of these parts
+-- the text that is written of the parts is JSON, behind which its line feed alone follows, and the value that it says
+-- is a blueprint of these parts
 pub record IsReadBack (parts : List Part) : Type 0 where
   pub root : Json
   pub used : ℕ

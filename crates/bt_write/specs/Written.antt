@@ -1,14 +1,18 @@
 -- The one text of a list of parts as a blueprint.
-use Rattle.std.specs.Prelude.{ℕ, ◌+◌, ◌/◌, ◌%◌, ◌==◌, ℤ, pos, negsuc, ◌+ℤ◌, ◌*ℤ◌, List, [], ◌++◌, map, codes, decimal, if◌then◌else◌}
-use Rattle.std.specs.List.{enumerate_from, join_with_byte}
+use Rattle.std.specs.Prelude.{ℕ, ◌+◌, ◌/◌, ◌%◌, ◌==◌, ℤ, pos, negsuc, ◌+ℤ◌, ◌*ℤ◌, Bool, true, false, List, [], ◌++◌, map, codes, decimal, if◌then◌else◌}
+use Rattle.std.specs.List.{enumerate_from, join_with_byte, list_any}
 use Rattle.bt_parts.specs.declared.part.Kind.{Kind}
 use Rattle.bt_parts.specs.declared.part.Kind.TheVariants.{Belt, Entrance, Exit, Splitter}
 use Rattle.bt_parts.specs.declared.part.Part.{Part}
+use Rattle.bt_parts.specs.declared.part.Tier.{Tier}
+use Rattle.bt_parts.specs.declared.part.Tier.TheVariants.{Turbo}
 use Rattle.bt_entities.specs.declared.name.EntityFamily.{EntityFamily}
 use Rattle.bt_entities.specs.declared.name.EntityFamily.TheVariants.{Belts, Undergrounds, Splitters}
 use Rattle.bt_entities.specs.Entities.{direction_value}
 use Rattle.bt_entities.specs.Names.{name_of}
 use Rattle.bt_entities.specs.Places.{width_of, height_of}
+use Rattle.bt_write.specs.declared.version.Version.{Version}
+use Rattle.bt_write.specs.declared.version.Version.TheVariants.{Older, Newer}
 
 -- the family of a kind's names
 abbrev pub family_of : Kind → EntityFamily
@@ -44,9 +48,31 @@ position_member p =
     codes ",\"position\":{\"x\":" ++ halves_text (twice_middle p.cell.x (width_of p.kind p.dir))
     ++ codes ",\"y\":" ++ halves_text (twice_middle p.cell.y (height_of p.kind p.dir)) ++ codes "}"
 
--- the direction, in eighths of a turn
-abbrev pub direction_member : Part → List ℕ
-direction_member p = codes ",\"direction\":" ++ decimal (direction_value 1 p.dir)
+-- the major number of a version
+abbrev pub major_of : Version → ℕ
+major_of Older = 1
+major_of Newer = 2
+
+-- a version as it is written: of 1.1.0 and of 2.0.0, the major number times 2 ^ 48 and the next times 2 ^ 32
+abbrev pub version_digits : Version → List ℕ
+version_digits Older = codes "281479271677952"
+version_digits Newer = codes "562949953421312"
+
+-- the part is of the turbo tier
+abbrev pub is_turbo : Part → Bool
+is_turbo p = of_tier p.tier
+  where
+    of_tier : Tier → Bool
+    of_tier Turbo = true
+    of_tier other = false
+
+-- the version that has all of the parts: the newer one where some part is of the turbo tier, which the older one lacks
+abbrev pub version_for : List Part → Version
+version_for parts = if list_any is_turbo parts then Newer else Older
+
+-- the direction, in eighths of a turn in the older version, and in sixteenths in the newer one
+abbrev pub direction_member : Version → Part → List ℕ
+direction_member version p = codes ",\"direction\":" ++ decimal (direction_value (major_of version) p.dir)
 
 -- of an underground piece whether items come in or go out there, and the end of the entity
 abbrev pub type_member : Kind → List ℕ
@@ -56,18 +82,25 @@ type_member Exit = codes ",\"type\":\"output\"}"
 type_member Splitter = codes "}"
 
 -- the entity of a part
-abbrev pub entity_text : ℕ → Part → List ℕ
-entity_text n p = number_member n ++ name_member p ++ position_member p ++ direction_member p ++ type_member p.kind
+abbrev pub entity_text : Version → ℕ → Part → List ℕ
+entity_text version n p = number_member n ++ name_member p ++ position_member p ++ direction_member version p ++ type_member p.kind
 
 -- the entities of parts, which are numbered from 1 in their order
-abbrev pub entity_texts : List Part → List (List ℕ)
-entity_texts parts = map (λ numbered. entity_text numbered.0 numbered.1) (enumerate_from 1 parts)
+abbrev pub entity_texts : Version → List Part → List (List ℕ)
+entity_texts version parts = map (λ numbered. entity_text version numbered.0 numbered.1) (enumerate_from 1 parts)
 
 -- what stands before the entity with this index: a comma, but for the first
 abbrev pub comma_before : ℕ → List ℕ
 comma_before index = if index == 0 then [] else codes ","
 
--- the blueprint of the parts, with a comma between two entities; it names version 1.1.0, whose directions are eighths
+-- the version, and the end of the blueprint
+abbrev pub end_text : Version → List ℕ
+end_text version = codes "],\"version\":" ++ version_digits version ++ codes "}}\n"
+
+-- the blueprint of the parts in a version, with a comma between two entities
+abbrev pub text_in : Version → List Part → List ℕ
+text_in version parts = codes "{\"blueprint\":{\"item\":\"blueprint\",\"entities\":[" ++ join_with_byte 44 (entity_texts version parts) ++ end_text version
+
+-- the blueprint of the parts, in the version that has them all
 abbrev pub blueprint_text : List Part → List ℕ
-blueprint_text parts =
-    codes "{\"blueprint\":{\"item\":\"blueprint\",\"entities\":[" ++ join_with_byte 44 (entity_texts parts) ++ codes "],\"version\":281479271677952}}\n"
+blueprint_text parts = text_in (version_for parts) parts

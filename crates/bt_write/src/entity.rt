@@ -1,6 +1,5 @@
 //! One entity of a blueprint's text, member by member.
 ghost use Rattle.std.specs.Prelude.{◌≡◌, ◌≤◌, ◌<◌, ◌+◌, ◌^◌, ◌++◌, OnOk};
-ghost use Rattle.bt_entities.specs.Entities.{direction_value};
 ghost use Rattle.bt_entities.specs.Names.{prefix_of, stem_of};
 ghost use Rattle.bt_entities.specs.Places.{width_of, height_of};
 ghost use Rattle.bt_write.specs.Written.{family_of, comma_before, number_member, name_member};
@@ -8,19 +7,25 @@ ghost use Rattle.bt_write.specs.Written.{twice_middle, halves_text};
 ghost use Rattle.bt_write.specs.Written.{position_member, direction_member, type_member, entity_text};
 
 use crate::number::{middle, push_halves, push_number};
+use crate::version::Version;
 use bt_parts::{Dir, Kind, Part, Tier};
 use std::alloc::AllocError;
 
 /// Adds the entity of the part with this index, behind a comma where it isn't the first.
-pub fn push_entity(text: &mut Vec<u8>, index: usize, part: Part) -> Result<(), AllocError>
+pub fn push_entity(
+    text: &mut Vec<u8>,
+    version: Version,
+    index: usize,
+    part: Part,
+) -> Result<(), AllocError>
     requires { index + 1 < 2 ^ 64 }
     ensures { OnOk result
-        (text.new.items ≡ text.old.items ++ (comma_before index ++ entity_text (index + 1) part)) }
+        (text.new.items ≡ text.old.items ++ (comma_before index ++ entity_text version (index + 1) part)) }
 {
     push_comma(text, index)?;
     push_head(text, index + 1, part)?;
     push_position(text, part)?;
-    push_turn(text, part)?;
+    push_turn(text, version, part)?;
     Ok(())
 }
 
@@ -90,12 +95,12 @@ fn centre_y(part: Part) -> i64
 }
 
 /// Adds the members for the direction and the type, and the end of the entity.
-fn push_turn(text: &mut Vec<u8>, part: Part) -> Result<(), AllocError>
+fn push_turn(text: &mut Vec<u8>, version: Version, part: Part) -> Result<(), AllocError>
     ensures { OnOk result
-        (text.new.items ≡ text.old.items ++ (direction_member part ++ type_member part.kind)) }
+        (text.new.items ≡ text.old.items ++ (direction_member version part ++ type_member part.kind)) }
 {
     text.extend_from_slice(b",\"direction\":")?;
-    push_number(text, eighths(part.dir))?;
+    push_number(text, version.direction(part.dir))?;
     text.extend_from_slice(type_and_end(part.kind))?;
     Ok(())
 }
@@ -120,18 +125,6 @@ fn stem(kind: Kind) -> &'static [u8]
         Kind::Belt => b"transport-belt",
         Kind::Entrance | Kind::Exit => b"underground-belt",
         Kind::Splitter => b"splitter",
-    }
-}
-
-/// A direction in eighths of a turn from north, with the sun.
-fn eighths(dir: Dir) -> u64
-    ensures { result ≡ direction_value 1 dir }
-{
-    match dir {
-        Dir::North => 0,
-        Dir::East => 2,
-        Dir::South => 4,
-        Dir::West => 6,
     }
 }
 

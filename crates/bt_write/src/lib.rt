@@ -5,6 +5,7 @@ mod blueprint;
 mod entity;
 mod laws;
 mod number;
+mod version;
 
 pub use blueprint::text_of;
 pub use laws::written_is_read;

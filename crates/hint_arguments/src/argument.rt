@@ -48,6 +48,7 @@ fn extend(
         Property::DrawnEvenly => add_looping(alloc, net, formula, line, true),
         Property::Unlimited => add_unlimited(alloc, net, formula, line),
         Property::Full => add_lacking(alloc, net, formula, line),
+        Property::Fair | Property::DrawnFairly => Ok(()),
     }
 }
 

@@ -36,7 +36,9 @@ pub fn aims_of(
     match property {
         Property::Balanced => even_aims(alloc, net, formula, false),
         Property::DrawnEvenly => even_aims(alloc, net, formula, true),
-        Property::Unlimited | Property::Full => Ok(Vec::new(alloc)),
+        Property::Unlimited | Property::Full | Property::Fair | Property::DrawnFairly => {
+            Ok(Vec::new(alloc))
+        }
     }
 }
 

@@ -1,7 +1,7 @@
 //! Splitters that are moved by chance.
-use crate::random::Random;
 use bt_model::Request;
 use bt_parts::DIRS;
+use bt_random::Random;
 use hint_routing::Stand;
 use std::alloc::{AllocError, Global};
 

@@ -8,7 +8,6 @@
 mod climbing;
 mod lines;
 mod ordering;
-mod random;
 mod seats;
 mod sketching;
 

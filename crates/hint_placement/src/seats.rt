@@ -1,8 +1,8 @@
 //! Where the splitters of rows stand in a rectangle.
 use crate::lines::{View, split_rows};
 use crate::ordering::Rows;
-use crate::random::Random;
 use bt_model::Request;
+use bt_random::Random;
 use hint_routing::Stand;
 use std::alloc::{AllocError, Global};
 

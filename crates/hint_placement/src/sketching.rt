@@ -2,10 +2,10 @@
 use crate::climbing::moved;
 use crate::lines::View;
 use crate::ordering::{Rows, orders, ranked};
-use crate::random::Random;
 use crate::seats::stands_of;
 use bt_model::Request;
 use bt_parts::{Cell, DIRS, Dir, Kind, Part, Tier};
+use bt_random::Random;
 use hint_numbering::{Numbered, goes_north, number_by_structure};
 use hint_routing::{Chain, Negotiated, Stand, Step, negotiate};
 use std::alloc::{AllocError, Global};

@@ -90,7 +90,7 @@ pub fn scopes_of(
         before: 0,
         behind: 0,
     };
-    let farthest_first = property == Property::DrawnEvenly;
+    let farthest_first = property == Property::DrawnEvenly || property == Property::DrawnFairly;
     let mut scopes = splitter_scopes(alloc, Vec::new(alloc), net, gaps, farthest_first, rows)?;
     scopes.push(comparisons(alloc, net.edges().len(), farthest_first, rows)?)?;
     direct_scopes(alloc, scopes, net, gaps, rows)

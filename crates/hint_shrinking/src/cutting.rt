@@ -6,7 +6,8 @@ use crate::fields::Fields;
 use crate::goal::Goal;
 use crate::line::{Axis, Line, lines_of};
 use bt_model::Request;
-use hint_solver::{Literal, Random};
+use bt_random::Random;
+use hint_solver::Literal;
 use std::alloc::{AllocError, Global};
 
 /// The most conflicts of a trial.

@@ -8,8 +8,9 @@ use bt_facts::{Content, Fact};
 use bt_model::Request;
 use bt_parts::{Cell, DIRS, Dir, Rect};
 use bt_place::{Numbers, encode_place};
+use bt_random::Random;
 use hint_numbering::{Named, name_by_structure};
-use hint_solver::{Answer, Literal, Random, Solver, load};
+use hint_solver::{Answer, Literal, Solver, load};
 use std::alloc::{AllocError, Global};
 
 /// So many scores are raised by chance before a trial.

@@ -4,7 +4,8 @@ use crate::field::Field;
 use crate::window::{Window, filled_cells, outside};
 use bt_facts::Content;
 use bt_parts::Cell;
-use hint_solver::{Literal, Random};
+use bt_random::Random;
+use hint_solver::Literal;
 use std::alloc::{AllocError, Global};
 
 /// How many trials are made in a window.

@@ -5,8 +5,9 @@ use crate::contents::piece_of;
 use crate::field::Field;
 use bt_model::Request;
 use bt_parts::{Kind, Part, Tier};
+use bt_random::Random;
 use hint_placement::Sketch;
-use hint_solver::{Literal, Random};
+use hint_solver::Literal;
 use std::alloc::{AllocError, Global};
 
 /// The most conflicts until splitters have their numbers, which what cells hold leaves open.

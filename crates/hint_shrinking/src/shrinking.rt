@@ -7,8 +7,8 @@ use crate::moving::lay_anew;
 use crate::plan::plan_of;
 use bt_model::Request;
 use bt_parts::{Part, Rect};
+use bt_random::Random;
 use hint_placement::Sketch;
-use hint_solver::Random;
 use std::alloc::{AllocError, Global};
 
 /// How many windows are laid anew before lines are cut out again.

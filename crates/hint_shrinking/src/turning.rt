@@ -8,8 +8,8 @@ use crate::plan::plan_of;
 use crate::shrinking::Shrunk;
 use bt_model::Request;
 use bt_parts::Rect;
+use bt_random::Random;
 use hint_numbering::{are_in_pairs, edge_to_open, open_edge};
-use hint_solver::Random;
 use std::alloc::{AllocError, Global};
 
 /// The most conflicts until a search begins anew with what it learnt.

@@ -4,7 +4,8 @@ use crate::board::Board;
 use crate::contents::is_empty;
 use crate::field::Field;
 use bt_parts::{Cell, Rect};
-use hint_solver::{Literal, Random};
+use bt_random::Random;
+use hint_solver::Literal;
 use std::alloc::{AllocError, Global};
 
 /// The least width and height of a window.

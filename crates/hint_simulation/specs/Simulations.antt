@@ -3,9 +3,6 @@ use Rattle.std.specs.Prelude.{◌≡◌, ℕ, ◌*◌, ◌≤◌, length}
 use Rattle.std.specs.List.{AllZip}
 use Rattle.bt_net.specs.declared.network.Edge.{Edge}
 use Rattle.bt_net.specs.Network.{Network}
-use Rattle.bt_flow.specs.declared.property.Property.{Property}
-use Rattle.bt_flow.specs.States.{Fractions, AreLowest, IsTrueOf}
-use Rattle.bt_flow.specs.Properties.{Breaks}
 use Rattle.hint_simulation.specs.declared.belt.TheConstants.{UNIT}
 use Rattle.hint_simulation.specs.declared.simulation.Simulated.{Simulated}
 use Rattle.hint_simulation.specs.declared.case.Case.{Case}
@@ -23,7 +20,3 @@ pub record IsSimulated (n : Network) (s : Simulated) : Type 0 where
 pub record IsCase (n : Network) (c : Case) : Type 0 where
   pub loads : length c.loads.items ≡ n.inputs
   pub rooms : length c.rooms.items ≡ n.outputs
-
--- the state breaks the property, and its fractions are in lowest terms
-abbrev pub IsBreaking : Network → Property → Fractions → Type 0
-IsBreaking n p state = IsTrueOf n state (Breaks n p) × AreLowest state

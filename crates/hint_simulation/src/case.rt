@@ -3,9 +3,9 @@ ghost use Rattle.std.specs.Prelude.{◌≡◌, IfOk, length};
 ghost use Rattle.hint_simulation.specs.Simulations.{IsCase};
 
 use crate::belt::in_units;
-use crate::random::Random;
 use bt_flow::Property;
 use bt_net::{Net, Start, Target};
+use bt_random::Random;
 use std::alloc::{AllocError, Global};
 
 /// The loads of the inputs and the rooms of the outputs of a network, in parts of `UNIT`.

@@ -1,12 +1,12 @@
 //! Looking for simulations in which two networks behave otherwise.
 use crate::case::{Case, Choice};
 use crate::finding::Found;
-use crate::random::Random;
 use crate::rank::LEAST_FAILURE;
 use crate::simulation::{Simulated, simulate};
 use crate::tries::{MOST_TRIES, Tries};
 use bt_flow::{Property, Role};
 use bt_net::Net;
+use bt_random::Random;
 use std::alloc::{AllocError, Global};
 
 /// The most simulations that are given.
@@ -17,7 +17,7 @@ pub const MOST_FOUND: usize = 3;
 /// `MOST_FOUND`, those first that are found first.
 pub fn differing(alloc: Global, first: &Net, second: &Net) -> Result<Vec<Found>, AllocError> {
     let full = lesser(Case::full(alloc, first)?, &Case::full(alloc, second)?);
-    let mut random = Random::new();
+    let mut random = Random::new(1);
     let mut tries = Tries::new(&full, Property::Unlimited);
     let mut found = Vec::new(alloc);
     for _ in 0..MOST_TRIES {

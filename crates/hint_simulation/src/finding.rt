@@ -1,17 +1,18 @@
 //! Looking for a state that breaks a property, of those that simulations show the one that convinces most.
 ghost use Rattle.std.specs.Prelude.{IfOk, IfSome, IsTrue};
 ghost use Rattle.bt_flow.specs.States.{Fits};
-ghost use Rattle.hint_simulation.specs.Simulations.{IsCase, IsBreaking};
+ghost use Rattle.bt_flow.specs.Properties.{IsBreaking};
+ghost use Rattle.hint_simulation.specs.Simulations.{IsCase};
 ghost use Rattle.hint_simulation.specs.inner.Finding.{IsFound};
 
 use crate::case::{Case, Choice};
 use crate::exact::state_of;
-use crate::random::Random;
 use crate::rank::{Rank, rank_of};
 use crate::simulation::{Simulated, simulate};
 use crate::tries::{MOST_TRIES, Tries};
 use bt_flow::{Judgement, Property, State, breaks};
 use bt_net::Net;
+use bt_random::Random;
 use std::alloc::{AllocError, Global};
 
 /// The most work, in steps of an edge, that is begun once a state is found.
@@ -103,7 +104,7 @@ impl Search {
     fn new(full: &Case, property: Property) -> Search {
         Search {
             tries: Tries::new(full, property),
-            random: Random::new(),
+            random: Random::new(1),
             best: None,
             shown: Rank::NOTHING,
             work: 0,

@@ -9,7 +9,6 @@ mod exact;
 mod finding;
 mod law;
 mod preference;
-mod random;
 mod rank;
 mod simulation;
 mod splitter;

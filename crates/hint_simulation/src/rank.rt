@@ -63,6 +63,8 @@ fn failure_of(edges: &[Edge], property: Property, found: &Found) -> u64 {
         Property::Balanced => output_spread(edges, flows),
         Property::DrawnEvenly => input_spread(edges, flows),
         Property::Unlimited | Property::Full => shortfall(edges, &found.case, flows),
+        Property::Fair => output_lag(edges, flows, &found.case.rooms),
+        Property::DrawnFairly => input_lag(edges, flows, &found.case.loads),
     }
 }
 
@@ -86,6 +88,67 @@ fn input_spread(edges: &[Edge], flows: &[u32]) -> u64 {
         }
     }
     span.width()
+}
+
+/// How clearly an output is short of its room and carries less than another.
+fn output_lag(edges: &[Edge], flows: &[u32], rooms: &[u32]) -> u64 {
+    let mut lag = Lag::new();
+    for (edge, flow) in edges.iter().zip(flows) {
+        if let Target::Output(_) = edge.target {
+            lag.reach(*flow);
+        }
+    }
+    for (edge, flow) in edges.iter().zip(flows) {
+        if let Target::Output(output) = edge.target {
+            lag.add(*flow, rooms.get(output as usize).copied().unwrap_or(0));
+        }
+    }
+    lag.most
+}
+
+/// How clearly an input is short of its load and gives less than another.
+fn input_lag(edges: &[Edge], flows: &[u32], loads: &[u32]) -> u64 {
+    let mut lag = Lag::new();
+    for (edge, flow) in edges.iter().zip(flows) {
+        if let Start::Input(_) = edge.start {
+            lag.reach(*flow);
+        }
+    }
+    for (edge, flow) in edges.iter().zip(flows) {
+        if let Start::Input(input) = edge.start {
+            lag.add(*flow, loads.get(input as usize).copied().unwrap_or(0));
+        }
+    }
+    lag.most
+}
+
+/// How clearly an end is short and carries less than the greatest flow among the ends.
+#[derive(Clone, Copy)]
+struct Lag {
+    greatest: u32,
+    most: u64,
+}
+
+impl Lag {
+    /// That of no end.
+    fn new() -> Lag {
+        Lag {
+            greatest: 0,
+            most: 0,
+        }
+    }
+
+    /// Takes the flow of one more end.
+    fn reach(&mut self, flow: u32) {
+        self.greatest = self.greatest.max(flow);
+    }
+
+    /// Compares an end with the greatest flow so far: both gaps have to be clear.
+    fn add(&mut self, flow: u32, limit: u32) {
+        let short = limit.saturating_sub(flow);
+        let behind = self.greatest.saturating_sub(flow);
+        self.most = self.most.max(u64::from(short.min(behind)));
+    }
 }
 
 /// The least and the greatest of some numbers.

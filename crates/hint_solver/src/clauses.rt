@@ -70,6 +70,17 @@ fn passed(clause: &mut [Literal], gone: Literal, values: &Values) -> Visit {
     }
 }
 
+/// Puts two literals to the front that aren't false, where there are two.
+fn arrange(clause: &mut [Literal], values: &Values) {
+    let mut front = 0usize;
+    for place in 0..clause.len() {
+        if front < 2 && front < clause.len() && !values.is_false(clause[place]) {
+            clause.swap(front, place);
+            front = front.saturating_add(1);
+        }
+    }
+}
+
 impl Clauses {
     /// No clauses.
     pub fn new(alloc: Global) -> Clauses {
@@ -98,6 +109,14 @@ impl Clauses {
             &self.literals[start..end]
         } else {
             &[]
+        }
+    }
+
+    /// Puts two literals of a clause to its front that aren't false, where it has them.
+    pub fn arrange(&mut self, span: Span, values: &Values) {
+        let (start, end) = (span.start as usize, span.end as usize);
+        if start <= end && end <= self.literals.len() {
+            arrange(self.literals.slice_mut(start..end), values);
         }
     }
 

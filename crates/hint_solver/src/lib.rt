@@ -9,7 +9,6 @@ mod dropping;
 mod literal;
 mod loading;
 mod order;
-mod random;
 mod search;
 mod solver;
 mod tracing;
@@ -17,8 +16,9 @@ mod trail;
 mod values;
 mod watches;
 
+pub use clauses::{Clauses, Span, Visit};
 pub use literal::Literal;
 pub use loading::load;
-pub use random::Random;
 pub use solver::{Answer, Solver};
 pub use std::alloc::AllocError as Memory;
+pub use values::{Value, Values};

@@ -2,10 +2,10 @@
 use crate::dropping::{Lemma, drop_worse};
 use crate::literal::Literal;
 use crate::order::Order;
-use crate::random::Random;
 use crate::search::{Conflict, Search};
 use crate::tracing::{Lesson, Tracer};
 use crate::trail::Reason;
+use bt_random::Random;
 use std::alloc::{AllocError, Global};
 
 /// So many clauses are learnt at most before the worse half of them is dropped.

@@ -15,7 +15,8 @@ use Rattle.bt_cert.specs.declared.defining.TheConstants.{MOST_DEFINITIONS}
 use Rattle.bt_cert.specs.declared.fault.CertFault.{CertFault}
 use Rattle.bt_cert.specs.declared.fault.CertFault.TheVariants.{ReadFault, TooLong, Memory}
 
--- the bytes of a line that goes on, or what was read behind the definitions; how many definitions came; and whether a line
+-- the bytes of a line that goes on, or what was read behind the definitions; how many definitions came; and whether a
+-- line
 -- came that is of none
 pub record DefiningParts : Type 0 where
   pub part : List ℕ
@@ -32,7 +33,8 @@ abbrev pub MayAllStand : FormulaParts → List Definition → Type 0
 MayAllStand f [] = Unit {0}
 MayAllStand f (d ∷ ds) = MayStand f d × MayAllStand (with_definition f d) ds
 
--- what was read of a text is the lines of definitions, by which the formula is extended, and a part of a line that goes on; or
+-- what was read of a text is the lines of definitions, by which the formula is extended, and a part of a line that goes
+-- on; or
 -- what follows them, in which no other comes first, whatever follows
 pub record HasDefined (f : FormulaParts) (text : List ℕ) (now : FormulaParts) (p : DefiningParts) : Type 0 where
   pub definitions : List Definition

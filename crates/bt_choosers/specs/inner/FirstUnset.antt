@@ -3,7 +3,8 @@ use Rattle.std.specs.Prelude.{◌≡◌, ◌⊎◌, ℕ, List, [], ◌∷◌, So
 use Rattle.bt_cnf.specs.declared.literal.Lit.{Lit}
 use Rattle.bt_cnf.specs.Truths.{unset}
 
--- the variable at this place is the first of the clause's variables that is among those without a value; or none of them
+-- the variable at this place is the first of the clause's variables that is among those without a value; or none of
+-- them
 -- is, and the place is the first
 abbrev pub IsFirstUnset : List Lit → List ℕ → ℕ → Type 0
 IsFirstUnset [] unset place = place ≡ 0

@@ -14,13 +14,15 @@ use Rattle.bt_decide.specs.declared.verdict.Verdict.{Verdict}
 use Rattle.bt_decide.specs.declared.verdict.SameVerdict.{SameVerdict}
 use Rattle.bt_decide.specs.Verdicts.{AreMade, IsVerdict, IsSameVerdict, splitters_of_both}
 
--- definitions that a decision over so many splitters may be given: none where there are no splitters, and no more than a certificate may
+-- definitions that a decision over so many splitters may be given: none where there are no splitters, and no more than
+-- a certificate may
 -- have
 pub record MayBeGiven (splitters : ℕ) (definitions : List Definition) : Type 0 where
   pub none : splitters ≡ 0 → definitions ≡ []
   pub few : length definitions ≤ MOST_DEFINITIONS
 
--- the verdict is right of each property whose flow formula has this outcome with these definitions, where they are made for it
+-- the verdict is right of each property whose flow formula has this outcome with these definitions, where they are made
+-- for it
 abbrev pub IsVerdictOf : Network → List Definition → Outcome → Verdict → Type 0
 IsVerdictOf n definitions outcome verdict = (p : Property) (limits : Limits) → IsNetwork n → AreMade n.splitters (flow_formula n p) definitions
     → IsOutcome (flow_formula n p) definitions limits outcome → IsVerdict n p limits verdict

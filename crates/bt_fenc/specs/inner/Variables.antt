@@ -28,7 +28,8 @@ at_in v (Filled o a column) = v.filled + 2 * o
 abbrev pub side_rows : Network → Side → ℕ → ℕ
 side_rows n side k = length (rows_in (flat_map (λ j. map pair_clause (pairs_at n side j)) (range_with_len 0 k)))
 
--- for each splitter the variable of the first pair at one side, where the first of all has this one, and then the variable after the last
+-- for each splitter the variable of the first pair at one side, where the first of all has this one, and then the
+-- variable after the last
 abbrev pub side_starts : Network → Side → ℕ → List ℕ
 side_starts n side first = map (λ k. first + side_rows n side k) (range_with_len 0 (n.splitters + 1))
 

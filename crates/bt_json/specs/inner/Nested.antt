@@ -46,7 +46,8 @@ IsFilled nested = ValuesAreFull nested × HasNames 0 (frame_of nested)
 abbrev pub IsNamed : Nested → Type 0
 IsNamed nested = ValuesAreFull nested × HasNames 1 (frame_of nested)
 
--- the list or the object that a byte of that kind at a place opens within so many others, or none; or there are as many as may be
+-- the list or the object that a byte of that kind at a place opens within so many others, or none; or there are as many
+-- as may be
 abbrev pub Begins : Kind → ℕ → ℕ → Result (Option Nested) JsonFault → Type 0
 Begins kind at depth (Ok None) = frame_begun kind ≡ None
 Begins kind at depth (Ok (Some nested)) = (frame_begun kind ≡ Some (frame_of nested)) × IsFresh (frame_of nested) × IsFilled nested × (depth < MOST_LEVELS)

@@ -20,7 +20,8 @@ use Rattle.bt_json.specs.declared.limits.TheConstants.{MOST_LEVELS, MOST_EXPONEN
 
 -- ---- numbers
 
--- a number as far as it is written: its sign, its digits and how many of them are the fraction's, the sign of its exponent and that exponent
+-- a number as far as it is written: its sign, its digits and how many of them are the fraction's, the sign of its
+-- exponent and that exponent
 pub record Numeral : Type 0 where
   pub negative : Bool
   pub digits : List ℕ
@@ -114,7 +115,8 @@ numeral negative digits = record { negative = negative; digits = digits; places 
 
 -- ---- texts
 
--- between two pieces; behind a backslash; before so many further digits of an escape and one more, whose value so far it is; inside a character, whose next byte lies between these, with so many more behind it
+-- between two pieces; behind a backslash; before so many further digits of an escape and one more, whose value so far
+-- it is; inside a character, whose next byte lies between these, with so many more behind it
 pub data Place : Type 0 where
   between : Place
   escape : Place
@@ -203,7 +205,8 @@ pub data State : Type 0 where
   -- in one of the words null, true and false, before these letters
   in_word : List ℕ → Json → List Frame → State
 
--- how reading ends: a value, with the place after it; a byte or an end that can't stand there; a bracket that opens a level too many; a name that is there already: its opening and its closing quote
+-- how reading ends: a value, with the place after it; a byte or an end that can't stand there; a bracket that opens a
+-- level too many; a name that is there already: its opening and its closing quote
 pub data Stop : Type 0 where
   found : Json → ℕ → Stop
   bad : ℕ → Stop

@@ -40,7 +40,8 @@ Faults (Deep o) e = e ≡ deep o
 Faults (DuplicateKey o) e = (close : ℕ) × (e ≡ twice o close)
 Faults Memory e = Unit {0}
 
--- What was read, with the place behind it, is how reading goes on from there; or the fault is how it ends, unless memory ran out.
+-- What was read, with the place behind it, is how reading goes on from there; or the fault is how it ends, unless
+-- memory ran out.
 abbrev pub ReadsOn : {X K : Type 0} → List ℕ → ℕ → (K → State) → (X → ℕ) → (X → K → Step) → Result X JsonFault → Type 0
 ReadsOn {X} {K} bytes start from place next (Ok x) = IsLater bytes start (place x) × ((k : K) → rest_of bytes start (from k) ≡ rest_after bytes (place x) (next x k))
 ReadsOn {X} {K} bytes start from place next (Err f) = (k : K) → Faults f (rest_of bytes start (from k))

@@ -7,23 +7,22 @@ use Rattle.bt_sat.specs.declared.solver.Answer.TheVariants.{Model, Refuted, Spen
 use Rattle.bt_place.specs.PlaceFormula.{place_formula}
 use Rattle.bt_place.specs.Solutions.{IsSolution}
 use Rattle.bt_theory.specs.Outcomes.{IsRefutation, IsUsedUp}
-use Rattle.bt_layout.specs.Early.{AreSought}
 use Rattle.bt_trim.specs.Trimming.{IsTrimmed}
 use Rattle.bt_layout.specs.Layouts.{HasNoLayout}
 use Rattle.bt_layout.specs.declared.outcome.Layout.{Layout}
 use Rattle.bt_layout.specs.declared.outcome.Layout.TheVariants as layout
 
--- with a model of the placement formula; with a log that refutes it; or with a log that has so many steps, where one more
+-- with a model of the placement formula; with a log that refutes it; or with a log that has so many steps, where one
+-- more
 -- is needed
 abbrev pub EndsWith : LayoutRequest → ℕ → List Step → Answer → Type 0
 EndsWith r learnt steps (Model model) = IsSolution r model.items
 EndsWith r learnt steps Refuted = HasNoLayout r × IsRefutation (place_formula r) steps × (length steps ≤ learnt)
 EndsWith r learnt steps Spent = IsUsedUp (place_formula r) learnt steps
 
--- and with no more steps than may be taken, each valid and fresh
-pub record EndsSought (r : LayoutRequest) (learnt : ℕ) (steps : List Step) (answer : Answer) : Type 0 where
+-- and with no more steps than may be taken
+pub record EndsWithin (r : LayoutRequest) (learnt : ℕ) (steps : List Step) (answer : Answer) : Type 0 where
   pub ends : EndsWith r learnt steps answer
-  pub sought : AreSought r steps
   pub few : length steps ≤ learnt
 
 -- the log is over the clauses of the placement formula

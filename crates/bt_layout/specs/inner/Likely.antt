@@ -1,17 +1,15 @@
 -- What is found where a layout is likely.
-use Rattle.std.specs.Prelude.{◌≡◌, ℕ, ◌≤◌, List, AllPairs, length}
+use Rattle.std.specs.Prelude.{◌≡◌, ℕ, ◌≤◌, List, AllPairs}
 use Rattle.bt_parts.specs.declared.part.Part.{Part}
 use Rattle.bt_model.specs.Laying.{Lays}
 use Rattle.bt_model.specs.Requests.{LayoutRequest}
 use Rattle.bt_cnf.specs.Formulas.{FormulaParts}
-use Rattle.bt_log.specs.Logs.{Step}
 use Rattle.bt_place.specs.Narrowed.{IsNarrowed}
 use Rattle.bt_place.specs.PlaceFormula.{place_formula}
 use Rattle.bt_place.specs.Solutions.{ComesAbove, IsSolution}
 use Rattle.bt_sat.specs.Solving.{SolverParts, begun}
 use Rattle.bt_sat.specs.declared.solver.Answer.{Answer}
 use Rattle.bt_sat.specs.declared.solver.Answer.TheVariants as answer
-use Rattle.bt_layout.specs.Early.{AreSought}
 use Rattle.bt_layout.specs.declared.likely.Tried.{Tried}
 use Rattle.bt_layout.specs.declared.likely.Trial.{Trial}
 use Rattle.bt_layout.specs.declared.likely.Trial.TheVariants.{Found, Refuted, Spent}
@@ -38,13 +36,6 @@ IsTrial r (Found parts) = IsLaidOut r parts.items
 IsTrial r Refuted = Unit {0}
 IsTrial r Spent = Unit {0}
 
--- a search for a layout of the request took so many steps, of so many that it may take
-pub record IsSought (r : LayoutRequest) (most steps : ℕ) : Type 0 where
-  pub log : List Step
-  pub sought : AreSought r log
-  pub size : length log ≡ steps
-  pub few : steps ≤ most
-
--- what a search comes to that may take so many steps
+-- what a search comes to that may take so many steps: it takes no more
 abbrev pub IsTried : LayoutRequest → ℕ → Tried → Type 0
-IsTried r most tried = IsTrial r tried.trial × IsSought r most tried.steps
+IsTried r most tried = IsTrial r tried.trial × (tried.steps ≤ most)

@@ -1,7 +1,6 @@
 -- What was found so far, and what is left.
 use Rattle.std.specs.Prelude.{◌≡◌, ◌⊎◌, ℕ, ◌+◌, ◌^◌, ◌<◌, ◌≤◌, List, All, AllPairs, Contains, IfSome, Option, Some, None, drop, get_or, length, map, slice_get, take}
 use Rattle.bt_parts.specs.declared.part.Rect.{Rect}
-use Rattle.bt_log.specs.Logs.{Step}
 use Rattle.bt_model.specs.Requests.{LayoutRequest}
 use Rattle.bt_layout.specs.declared.likely.Tried.{Tried}
 use Rattle.bt_layout.specs.declared.outcome.Layout.{Layout}
@@ -10,30 +9,24 @@ use Rattle.bt_layout.specs.declared.progress.Laid.{Laid}
 use Rattle.bt_layout.specs.declared.progress.Progress.{Progress}
 use Rattle.bt_layout.specs.declared.searching.Searched.{Searched}
 use Rattle.bt_layout.specs.declared.sweep.Sweep.{Sweep}
-use Rattle.bt_layout.specs.Early.{AreRefuted, AreSought, AreTaken, IsLaid}
-use Rattle.bt_layout.specs.Grids.{ComesBefore}
+use Rattle.bt_layout.specs.Early.{AreRefuted, IsLaid}
 use Rattle.bt_layout.specs.Layouts.{IsLayout}
 use Rattle.bt_layout.specs.Small.{HasFewer, MayBeAsked}
 use Rattle.bt_layout.specs.Smallest.{request_on}
-use Rattle.bt_layout.specs.inner.Likely.{IsSought, IsTried}
+use Rattle.bt_layout.specs.inner.Likely.{IsTried}
 
--- the parts that were found lay the request at their place, and searches for layouts of the requests took the steps, of so many that they may take
+-- the parts that were found lay the request at their place, and the steps are no more than may be taken
 pub record IsProgress (requests : List LayoutRequest) (learnt : ℕ) (progress : Progress) : Type 0 where
   pub found : IfSome progress.found (λ laid. IsLaid requests laid.place laid.parts)
   pub few : progress.steps ≤ learnt
-  pub taken : AreTaken (Contains requests) progress.steps
 
 -- how many of so many requests are lesser: those before the one that was laid, or all
 abbrev pub lesser_of : ℕ → Option Laid → ℕ
 lesser_of count (Some laid) = laid.place
 lesser_of count None = count
 
--- so many more steps may be taken, and were in a search for a layout of one of the requests
-pub record ArePaid (requests : List LayoutRequest) (learnt taken steps : ℕ) : Type 0 where
-  pub request : LayoutRequest
-  pub among : Contains requests request
-  pub most : ℕ
-  pub sought : IsSought request most steps
+-- so many more steps may be taken
+pub record ArePaid (learnt taken steps : ℕ) : Type 0 where
   pub few : taken + steps ≤ learnt
   pub limit : learnt < 2 ^ 64
 
@@ -56,20 +49,17 @@ pub record IsSearched (requests : List LayoutRequest) (learnt : ℕ) (sweep : Sw
   pub left : sweep.progress.steps + most ≤ learnt
   pub limit : learnt < 2 ^ 64
 
--- where no parts were found, these are the steps of the log, or of a log that refutes the formula no fewer than it has
-abbrev pub HasLog : Layout → List Step → Type 0
+-- where no parts were found, the log has so many steps, or one that refutes the formula no more
+abbrev pub HasLog : Layout → ℕ → Type 0
 HasLog (layout.Found parts) steps = Unit {0}
-HasLog (layout.Nowhere log) steps = length log.steps ≤ length steps
-HasLog (layout.Spent log) steps = log.steps ≡ steps
+HasLog (layout.Nowhere log) steps = length log.steps ≤ steps
+HasLog (layout.Spent log) steps = length log.steps ≡ steps
 
 -- what a search of the placement formula comes to that may take so many steps
 pub record IsWhole (r : LayoutRequest) (most : ℕ) (searched : Searched) : Type 0 where
   pub layout : IsLayout r most searched.layout
-  pub log : List Step
-  pub sought : AreSought r log
-  pub size : length log ≡ searched.steps
   pub few : searched.steps ≤ most
-  pub is_log : HasLog searched.layout log
+  pub has_log : HasLog searched.layout searched.steps
 
 -- what a search comes to of the placement formula of the request at this place, which may take all steps that are left
 pub record IsEnded (requests : List LayoutRequest) (learnt : ℕ) (progress : Progress) (place : ℕ) (searched : Searched) : Type 0 where
@@ -84,23 +74,21 @@ pub record IsEnded (requests : List LayoutRequest) (learnt : ℕ) (progress : Pr
 abbrev pub lesser_from : List LayoutRequest → ℕ → Option Laid → List LayoutRequest
 lesser_from requests place found = drop place (take (lesser_of (length requests) found) requests)
 
--- all steps were taken, or no parts lay any of the requests that are lesser than the one that was laid, from this place on
+-- all steps were taken, or no parts lay any of the requests that are lesser than the one that was laid, from this place
+-- on
 abbrev pub ArePassed : List LayoutRequest → ℕ → ℕ → Progress → Type 0
 ArePassed requests learnt place progress = (progress.steps ≡ learnt) ⊎ AreRefuted (lesser_from requests place progress.found) progress.steps
 
--- the requests are the same on those of these grids that have fewer cells than so many, in their order
+-- the requests are the same on those of these grids that have fewer cells than so many
 pub record AskSmall (r : LayoutRequest) (cells : Option ℕ) (grids : List Rect) (requests : List LayoutRequest) : Type 0 where
   pub asked : List Rect
   pub are : requests ≡ map (request_on r) asked
   pub only : All (MayBeAsked r cells) asked
-  pub among : All (Contains grids) asked
   pub all : (grid : Rect) → Contains grids grid → HasFewer cells grid → Contains asked grid
-  pub in_order : AllPairs ComesBefore asked
 
--- the requests are the same on each grid that may be asked, in the order of grids
+-- the requests are the same on each grid that may be asked
 pub record AskEach (r : LayoutRequest) (cells : Option ℕ) (requests : List LayoutRequest) : Type 0 where
   pub grids : List Rect
   pub are : requests ≡ map (request_on r) grids
   pub only : All (MayBeAsked r cells) grids
   pub all : (grid : Rect) → MayBeAsked r cells grid → Contains grids grid
-  pub in_order : AllPairs ComesBefore grids

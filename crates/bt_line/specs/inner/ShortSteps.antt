@@ -11,7 +11,8 @@ abbrev pub IsTermOver : ℕ → ℕ → ℤ → Option (ℕ × Ratio) → Type 0
 IsTermOver under position number (Some term) = (term ≡ (position, reduced number under)) × (number ≢ pos 0)
 IsTermOver under position number None = number ≡ pos 0
 
--- of the sum of a line and a number times another, both over denominators for which these are the scales, this is the first term, and these are what is left of both
+-- of the sum of a line and a number times another, both over denominators for which these are the scales, this is the
+-- first term, and these are what is left of both
 abbrev pub IsShortStep : Numbers → Numbers → ℤ → ℤ → ℕ → ℕ → ℤ → Numbers → Numbers → Type 0
 IsShortStep left right left_by right_by under position number left' right' =
     (left_under : ℕ) (factor : ℤ) (right_under : ℕ) → AreScales left_under factor right_under left_by right_by under

@@ -72,12 +72,14 @@ abbrev pub IsHeaderRead : List ℕ → Result Network NetFault → Type 0
 IsHeaderRead bytes (Ok n) = IsStarted n bytes
 IsHeaderRead bytes (Err fault) = HeaderRefused bytes fault
 
--- what a line says after the edges of the network so far: the edge that comes next, or that it is the line of none that may
+-- what a line says after the edges of the network so far: the edge that comes next, or that it is the line of none that
+-- may
 abbrev pub IsNextEdge : Network → List ℕ → Option Edge → Type 0
 IsNextEdge n bytes (Some e) = IsEdgeLine bytes e × IsPartlyWired (with_edge n e)
 IsNextEdge n bytes None = (e : Edge) → IsEdgeLine bytes e → IsPartlyWired (with_edge n e) → ⊥
 
--- the text is lines of the network's edges, which may stand, and then this, whose first line is that of no edge that may come next
+-- the text is lines of the network's edges, which may stand, and then this, whose first line is that of no edge that
+-- may come next
 pub record EdgesEnd (n : Network) (text rest : List ℕ) : Type 0 where
   pub wired : IsPartlyWired n
   pub few : length n.edges ≤ MOST_OF_EACH
@@ -103,7 +105,8 @@ pub record ItemsEnd {X : Type 0} (IsLine : ℕ → List ℕ → X → Type 0) (n
   pub next : IsFirstLine rest bytes after
   pub no_more : (x : X) → IsLine (number + length items) bytes x → ⊥
 
--- what the line says that follows the edges, pins, sides and blocks of a network: that it ends there, behind which this follows, or that the line, with this number, may not stand
+-- what the line says that follows the edges, pins, sides and blocks of a network: that it ends there, behind which this
+-- follows, or that the line, with this number, may not stand
 abbrev pub IsEndRead : Network → ℕ → List ℕ → Result (List ℕ) NetFault → Type 0
 IsEndRead n number text (Ok rest) = IsFirstLine text (codes "end") rest × IsWired n
 IsEndRead n number text (Err (NetLine k)) = (bytes after : List ℕ) × IsFirstLine text bytes after × (bytes ≡ codes "end" → IsWired n → ⊥) × (k ≡ number)

@@ -23,7 +23,8 @@ abbrev pub HasPlace : Preferred → Priority → Type 0
 HasPlace preferred (Give k a) = k < length preferred.gives.items
 HasPlace preferred (Take k a) = k < length preferred.takes.items
 
--- the text is so many lines of priorities, by which a network without any prefers these edges, and then this, whose first line is that of no other
+-- the text is so many lines of priorities, by which a network without any prefers these edges, and then this, whose
+-- first line is that of no other
 pub record PrioritiesEnd (n : Network) (text : List ℕ) (preferred : Preferred) (count : ℕ) (rest : List ℕ) : Type 0 where
   pub priorities : List Priority
   pub starts : BeginsWithItems (IsPriorityLine n) (length n.edges + 2) text priorities rest

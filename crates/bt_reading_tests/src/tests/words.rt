@@ -6,9 +6,9 @@ use bt_words::{Command, Limits, NetworkFamily, USUAL_LEARNT, USUAL_PIVOTS, comma
 use std::alloc::{AllocError, Global};
 use std::test::Fail;
 
-/// Words, and the command that they are: its word, its property, family or tier, and its numbers. These are the most
-/// steps and the most turns, and then an order; or a width and a height, and then the most steps. A dash is the usual
-/// number.
+/// Words, and the command that they are: its word, its property, family or tier (`own` where none is named), and its
+/// numbers. These are the most steps and the most turns, and then an order; or a width and a height, and then the most
+/// steps. A dash is the usual number.
 const COMMANDS: &str = "flow-check unlimited|flow-check unlimited
 recover|recover
 check drawn-evenly|check drawn-evenly
@@ -25,19 +25,19 @@ make --chain 0|make chain - - 0
 make 999999999|make butterfly - - 999999999
 make --learnt=0 16 --chain --pivots 0|make chain 0 0 16
 make --learnt 1000000000 --pivots 100000 1|make butterfly 1000000000 100000 1
-layout --grid 5x8|layout basic 5 8 -
-layout --grid=5x8|layout basic 5 8 -
+layout --grid 5x8|layout own 5 8 -
+layout --grid=5x8|layout own 5 8 -
 layout --grid 16x16 --tier basic --learnt 0|layout basic 16 16 0
 layout --learnt=1000000000 --tier=turbo --grid=1x16|layout turbo 1 16 1000000000
 layout --tier fast --grid 16x1|layout fast 16 1 -
 layout --tier=express --learnt 7 --grid 2x3|layout express 2 3 7
-check-layout --grid 5x8|check-layout basic 5 8
+check-layout --grid 5x8|check-layout own 5 8
 check-layout --grid=10x9 --tier turbo|check-layout turbo 10 9
 check-layout --tier=fast --grid 1x1|check-layout fast 1 1
 check-layout --tier express --grid=16x16|check-layout express 16 16
 formula balanced|formula balanced
 formula drawn-evenly|formula drawn-evenly
-formula --grid 5x8|formula basic 5 8
+formula --grid 5x8|formula own 5 8
 formula --tier=turbo --grid=16x1|formula turbo 16 1
 |none
 help|none
@@ -136,6 +136,8 @@ fn property(name: &str) -> Property {
         "balanced" => Property::Balanced,
         "drawn-evenly" => Property::DrawnEvenly,
         "unlimited" => Property::Unlimited,
+        "fair" => Property::Fair,
+        "drawn-fairly" => Property::DrawnFairly,
         _ => Property::Full,
     }
 }
@@ -157,6 +159,15 @@ fn steps(field: &str) -> u64 {
     field.parse::<u64>().unwrap_or(USUAL_LEARNT)
 }
 
+/// The tier that a field names, or none.
+fn tier(field: &str) -> Option<Tier> {
+    if field == "own" {
+        None
+    } else {
+        Some(tier_named(field))
+    }
+}
+
 /// The command that a row spells.
 fn spelled(text: &str) -> Option<Command> {
     let [word, name, first, second, third] = fields(text, ' ');
@@ -174,10 +185,10 @@ fn spelled(text: &str) -> Option<Command> {
         "check" => Some(Command::Check(property(name))),
         "decide" => Some(Command::Decide(property(name), limits)),
         "make" => Some(Command::Make(family(name), number(third), limits)),
-        "layout" => Some(Command::Layout(grid, tier_named(name), steps(third))),
-        "check-layout" => Some(Command::CheckLayout(grid, tier_named(name))),
+        "layout" => Some(Command::Layout(grid, tier(name), steps(third))),
+        "check-layout" => Some(Command::CheckLayout(grid, tier(name))),
         "formula" if first.is_empty() => Some(Command::FlowFormula(property(name))),
-        "formula" => Some(Command::PlaceFormula(grid, tier_named(name))),
+        "formula" => Some(Command::PlaceFormula(grid, tier(name))),
         _ => None,
     }
 }

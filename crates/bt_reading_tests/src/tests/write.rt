@@ -7,13 +7,13 @@ use bt_write::text_of;
 use std::alloc::{AllocError, Global};
 use std::test::Fail;
 
-/// Parts, and the entities that are written for them.
-const WRITTEN: &str = r#"|
-basic belt north 0 0|{"entity_number":1,"name":"transport-belt","position":{"x":0.5,"y":0.5},"direction":0}
-basic entrance east 0 0|{"entity_number":1,"name":"underground-belt","position":{"x":0.5,"y":0.5},"direction":2,"type":"input"}
-turbo exit west -1 -2|{"entity_number":1,"name":"turbo-underground-belt","position":{"x":-0.5,"y":-1.5},"direction":6,"type":"output"}
-express splitter north 0 0|{"entity_number":1,"name":"express-splitter","position":{"x":1,"y":0.5},"direction":0}
-fast splitter south -1 -1|{"entity_number":1,"name":"fast-splitter","position":{"x":0,"y":-0.5},"direction":4}"#;
+/// Parts, the entities that are written for them, and the version.
+const WRITTEN: &str = r#"||281479271677952
+basic belt north 0 0|{"entity_number":1,"name":"transport-belt","position":{"x":0.5,"y":0.5},"direction":0}|281479271677952
+basic entrance east 0 0|{"entity_number":1,"name":"underground-belt","position":{"x":0.5,"y":0.5},"direction":2,"type":"input"}|281479271677952
+turbo exit west -1 -2|{"entity_number":1,"name":"turbo-underground-belt","position":{"x":-0.5,"y":-1.5},"direction":12,"type":"output"}|562949953421312
+express splitter north 0 0|{"entity_number":1,"name":"express-splitter","position":{"x":1,"y":0.5},"direction":0}|281479271677952
+fast splitter south -1 -1|{"entity_number":1,"name":"fast-splitter","position":{"x":0,"y":-0.5},"direction":4}|281479271677952"#;
 
 /// Parts that are read back.
 const READ_BACK: &str = "fast splitter east 3 -4;basic belt north 0 0;turbo entrance south -7 12;\
@@ -30,18 +30,18 @@ fn parts_spelled(alloc: Global, words: &str) -> Result<Vec<Part>, AllocError> {
     Ok(parts)
 }
 
-/// The blueprint of entities.
-fn blueprint_of(alloc: Global, entities: &str) -> Result<String, AllocError> {
+/// The blueprint of entities in a version.
+fn blueprint_of(alloc: Global, entities: &str, version: &str) -> Result<String, AllocError> {
     let front = r#"{"blueprint":{"item":"blueprint","entities":["#;
-    format!(in alloc; "{front}{entities}],\"version\":281479271677952}}}}\n")
+    format!(in alloc; "{front}{entities}],\"version\":{version}}}}}\n")
 }
 
-/// Whether a row's parts are written as its entities.
+/// Whether a row's parts are written as its entities in its version.
 fn is_written(alloc: Global, row: &str) -> Result<bool, AllocError> {
-    let [parts, entities, ..] = fields(row, '|');
+    let [parts, entities, version, ..] = fields(row, '|');
     let parts = parts_spelled(alloc, parts)?;
     let written = text_of(alloc, &parts)?;
-    Ok(written.as_slice() == blueprint_of(alloc, entities)?.as_bytes())
+    Ok(written.as_slice() == blueprint_of(alloc, entities, version)?.as_bytes())
 }
 
 /// Whether these parts are read of a value.

@@ -9,7 +9,8 @@ use Rattle.bt_recover.specs.declared.recovery.Found.{Found}
 use Rattle.bt_recover.specs.Recovered.{IsRecovered}
 use Rattle.bt_recover.specs.inner.Edges.{naming_of, AreNames, IsJoint, HasEdges, AllDone, net_with}
 
--- the layout is clean, its numbers are named by these parts, these edges stand for its chains and join these halves, and this is its network
+-- the layout is clean, its numbers are named by these parts, these edges stand for its chains and join these halves,
+-- and this is its network
 pub record HasJoints (parts : List Part) (found : Found) : Type 0 where
   pub clean : IsClean parts
   pub names : AreNames parts (naming_of found.names)

@@ -42,7 +42,8 @@ one_input w d e a b i is_a is_b from_a from_b =
     counted_one (is_input i) w.r.net.edges d e a b (w.is_request.net.wired.one_in i lt) is_a (input_by i a from_a) is_b (input_by i b from_b)
 
 module _ (w : Solved) (parts : List Part) (lists : ListsEach (IsKeptPart w.r w.reading) parts) where
-  -- the chain of an edge: it comes in where the edge is taken, or begins where its input does, or leaves by the half that is chosen for it
+  -- the chain of an edge: it comes in where the edge is taken, or begins where its input does, or leaves by the half
+  -- that is chosen for it
   pub data IsChainOf (e : ℕ) (c : Chain) : Type 0 where
     into : (edge : Edge) (t : ℕ) → IsEdge w e edge → edge.target ≡ to.Split t → IsChain parts c
         → ComesInto w parts lists c t (in_half w parts lists t (in_rank w parts lists t e)) → IsChainOf e c

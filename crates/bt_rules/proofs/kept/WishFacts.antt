@@ -1,4 +1,5 @@
--- The chains that are settled beforehand: those of edges into splitters, and those of outputs that pins or sides settle.
+-- The chains that are settled beforehand: those of edges into splitters, and those of outputs that pins or sides
+-- settle.
 use Rattle.std.proofs.Common.{◌≡◌, ◌⊎◌, ℕ, Bool, true, List, Some, refl, sym, ◌∙◌, ap, subst, inl, inr, ⊎_elim, arith}
 use Rattle.std.specs.List.{slice_get, filter, count_by}
 use Rattle.std.proofs.lemmas.List.Sums.{length-filter}

@@ -3,7 +3,7 @@ ghost use Rattle.std.specs.Prelude.{◌<◌, IfOk, None};
 ghost use Rattle.bt_cnf.specs.Formulas.{LitsBelow};
 
 use super::{fields, number_of};
-use bt_choosers::{Active, Highest, Lowest, Recent};
+use bt_choosers::{Active, Highest, Lowest, Plan, Recent};
 use bt_cnf::{Chooser, Formula, Lit, Pick, Var};
 use bt_sat::{Answer, Solver};
 use std::alloc::{AllocError, Global};
@@ -179,7 +179,19 @@ fn is_right_by<C: Chooser>(
     is_right(&mut solver, wanted)
 }
 
-/// Whether searches without a chooser and with one of three choosers answer right.
+/// Whether a search that goes by its conflicts answers right.
+fn is_right_by_conflicts(alloc: Global, seed: u64, vars: usize) -> Result<bool, AllocError>
+    requires some { 0 < vars }
+    requires few { vars < 9 }
+{
+    let choosers = vec![in alloc; Lowest::new()]?;
+    let plan = Plan::by_conflicts(alloc, vars)?;
+    let mut solver = Solver::by_plan(alloc, formula_of(alloc, seed, vars)?, choosers, 300, plan)?;
+    let wanted = has_model(alloc, solver.formula())?;
+    is_right(&mut solver, wanted)
+}
+
+/// Whether searches without a chooser, with one of three choosers and by their conflicts answer right.
 fn are_right(alloc: Global, seed: u64, vars: usize) -> Result<bool, AllocError>
     requires some { 0 < vars }
     requires few { vars < 9 }
@@ -189,7 +201,8 @@ fn are_right(alloc: Global, seed: u64, vars: usize) -> Result<bool, AllocError>
         is_right_by(alloc, seed, vars, none)?
             && is_right_by(alloc, seed, vars, Some(Highest::new()))?
             && is_right_by(alloc, seed, vars, Some(Recent::new(alloc)?))?
-            && is_right_by(alloc, seed, vars, Some(Active::new(alloc)?))?,
+            && is_right_by(alloc, seed, vars, Some(Active::new(alloc)?))?
+            && is_right_by_conflicts(alloc, seed, vars)?,
     )
 }
 

@@ -1,6 +1,7 @@
 //! What a light search finds.
 use super::{fields, formula_of, number_of};
-use hint_solver::{Answer, Literal, Random, Solver, load};
+use bt_random::Random;
+use hint_solver::{Answer, Literal, Solver, load};
 use std::alloc::{AllocError, Global};
 use std::test::Fail;
 

@@ -40,7 +40,8 @@ abbrev pub IsBoundOrder : TableauParts → ℕ → Ordering → Type 0
 IsBoundOrder t position order =
     (row : RowParts) → bound_row t position ≡ Some row → (point : Delta) × IsSamePoint point (point_at t position) × IsOrderOfDeltas order (bound_value row) point
 
--- the position may be moved: it is a column or a row that isn't bound, or a bound row that is no equation, and raising it moves the failing row towards its bound value
+-- the position may be moved: it is a column or a row that isn't bound, or a bound row that is no equation, and raising
+-- it moves the failing row towards its bound value
 abbrev pub MayEnter : TableauParts → RowParts → Delta → ℕ → Ratio → Type 0
 MayEnter t row point enters number =
     (bound_row t enters ≡ None) ⊎ ((other : RowParts) × (bound_row t enters ≡ Some other) × (other.relation ≢ Equal) × MovesTowards row point number)

@@ -17,7 +17,8 @@ pub record IsWideFor (t : TableauParts) (turns : List Turn) (slots : Slots) (cau
   pub basis : wide.basis.items ≡ basis_of slots
   pub cause_is : cause_of wide ≡ cause
 
--- the slots that stay after a check: those to which its turns lead, where they are of a final basis, and else those before it
+-- the slots that stay after a check: those to which its turns lead, where they are of a final basis, and else those
+-- before it
 abbrev pub slots_after : Slots → Slots → Check → Slots
 slots_after before reached (Sat values) = reached
 slots_after before reached (Unsat weights) = reached

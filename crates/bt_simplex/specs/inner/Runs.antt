@@ -26,7 +26,8 @@ pub record IsMade (t : TableauParts) (turn : Turn) (slots slots' : Slots) : Type
   pub tableau : IsTableau (with_slots t slots')
   pub turned : IsTurnedBy turn (with_slots t slots) (with_slots t slots')
 
--- where the run ends: at this tableau's slots, which are those of a final basis, or whose basis has so many turns before it and isn't final, or at which an operation is None
+-- where the run ends: at this tableau's slots, which are those of a final basis, or whose basis has so many turns
+-- before it and isn't final, or at which an operation is None
 abbrev pub IsEnd : ℕ → TableauParts → TableauParts → List Turn → Slots → End → Type 0
 IsEnd pivots t last turns slots Met = (last ≡ with_slots t slots) × IsTableau last × IsMet last
 IsEnd pivots t last turns slots (Stuck position) = (last ≡ with_slots t slots) × IsTableau last × IsStuckAt last position

@@ -30,7 +30,8 @@ pub record GoesOn (old new : SolverParts) : Type 0 where
   pub more : length old.steps ≤ length new.steps
   pub within : length new.steps ≤ new.limit
 
--- what one try at a goal comes to: the search goes on, with more steps where it is worth another try, or it is at an end,
+-- what one try at a goal comes to: the search goes on, with more steps where it is worth another try, or it is at an
+-- end,
 -- however much stands before the definitions
 abbrev pub IsTry : ℕ → SolverParts → SolverParts → Tried → Type 0
 IsTry pivots old new tried.Done = GoesOn old new

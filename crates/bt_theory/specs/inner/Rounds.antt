@@ -26,13 +26,15 @@ pub record IsFirst (f : FormulaParts) (t : TableauParts) : Type 0 where
   pub tableau : IsTableauOf f t
   pub basis : basis_of t.slots ≡ positions_from (columns_of f) (atom_rows f)
 
--- the tables are those of a formula at the start of a search: the scopes are of its rows, and the tableau is of those before
+-- the tables are those of a formula at the start of a search: the scopes are of its rows, and the tableau is of those
+-- before
 -- the definitions
 pub record AreTablesOf (b : Base) (g : FormulaParts) (tables : Tables) : Type 0 where
   pub scopes : All (IsScopeOf g) (map parts_of tables.scopes.items)
   pub tableau : IsFirst (base_in b g) tables.tableau
 
--- between rounds: the tableau is one of the rows before the definitions at a reachable basis, and the sums of all lemmas fit
+-- between rounds: the tableau is one of the rows before the definitions at a reachable basis, and the sums of all
+-- lemmas fit
 pub record IsReady (b : Base) (s : SolverParts) (t : TableauParts) : Type 0 where
   pub tableau : IsTableauOf (base_in b s.formula) t
   pub reachable : IsReachable (base_in b s.formula) (basis_of t.slots)

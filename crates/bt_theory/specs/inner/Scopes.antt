@@ -47,13 +47,15 @@ IsPaired parts = length parts.0 ≡ length parts.1
 abbrev pub IsScopeOf : FormulaParts → List ℕ × List RowParts → Type 0
 IsScopeOf f parts = AreAtoms f parts.0 parts.1
 
--- the conflict's literals negate atoms that are true under the assignment, and whose rows with the weights add up to one that no values meet
+-- the conflict's literals negate atoms that are true under the assignment, and whose rows with the weights add up to
+-- one that no values meet
 pub record IsConflict (f : FormulaParts) (assignment : List Bool) (conflict : Conflict) : Type 0 where
   pub fits : FitsLemma f conflict.lits.items conflict.weights.items
   pub counted : length conflict.weights.items ≡ length conflict.lits.items
   pub unmet : All (λ l. (l.positive ≡ false) × (truth_in assignment l.var ≡ true)) conflict.lits.items
 
--- of these variables some are true under the assignment, and their rows, which are weighed, add up to one that no values meet
+-- of these variables some are true under the assignment, and their rows, which are weighed, add up to one that no
+-- values meet
 pub record IsConflictIn (assignment : List Bool) (conflict : Conflict) (parts : List ℕ × List RowParts) : Type 0 where
   pub weighed : List (ℕ × Ratio)
   pub below : All (λ w. w.0 < length parts.0) weighed

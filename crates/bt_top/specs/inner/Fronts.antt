@@ -36,7 +36,8 @@ TellsRefusal design.Memory f = ⊥
 
 -- ---- what is answered
 
--- what is answered to steps: what they are accepted with where they refute the formula, or the first line for which they don't
+-- what is answered to steps: what they are accepted with where they refute the formula, or the first line for which
+-- they don't
 abbrev pub steps_answer : Brief → Result (Unit {0}) CertFault → Reply
 steps_answer accepted (Ok done) = Ok (answer.Brief accepted)
 steps_answer accepted (Err fault) = cert_told fault
@@ -78,7 +79,8 @@ GivesFront Right ended bytes result = IfOk result (λ o. MatchOption o (ended �
 abbrev pub GivesHeldFront : (List ℕ → Reply → Type 0) → Held → Result (Option Front) AllocError → Type 0
 GivesHeldFront Right held result = (blanks : List ℕ) → All IsBlank blanks → length blanks ≡ held.skipped → GivesFront Right held.ended (blanks ++ held.bytes.now) result
 
--- the right answer to all that a source has left, within a limit; or why there is none: the source failed, is too long, or memory ran out
+-- the right answer to all that a source has left, within a limit; or why there is none: the source failed, is too long,
+-- or memory ran out
 abbrev pub AnswersLeft : (List ℕ → Reply → Type 0) → ℕ → Passage → Result Answer ReadAll → Type 0
 AnswersLeft Right limit source (Ok a) = (bytes : List ℕ) × ReadsAll limit source (Ok bytes) × Right bytes (Ok a)
 AnswersLeft Right limit source (Err fault) = ReadsAll limit source (Err fault)

@@ -6,7 +6,8 @@ use Rattle.bt_io.specs.Passages.{Passage}
 use Rattle.bt_designs.specs.declared.held.Gathered.{Gathered}
 use Rattle.bt_designs.specs.declared.held.TheConstants.{MOST_CHECKED}
 
--- what was gathered of a source is what it had, blanks and then the bytes, within the limit; and where it has ended, nothing is left
+-- what was gathered of a source is what it had, blanks and then the bytes, within the limit; and where it has ended,
+-- nothing is left
 pub record IsGatheredOf (source : Passage) (gathered : Gathered) : Type 0 where
   pub blanks : List ℕ
   pub are_blanks : All IsBlank blanks

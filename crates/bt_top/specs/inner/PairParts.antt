@@ -12,7 +12,8 @@ use Rattle.bt_designs.specs.TwoDesigns.{IsPaired}
 abbrev pub IsPairedChecked : Network → Network → List ℕ → Reply → Type 0
 IsPairedChecked a b rest = InTurn (IsPaired a b) design_told (λ nets. IsSameCertificateChecked nets rest)
 
--- what is answered to a text behind a first network: the refusal of the design at its front, or what is answered to what follows that
+-- what is answered to a text behind a first network: the refusal of the design at its front, or what is answered to
+-- what follows that
 abbrev pub IsSecondChecked : Network → List ℕ → Reply → Type 0
 IsSecondChecked a text = InTurn (IsBareDesign text) design_told (λ found. IsPairedChecked a found.0 (drop found.1 text))
 

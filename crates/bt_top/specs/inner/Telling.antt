@@ -11,7 +11,8 @@ use Rattle.bt_top.specs.Inputs.{IsUntouched, ReadsInput}
 use Rattle.bt_top.specs.Answering.{IsRightTo}
 use Rattle.bt_top.specs.Endings.{IsRight, IsTold}
 
--- a command's right answer to all bytes of the source, or why it has none: the source failed, is too long, or memory ran out
+-- a command's right answer to all bytes of the source, or why it has none: the source failed, is too long, or memory
+-- ran out
 abbrev pub IsAnswered : Command → Passage → Result Answer ReadAll → Type 0
 IsAnswered command source (Ok a) =
     (bytes : List ℕ) × ReadsInput command source (Ok bytes) × IsRightTo command bytes (Ok a)
@@ -22,7 +23,8 @@ abbrev pub IsAnsweredTo : List (List ℕ) → Passage → Result Answer ReadAll 
 IsAnsweredTo words source (Ok a) = IsRight words source a
 IsAnsweredTo words source (Err fault) = (command : Command) × IsCommand command words × ReadsInput command source (Err fault)
 
--- the answer is told; or there is no memory for its text, which is not that of one that needs none, and nothing is written
+-- the answer is told; or there is no memory for its text, which is not that of one that needs none, and nothing is
+-- written
 abbrev pub IsToldUnlessMemory : Answer → Passage → ℕ → Type 0
 IsToldUnlessMemory a sink status =
     IsTold a sink status ⊎ ((status ≡ NO_MEMORY) × IsUntouched sink × (a ≢ answer.Usage) × (a ≢ answer.TooLong))

@@ -23,7 +23,8 @@ pub record IsWanted (log : LogParts) (places : List ℕ) (place : ℕ) : Type 0 
   pub left : Contains places later
   pub named : Names log later place
 
--- these are places of steps, in their order: the last; of a step that is left all earlier ones that it names; and each but
+-- these are places of steps, in their order: the last; of a step that is left all earlier ones that it names; and each
+-- but
 -- the last is named by a later one that is left
 pub record AreNeeded (log : LogParts) (places : List ℕ) : Type 0 where
   pub in_order : AllPairs (λ one other. one < other) places

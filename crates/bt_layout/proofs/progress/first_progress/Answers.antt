@@ -1,7 +1,5 @@
 use Rattle.std.proofs.Common.{arith}
-use Rattle.std.specs.Prelude.{Contains}
-use Rattle.bt_layout.proofs.Taken.{none_taken}
 use Rattle.bt_layout.proofs.progress.first_progress.Goals as goal
 
 pub returns : goal.returns
-returns c = λ requests learnt. record { found = tt; few = omega arith; taken = none_taken (Contains requests) }
+returns c = λ requests learnt. record { found = tt; few = omega arith }

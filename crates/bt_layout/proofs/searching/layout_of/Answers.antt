@@ -1,4 +1,4 @@
-use Rattle.std.proofs.Common.{sym, subst}
+use Rattle.std.proofs.Common.{length, sym, subst}
 use Rattle.std.proofs.lemmas.Result.{IfOk-weaker}
 use Rattle.bt_place.specs.Solutions.{IsSolution}
 use Rattle.bt_layout.specs.Layouts.{IsLayout}
@@ -19,7 +19,7 @@ returns-in-Refuted-clause-layout c learnt ends =
 
 pub returns-in-Refuted-clause-log : goal.returns-in-Refuted-clause-log
 returns-in-Refuted-clause-log c =
-    IfOk-weaker c.nowhere.result (IsTrimmedTo c.args.log) (λ told. HasLog told c.args.log.steps) (nowhere_log c.args.log) c.nowhere.ensures
+    IfOk-weaker c.nowhere.result (IsTrimmedTo c.args.log) (λ told. HasLog told (length c.args.log.steps)) (nowhere_log c.args.log) c.nowhere.ensures
 
 pub returns-in-Spent-clause-layout : goal.returns-in-Spent-clause-layout
 returns-in-Spent-clause-layout c learnt ends = subst (EndsWith c.args.request.now learnt c.args.log.steps) c.in-Spent.is ends

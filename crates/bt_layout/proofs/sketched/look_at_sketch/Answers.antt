@@ -1,10 +1,9 @@
 use Rattle.std.proofs.Common.{arith}
 use Rattle.std.proofs.lemmas.Result.{IfOk-weaker}
 use Rattle.bt_layout.specs.inner.Likely.{IsTried}
-use Rattle.bt_layout.proofs.Narrow.{sought_within}
 use Rattle.bt_layout.proofs.sketched.look_at_sketch.Goals as goal
 
 pub returns : goal.returns
 returns c =
     IfOk-weaker c.trial_with.result (IsTried c.args.request.now c.min.result) (IsTried c.args.request.now c.args.steps)
-    (λ tried is. (is.0, sought_within c.args.request.now c.min.result c.args.steps tried.steps (omega (arith, c.min.ensures)) is.1)) c.trial_with.ensures
+    (λ tried is. let few = is.1 in (is.0, omega (arith, c.min.ensures, few))) c.trial_with.ensures

@@ -1,5 +1,5 @@
-use Rattle.bt_layout.proofs.Narrow.{none_sought}
+use Rattle.std.proofs.Common.{arith}
 use Rattle.bt_layout.proofs.sketched.look_by_sketch.Goals as goal
 
 pub returns-in-None : goal.returns-in-None
-returns-in-None c = (tt, none_sought c.args.request.now c.args.steps)
+returns-in-None c = (tt, omega arith)

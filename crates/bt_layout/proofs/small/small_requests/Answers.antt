@@ -3,7 +3,7 @@ use Rattle.std.proofs.lemmas.List.{take_all, take_more}
 use Rattle.std.proofs.lemmas.List.Elements.{All-get_or}
 use Rattle.bt_layout.specs.Grids.{AreGrids, IsWithin}
 use Rattle.bt_layout.specs.inner.Progressing.{AskSmall}
-use Rattle.bt_layout.proofs.Smaller.{ask_each, ask_more, ask_none, ask_same, come_before}
+use Rattle.bt_layout.proofs.Smaller.{ask_each, ask_more, ask_none, ask_same}
 use Rattle.bt_layout.proofs.small.small_requests.Goals.{then-has_fewer+in_ok-request_on+in_ok-push, else-has_fewer}
 use Rattle.bt_layout.proofs.small.small_requests.Goals as goal
 
@@ -25,11 +25,10 @@ loop-place-preserved c =
       | then-has_fewer+in_ok-request_on+in_ok-push w ↦
           let within = subst (IsWithin r.rect) (sym c.index-grid.ensures) (All-get_or (IsWithin r.rect) grids place grid inside are.within) in
           let few = c.has_fewer.ensures.0 w.if-has_fewer.true in
-          let before = come_before grids place grid inside are.in_order c.index-grid.ensures in
           subst (AskSmall r cells (take (place + 1) grids)) (sym (ap (λ requests. requests.items) w.requests-is ∙ w.in_ok-push.ensures.items))
           (subst (λ seen. AskSmall r cells seen (asked ++ w.in_ok-request_on.field-0 ∷ [])) (sym next)
           (subst (λ one. AskSmall r cells (take place grids ++ grid ∷ []) (asked ++ one ∷ [])) (sym w.in_ok-request_on.ensures)
-          (ask_more r cells (take place grids) asked grid (within, few) before c.loop-place.invariant)))
+          (ask_more r cells (take place grids) asked grid (within, few) c.loop-place.invariant)))
       | else-has_fewer w ↦
           subst (AskSmall r cells (take (place + 1) grids)) (sym (ap (λ requests. requests.items) w.requests-is))
           (subst (λ seen. AskSmall r cells seen asked) (sym next)

@@ -18,7 +18,7 @@ returns-in-Nowhere-clause-lesser c = λ count before.
 
 pub returns-in-Nowhere-clause-passed : goal.returns-in-Nowhere-clause-passed
 returns-in-Nowhere-clause-passed c = λ requests learnt before ends passed.
-    let more = c.with_steps.ensures.steps requests learnt (ended_paid requests learnt c.args.progress c.args.place c.args.searched ends) in
+    let more = c.with_steps.ensures.steps learnt (ended_paid requests learnt c.args.progress c.args.place c.args.searched ends) in
     passed_by_log requests learnt c.args.progress c.args.place c.args.searched ends c.with_steps.result before c.with_steps.ensures.found more passed _ c.in-Nowhere.is
 
 pub returns-clause-progress : goal.returns-clause-progress
@@ -28,5 +28,5 @@ returns-clause-progress c = λ requests learnt is ends.
 pub returns-clause-passed : goal.returns-clause-passed
 returns-clause-passed c = λ requests learnt before ends passed.
     let after = c.with_steps-in-Spent in
-    let more = after.ensures.steps requests learnt (ended_paid requests learnt c.args.progress c.args.place c.args.searched ends) in
+    let more = after.ensures.steps learnt (ended_paid requests learnt c.args.progress c.args.place c.args.searched ends) in
     passed_by_steps requests learnt c.args.progress c.args.place c.args.searched ends after.result before after.ensures.found more passed _ c.in-Spent.is

@@ -9,6 +9,6 @@ returns c =
     let part = c.args.part in
     let n = number_member (c.args.index + 1) in
     four_behind old c.push_comma.new.text.items c.push_head.new.text.items c.push_position.new.text.items c.push_turn.new.text.items
-    (comma_before c.args.index) (n ++ name_member part) (position_member part) (direction_member part ++ type_member part.kind)
+    (comma_before c.args.index) (n ++ name_member part) (position_member part) (direction_member c.args.version part ++ type_member part.kind)
     c.in_ok-push_comma.ensures c.in_ok-push_head.ensures c.in_ok-push_position.ensures c.in_ok-push_turn.ensures
-    ∙ ap (λ t. old ++ t) (entity_parts (comma_before c.args.index) n (name_member part) (position_member part) (direction_member part) (type_member part.kind))
+    ∙ ap (λ t. old ++ t) (entity_parts (comma_before c.args.index) n (name_member part) (position_member part) (direction_member c.args.version part) (type_member part.kind))

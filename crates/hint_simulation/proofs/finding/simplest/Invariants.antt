@@ -1,5 +1,6 @@
 use Rattle.std.proofs.Common.{IfSome}
-use Rattle.hint_simulation.specs.Simulations.{IsCase, IsBreaking}
+use Rattle.bt_flow.specs.Properties.{IsBreaking}
+use Rattle.hint_simulation.specs.Simulations.{IsCase}
 use Rattle.hint_simulation.proofs.finding.simplest.Given as goal
 
 abbrev pub invariant-tries : goal.invariant-tries

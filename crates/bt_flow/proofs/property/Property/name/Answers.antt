@@ -12,3 +12,9 @@ returns-in-Unlimited c = rw c.in-Unlimited.is refl
 
 pub returns-in-Full : goal.returns-in-Full
 returns-in-Full c = rw c.in-Full.is refl
+
+pub returns-in-Fair : goal.returns-in-Fair
+returns-in-Fair c = rw c.in-Fair.is refl
+
+pub returns-in-DrawnFairly : goal.returns-in-DrawnFairly
+returns-in-DrawnFairly c = rw c.in-DrawnFairly.is refl

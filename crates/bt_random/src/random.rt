@@ -1,4 +1,5 @@
-//! Numbers that look random and are the same in each run.
+//! A generator of numbers that look random.
+ghost use Rattle.std.specs.Prelude.{◌<◌};
 
 /// A linear congruential generator with the multiplier and the increment of Knuth's MMIX.
 #[derive(Drop)]
@@ -13,7 +14,9 @@ impl Random {
     }
 
     /// The next number, below a bound; 0 where the bound is 0.
-    pub fn below(&mut self, bound: usize) -> usize {
+    pub fn below(&mut self, bound: usize) -> usize
+        ensures { 0 < bound → result < bound }
+    {
         self.state = self
             .state
             .wrapping_mul(6_364_136_223_846_793_005)

@@ -4,15 +4,15 @@ use Rattle.bt_entities.specs.Answers.{IsPartsOf}
 use Rattle.bt_entities.specs.declared.fault.EntityFault.TheVariants as entity
 use Rattle.bt_designs.specs.declared.fault.DesignFault.TheVariants.{Memory}
 use Rattle.bt_designs.specs.Refusals.{entity_told}
-use Rattle.bt_designs.specs.Designs.{IsLayoutNet}
+use Rattle.bt_designs.specs.Designs.{IsTieredLayout}
 use Rattle.bt_designs.proofs.InTurns.{stops, went}
-use Rattle.bt_designs.proofs.design.net_of_blueprint.Goals as goal
+use Rattle.bt_designs.proofs.design.laid_of_blueprint.Goals as goal
 
 pub returns-in-Ok : goal.returns-in-Ok
 returns-in-Ok c =
-    went Memory (IsPartsOf (json_of c.args.tree)) (λ fault. Err (entity_told fault)) IsLayoutNet _ _ c.in-Ok.ensures.right c.net_of_layout.ensures
+    went Memory (IsPartsOf (json_of c.args.tree)) (λ fault. Err (entity_told fault)) IsTieredLayout _ _ c.in-Ok.ensures.right c.laid_out.ensures
 
 pub returns-in-Err : goal.returns-in-Err
 returns-in-Err c =
-    stops entity.Memory Memory (IsPartsOf (json_of c.args.tree)) (λ fault. Err (entity_told fault)) IsLayoutNet c.in-Err.fault (Err c.into.result) refl
+    stops entity.Memory Memory (IsPartsOf (json_of c.args.tree)) (λ fault. Err (entity_told fault)) IsTieredLayout c.in-Err.fault (Err c.into.result) refl
     c.in-Err.ensures.right (ap Err c.into.ensures)

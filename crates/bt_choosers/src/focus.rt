@@ -1,0 +1,74 @@
+//! Decisions and restarts by what the last conflicts met. Nothing is claimed of them.
+ghost use Rattle.std.specs.Prelude.{IfSome};
+ghost use Rattle.bt_cnf.specs.Truths.{LacksValue};
+
+use crate::pace::Pace;
+use crate::score::Score;
+use crate::waiting::Waiting;
+use bt_cnf::{Lit, Values, lacks_value};
+use std::alloc::{AllocError, Global};
+
+/// Decides the variable that the most of the last conflicts met, each of which counts a ninth more than the one before,
+/// and sets it as it was set last, at first to false.
+#[derive(Drop)]
+pub struct Focus {
+    waiting: Waiting,
+    bump: Score,
+    /// For each variable, whether it was set to true last.
+    signs: Vec<bool>,
+    pace: Pace,
+}
+
+impl Focus {
+    /// Over so many variables, before the first conflict.
+    pub fn new(alloc: Global, variables: usize) -> Result<Focus, AllocError> {
+        Ok(Focus {
+            waiting: Waiting::new(alloc, variables)?,
+            bump: Score::first_bump(),
+            signs: vec![in alloc; false; variables]?,
+            pace: Pace::new(),
+        })
+    }
+
+    /// A literal of the first variable that waits and has no value.
+    pub fn pick(&mut self, values: &Values) -> Option<Lit>
+        ensures { IfSome result (λ l. LacksValue values.now l.var) }
+    {
+        for _ in 0..self.waiting.len() {
+            let place = self.waiting.pop()?;
+            if place < values.len() {
+                let var = values.id_of(place);
+                if lacks_value(values, var) {
+                    let positive = self.signs.get(place).copied().unwrap_or(false);
+                    return Some(Lit { var, positive });
+                }
+            }
+        }
+        None
+    }
+
+    /// Lets the variables of literals wait that are going to have no value any more, and remembers how they were set.
+    pub fn release(&mut self, trail: &[Lit], from: usize) {
+        for place in from..trail.len() {
+            let lit = trail[place];
+            if let Some(sign) = self.signs.get_mut(lit.var.place()) {
+                *sign = lit.positive;
+            }
+            self.waiting.push(lit.var.place());
+        }
+    }
+
+    /// Takes what a conflict met, and at how many levels the literals of the clause became false that is learnt from it.
+    pub fn learn(&mut self, met: &[usize], levels: u32) {
+        for variable in met {
+            self.waiting.raise(*variable, self.bump);
+        }
+        self.bump = self.bump.grown();
+        self.pace.count(levels);
+    }
+
+    /// Whether a restart is due.
+    pub fn is_restart_due(&mut self) -> bool {
+        self.pace.is_due()
+    }
+}

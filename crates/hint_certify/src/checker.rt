@@ -1,0 +1,251 @@
+//! What follows of the clauses that are there: first by those that the empty clause needs.
+use crate::clauses::Database;
+use crate::trail::{Number, Trail};
+use crate::watches::{Watch, Watches};
+use hint_solver::{Literal, Value, Visit};
+use std::alloc::{AllocError, Global};
+
+/// Of which clauses a propagation is.
+#[derive(Clone, Copy, PartialEq, Eq)]
+enum Part {
+    Core,
+    Others,
+}
+
+/// What became of a watch.
+#[derive(Clone, Copy)]
+enum Watched {
+    Stays,
+    Leaves,
+    Conflict,
+}
+
+/// The clauses of a formula and of a proof, and what follows of them.
+///
+/// A clause that is needed is watched among those of the core, so that conflicts come of these where they can: then fewer
+/// others are needed (Wetzler, Heule and Hunt).
+#[derive(Drop)]
+pub struct Checker {
+    pub database: Database,
+    pub trail: Trail,
+    core: Watches,
+    others: Watches,
+    /// What follows of so many literals by clauses of the core, and by others, is true too.
+    core_done: usize,
+    others_done: usize,
+}
+
+impl Checker {
+    /// A checker without clauses over so many variables.
+    pub fn new(alloc: Global, variables: usize) -> Result<Checker, AllocError> {
+        Ok(Checker {
+            database: Database::new(alloc),
+            trail: Trail::new(alloc, variables)?,
+            core: Watches::new(alloc, variables)?,
+            others: Watches::new(alloc, variables)?,
+            core_done: 0,
+            others_done: 0,
+        })
+    }
+
+    /// Adds a clause that wasn't there before; tells it where all its literals are false.
+    pub fn add(&mut self, literals: &[Literal]) -> Result<(Number, bool), AllocError> {
+        let number = self.database.add(literals)?;
+        let fails = self.attach(number)?;
+        Ok((number, fails))
+    }
+
+    /// Watches a clause, and makes its literal true where it has but one that isn't false; whether it has none.
+    fn attach(&mut self, number: Number) -> Result<bool, AllocError> {
+        self.database.arrange(number, self.trail.values());
+        self.watch(number)?;
+        let (first, second) = match self.database.get(number) {
+            [] => return Ok(true),
+            [first] => (*first, None),
+            [first, second, ..] => (*first, Some(*second)),
+        };
+        let is_unit = match second {
+            Some(second) => self.trail.value(second) == Value::False,
+            None => true,
+        };
+        match self.trail.value(first) {
+            Value::False => Ok(true),
+            Value::Unset if is_unit => {
+                self.trail.push(first, Some(number))?;
+                Ok(false)
+            }
+            _ => Ok(false),
+        }
+    }
+
+    /// Lets a clause of two and more literals watch its first two.
+    fn watch(&mut self, number: Number) -> Result<(), AllocError> {
+        let [first, second, ..] = self.database.get(number) else {
+            return Ok(());
+        };
+        let (first, second) = (*first, *second);
+        let watches = if self.database.is_core(number) {
+            &mut self.core
+        } else {
+            &mut self.others
+        };
+        watches.watch(
+            first,
+            Watch {
+                clause: number,
+                blocker: second,
+            },
+        )?;
+        watches.watch(
+            second,
+            Watch {
+                clause: number,
+                blocker: first,
+            },
+        )
+    }
+
+    /// Brings back a clause that was there before.
+    pub fn bring_back(&mut self, number: Number) -> Result<(), AllocError> {
+        self.database.set_there(number, true);
+        let _ = self.attach(number)?;
+        Ok(())
+    }
+
+    /// Says that the empty clause needs a clause.
+    pub fn need(&mut self, number: Number) -> Result<(), AllocError> {
+        if self.database.set_core(number) {
+            self.watch(number)?;
+        }
+        Ok(())
+    }
+
+    /// Takes back all but so many literals, all that follows of which was true.
+    pub fn cut(&mut self, count: usize) {
+        self.trail.cut(count);
+        self.core_done = self.core_done.min(count);
+        self.others_done = self.others_done.min(count);
+    }
+
+    /// Has all that follows of what is true looked at once more.
+    pub fn start_over(&mut self) {
+        self.core_done = 0;
+        self.others_done = 0;
+    }
+
+    /// The list of a literal, which is put in the place of this one.
+    fn exchange(&mut self, part: Part, literal: Literal, list: Vec<Watch>) -> Vec<Watch> {
+        match part {
+            Part::Core => self.core.exchange(literal, list),
+            Part::Others => self.others.exchange(literal, list),
+        }
+    }
+
+    /// Visits a clause that watches a literal which is false.
+    fn visit(&mut self, part: Part, gone: Literal, number: Number) -> Result<Watched, AllocError> {
+        let Some(entry) = self.database.entry(number) else {
+            return Ok(Watched::Leaves);
+        };
+        let is_stale = match self.database.get(number) {
+            [first, second, ..] => *first != gone && *second != gone,
+            _ => true,
+        };
+        if is_stale || !entry.is_there || entry.is_core != (part == Part::Core) {
+            return Ok(Watched::Leaves);
+        }
+        match self
+            .database
+            .literals
+            .visit(entry.span, gone, self.trail.values())
+        {
+            Visit::Stays(_) => Ok(Watched::Stays),
+            Visit::Moves(literal, blocker) => {
+                let watch = Watch {
+                    clause: number,
+                    blocker,
+                };
+                match part {
+                    Part::Core => self.core.watch(literal, watch)?,
+                    Part::Others => self.others.watch(literal, watch)?,
+                }
+                Ok(Watched::Leaves)
+            }
+            Visit::Forces(literal) => {
+                self.trail.push(literal, Some(number))?;
+                Ok(Watched::Stays)
+            }
+            Visit::Fails => Ok(Watched::Conflict),
+        }
+    }
+
+    /// Visits the clauses of a list that watch a literal which is false; tells one whose literals are all false.
+    fn visit_all(
+        &mut self,
+        part: Part,
+        gone: Literal,
+        list: &mut Vec<Watch>,
+    ) -> Result<Option<Number>, AllocError> {
+        let mut place = 0usize;
+        for _ in 0..list.len() {
+            if place >= list.len() {
+                break;
+            }
+            let watch = list[place];
+            if self.trail.value(watch.blocker) == Value::True {
+                place = place.saturating_add(1);
+                continue;
+            }
+            match self.visit(part, gone, watch.clause)? {
+                Watched::Stays => place = place.saturating_add(1),
+                Watched::Leaves => {
+                    let _ = list.swap_remove(place);
+                }
+                Watched::Conflict => return Ok(Some(watch.clause)),
+            }
+        }
+        Ok(None)
+    }
+
+    /// Makes true what follows of a literal by clauses of a part.
+    fn follow(
+        &mut self,
+        alloc: Global,
+        part: Part,
+        literal: Literal,
+    ) -> Result<Option<Number>, AllocError> {
+        let gone = literal.negated();
+        let mut list = self.exchange(part, gone, Vec::new(alloc));
+        let conflict = self.visit_all(part, gone, &mut list)?;
+        let _ = self.exchange(part, gone, list);
+        Ok(conflict)
+    }
+
+    /// The next literal of which it is to be looked what follows, and by which clauses.
+    fn next(&mut self) -> Option<(Part, Literal)> {
+        if let Some(literal) = self.trail.at(self.core_done) {
+            self.core_done = self.core_done.saturating_add(1);
+            return Some((Part::Core, literal));
+        }
+        let literal = self.trail.at(self.others_done)?;
+        self.others_done = self.others_done.saturating_add(1);
+        Some((Part::Others, literal))
+    }
+
+    /// Makes true all that follows; tells a clause whose literals are all false.
+    pub fn propagate(
+        &mut self,
+        alloc: Global,
+        variables: usize,
+    ) -> Result<Option<Number>, AllocError> {
+        for _ in 0..=variables.saturating_mul(2) {
+            let Some((part, literal)) = self.next() else {
+                break;
+            };
+            let conflict = self.follow(alloc, part, literal)?;
+            if conflict.is_some() {
+                return Ok(conflict);
+            }
+        }
+        Ok(None)
+    }
+}

@@ -1,0 +1,100 @@
+"""Tests of tools/certify and tools/least."""
+
+import importlib.machinery
+import importlib.util
+import io
+import subprocess
+import tempfile
+import unittest
+from pathlib import Path
+
+TOOLS = Path(__file__).resolve().parent.parent
+
+
+def tool(name):
+    """The tool of this name as a module."""
+    loader = importlib.machinery.SourceFileLoader(f"tool_{name}", str(TOOLS / name))
+    module = importlib.util.module_from_spec(importlib.util.spec_from_loader(loader.name, loader))
+    loader.exec_module(module)
+    return module
+
+
+certify, least = tool("certify"), tool("least")
+
+FORMULA = "c a comment\np cnf 2 4\n1 2 0\n-1 2 0\n1 -2 0\n-1 -2 0\n"
+
+
+class CertifyTest(unittest.TestCase):
+    def certified(self, formula, proof, kind="none"):
+        """The certificate of a proof of a formula, both as texts or bytes."""
+        with tempfile.TemporaryDirectory() as room:
+            paths = Path(room, "formula"), Path(room, "proof")
+            for path, text in zip(paths, (formula, proof)):
+                path.write_bytes(text if isinstance(text, bytes) else text.encode())
+            sink = io.BytesIO()
+            certify.certify(*paths, kind, sink)
+            return sink.getvalue().decode()
+
+    def test_finds_hints_and_leaves_out_what_is_not_needed(self):
+        self.assertEqual(self.certified(FORMULA, "2 0\n0\n"), "none\nr 2 0 1 2 0\nr 0 5 3 4 0\nend\n")
+        self.assertEqual(self.certified(FORMULA, "1 0\nd 1 2 0\n2 0\n0\n").splitlines()[-2:], ["r 0 5 2 4 0", "end"])
+
+    def test_takes_numbered_proofs_as_they_are(self):
+        proof = "5 1 0 1 3 0\n6 2 0 1 2 0\n6 d 1 0\n7 0 6 3 4 0\n"
+        self.assertEqual(self.certified(FORMULA, proof, "same"), "same\nr 2 0 1 2 0\nr 0 5 3 4 0\nend\n")
+
+    def test_refuses_what_shows_nothing(self):
+        for proof, reason in (
+            ("", "the proof ends, and nothing false follows"),
+            ("1 0\n", None),
+            ("x\n", "step 1 is no clause"),
+            ("3 0\n", "step 1 is no clause"),
+            ("5 1 0 -1 3 0\n", "line 1 isn't shown by propagation"),
+            ("5 1 0 1 3 0\n", "the proof ends, and nothing false follows"),
+            (b"a\x04\0a\0", "is a binary proof"),
+        ):
+            with self.subTest(proof=proof):
+                if reason is None:
+                    self.assertTrue(self.certified(FORMULA, proof).endswith("end\n"))
+                    continue
+                with self.assertRaises(certify.Refused) as caught:
+                    self.certified(FORMULA, proof)
+                self.assertIn(reason, str(caught.exception))
+        with self.assertRaises(certify.Refused) as caught:
+            self.certified("p cnf 2 2\n1 2 0\n-1 -2 0\n", "1 0\n0\n")
+        self.assertEqual(str(caught.exception), "step 2 isn't shown by propagation")
+        with self.assertRaises(certify.Refused):
+            self.certified("no formula\n", "0\n")
+
+    def test_says_how_it_is_used(self):
+        ended = subprocess.run([TOOLS / "certify"], stderr=subprocess.PIPE, text=True)
+        self.assertEqual((ended.returncode, ended.stderr), (2, "tools/certify FORMULA PROOF [KIND] > CERTIFICATE\n"))
+
+
+class LeastTest(unittest.TestCase):
+    def test_names_the_greatest_rectangles_of_fewer_cells(self):
+        told = ["{}x{}".format(*it) for it in least.greatest_below(77)]
+        self.assertEqual(told, "1x76 2x38 3x25 4x19 5x15 6x12 7x10 8x9".split())
+        for cells in range(1, 60):
+            greatest = least.greatest_below(cells)
+            for width in range(1, cells):
+                for height in range(width, (cells - 1) // width + 1):
+                    self.assertTrue(any(width <= w and height <= h for w, h in greatest), (cells, width, height))
+
+    def test_keeps_what_is_known_and_refuses_another_network(self):
+        with tempfile.TemporaryDirectory() as room:
+            folder = least.Folder(Path(room))
+            folder.begin("net", "basic")
+            folder.layout(b"blueprint", "2x3")
+            again = least.Folder(Path(room))
+            self.assertEqual((again["grid"], again.cells(), least.grids_below(again)), ("2x3", 6, ["1x5", "2x2"]))
+            self.assertEqual(least.told(again), ("open: 2x3 is 6 cells, 1x5 2x2 not refuted", 1))
+            for grid in ("1x5", "2x2"):
+                again.certificate(grid).touch()
+            self.assertEqual(least.told(again), ("least: 6 cells, by 2 certificates", 0))
+            with self.assertRaises(least.Refused):
+                again.begin("another net", "basic")
+
+
+if __name__ == "__main__":
+    unittest.main()
