@@ -1,8 +1,13 @@
 """What became of a design, as a record keeps it: of reading it, of each property, and of looking for a smaller layout."""
 
-from dataclasses import asdict, dataclass, field, fields
+from dataclasses import asdict, dataclass, field, fields, replace
+
+from .ends import UNJUDGED
+from .words import OF_ENDS
 
 SETTLED = ("yes", "no")
+OF_HALVES = "halves"
+"""What is told of a property on which the choices of bare halves don't agree, or of which nothing is decided."""
 GAVE_UP = ("spent", "pivots", "wide", "late", "unaccepted")
 ANSWERS = {"yes": "yes", "no": "not"}
 """How the name of a file begins that holds a certificate, or a breaking state."""
@@ -33,6 +38,8 @@ class Limits:
     seconds: float | None = None
     learnt: int | None = None
     pivots: int | None = None
+    width: int | None = None
+    """How many tiles wide a smaller layout is at most."""
 
     def words(self):
         """The words that tell the program of them."""
@@ -45,6 +52,9 @@ class Limits:
     def words_to_find(self):
         """The words that tell the program of them where it looks for layouts, which takes no turns."""
         return ["--learnt", str(self.learnt)] if self.learnt is not None else []
+
+    def told_to_find(self):
+        return self.told() + ([self.width] if self.width else [])
 
 
 @dataclass(frozen=True)
@@ -64,6 +74,17 @@ class Network(Kept):
     before: list | tuple | None = None
     after: list | tuple | None = None
     would: list | tuple | None = None
+    ends: str = ""
+    """What the rule of ends tells of it."""
+    gaps: list = field(default_factory=list)
+    is_marked: bool = False
+    """Whether what is judged is the network, in which ends are marked, and not the design's text."""
+    choices: int = 0
+    """How many choices of bare halves there are, each with a folder of its own."""
+
+    def is_judged(self):
+        """Whether properties are decided of it: of the network, or of those of the choices."""
+        return self.choices > 0 or self.status == 0 and self.ends not in UNJUDGED
 
 
 @dataclass(frozen=True)
@@ -87,10 +108,26 @@ class Answer(Kept):
 
     def stands(self, limits):
         """Whether it needs no second run: a verdict, which was checked, or the same limits once more."""
-        return self.verdict in SETTLED or self.verdict in GAVE_UP and self.limits == limits.told()
+        return self.verdict in (*SETTLED, OF_HALVES) or self.verdict in GAVE_UP and self.limits == limits.told()
 
 
 UNDECIDED = Answer(why="not decided yet")
+
+
+def together(answers):
+    """What several choices of bare halves tell of a property: what all agree on, whichever halves are meant; None where
+    one isn't decided yet."""
+    if None in answers:
+        return None
+    verdicts = [it.verdict for it in answers]
+    spent = {it: round(sum(getattr(answer, it) or 0 for answer in answers), 3) for it in ("processor", "clock")}
+    settled = {it for it in verdicts if it in SETTLED}
+    if len(settled) == 1 and set(verdicts) == settled:
+        return Answer(verdicts[0], OF_ENDS["whichever"], max(it.steps for it in answers), **spent)
+    if len(settled) == 1:
+        return replace(next(it for it in answers if it.verdict not in SETTLED), file="", digest="", steps=0, **spent)
+    told = ", ".join(f"{it} for {verdicts.count(it)} of {len(verdicts)}" for it in SETTLED if it in settled)
+    return Answer(OF_HALVES, OF_ENDS["differ"].format(told), **spent) if settled else replace(answers[0], **spent)
 
 
 @dataclass(frozen=True)
@@ -110,4 +147,4 @@ class Smaller(Kept):
 
     def stands(self, limits):
         """Whether it needs no second run: a refusal, or the same limits once more."""
-        return self.verdict == "refused" or self.verdict in FOUND and self.limits == limits.told()
+        return self.verdict == "refused" or self.verdict in FOUND and self.limits == limits.told_to_find()

@@ -4,11 +4,16 @@ import argparse
 import os
 import sys
 
-from . import cleaning, design, files, inputs, openings, refusals, trace
-from .command import ENDED_WELL, FAILED, PATHS, treating
+from . import cleaning, design, ends, files, inputs, labels, openings, refusals, states, trace
+from .command import ENDED_WELL, FAILED, PATHS, at_least, treating
 from .files import counted
 from .program import EXACT_STATUSES, NoProgram, find
+from .words import OF_ENDS
 from .work import how_it_ended
+
+
+ENDS = "which halves are opened: never one; those that the label tells of, as 4 to 4, or without it all where there is no "
+ENDS += "input or no output (label, which is the default); or always wherever that can be done"
 
 
 class Wrong(Exception):
@@ -20,10 +25,13 @@ def words_of(arguments):
     parser = argparse.ArgumentParser(
         prog="bare-ends",
         allow_abbrev=False,
-        description="Opens each half of a splitter to which no belt leads: by belts of the splitter's tier, straight "
-        "to one cell beyond the design's border, where the network stays what it was but for this end more. Writes the "
-        "design, as JSON and without what can't touch a belt, on standard output, and what it did on standard error.",
+        description="Opens halves of splitters to which no belt leads, as bin/collection does: by belts of the splitter's "
+        "tier, straight to one cell beyond the design's border, where the network stays what it was but for this end more. "
+        "Writes the design, as JSON and without what can't touch a belt, on standard output, and what it did on standard "
+        "error.",
     )
+    parser.add_argument("--ends", choices=openings.MODES, default="label", help=ENDS)
+    parser.add_argument("--choice", type=at_least(1), metavar="NUMBER", help="which of several choices, from 1 on")
     parser.add_argument("path", nargs="?", default=inputs.STANDARD_INPUT, metavar="PATH", help=PATHS)
     treating(parser)
     parser.add_argument("--program", metavar="FILE", help="the program to run, in place of that of bin/beltproof")
@@ -42,7 +50,7 @@ def design_of(path):
         raise Wrong(found[0].trouble)
     if not found[0].is_json():
         raise Wrong("a network text has no splitters to open")
-    return found[0].text.decode("utf-8", "surrogateescape")
+    return found[0]
 
 
 def asking(program):
@@ -58,6 +66,25 @@ def asking(program):
             return answer if ended.status == 0 else answer.partition("\n")[0]
 
     return ask
+
+
+def chosen(opening, asked, label):
+    """The design with the halves that are asked for; Wrong where it isn't clear which, or they can't be opened."""
+    found = openings.opened(opening, asked.ends, label)
+    pairs, tiles = labels.spelled(labels.told(label)), [trace.tile(it) for it in found.gaps]
+    if found.ends == ends.GAP:
+        raise Wrong(OF_ENDS["gap" if len(tiles) == 1 else "gaps"].format(states.together(tiles)))
+    if found.ends in ends.UNJUDGED:
+        said = OF_ENDS["counts"].format(pairs, labels.spelled([found.before]))
+        said += OF_ENDS["could"].format(labels.spelled([found.would]))
+        raise Wrong(f"{said}: {OF_ENDS[found.ends]}")
+    if found.choices and (asked.choice or 0) not in range(1, len(found.choices) + 1):
+        lines = (f"--choice {at}: {trace.spelled(it.opened)}" for at, it in enumerate(found.choices, 1))
+        raise Wrong("\n".join([OF_ENDS["several"].format(pairs, len(found.choices)), *lines]))
+    found = found.choices[asked.choice - 1] if found.choices else found
+    if found.is_marked:
+        raise Wrong(OF_ENDS["marked"].format(trace.spelled(found.opened)))
+    return found
 
 
 def told(clean, opening, found):
@@ -77,10 +104,11 @@ def told(clean, opening, found):
 def main(arguments):
     asked = words_of(arguments)
     try:
-        text, ask = design_of(asked.path), asking(find(asked.program))
+        given, ask = design_of(asked.path), asking(find(asked.program))
+        text = given.text.decode("utf-8", "surrogateescape")
         clean = cleaning.cleaned(text, asked.treat_as)
         opening = openings.Opening(clean.text, design.bystanders(text, asked.treat_as), ask)
-        found = openings.opened(opening, "always", "")
+        found = chosen(opening, asked, given.label())
         with open(1, "wb", closefd=False) as out:
             out.write(found.text.encode("utf-8", "surrogateescape").rstrip() + b"\n")
     except openings.Refused as refusal:
@@ -92,7 +120,7 @@ def main(arguments):
     else:
         print("".join(f"bare-ends: {files.plain(it)}\n" for it in told(clean, opening, found)), end="", file=sys.stderr)
         return ENDED_WELL
-    print(f"bare-ends: {files.plain(reason)}", file=sys.stderr)
+    print("".join(f"bare-ends: {files.plain(it)}\n" for it in reason.split("\n")), end="", file=sys.stderr)
     return FAILED
 
 

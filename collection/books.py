@@ -7,8 +7,14 @@ import json
 import re
 from dataclasses import dataclass, field
 
-MOST_NESTED = 100_000
-"""How many books stand in one another at most."""
+from .files import INPUTS, short
+from .words import NUMBERS
+
+MOST_NESTED, MOST_DESIGNS = NUMBERS["most_nested"], NUMBERS["most_designs"]
+"""How many books stand in one another at most, and how many designs are read."""
+LONGEST_LABEL, LONGEST_PATH = NUMBERS["longest_label"], NUMBERS["longest_path"]
+"""How many signs a label has, and the labels of the books around a design together, at most."""
+MOST_INDEX = 10**9
 
 BLANKS = re.compile(r"[ \t\n\r]*")
 DECODER = json.JSONDecoder(strict=False)
@@ -44,11 +50,16 @@ class Entry:
     number: int
     text: str
     label: str | None
+    kind: str = ""
+    """What it is where it is no design: a planner, or an empty slot; of what may be a design, nothing."""
 
     def path(self):
-        """The labels of the books around it, but for the outermost, and its own; where one has none, its number."""
+        """The labels of the books around it, but for the outermost, and its own; where one has none, or all
+        together are too long, the numbers of these."""
         books = self.book.above()[1:] if self.book else []
-        return [it.label or str(it.number) for it in [*books, self]]
+        long = sum(len(it.label or "") for it in books) > LONGEST_PATH
+        names = [str(it.number) if long else it.label or str(it.number) for it in books]
+        return [*names, self.label or str(self.number)]
 
     def place(self):
         """The numbers of the books around it and its own."""
@@ -109,22 +120,31 @@ class Reader:
 
 def label_of(value):
     label = value.get("label") if isinstance(value, dict) else None
-    return label if isinstance(label, str) and label.strip() else None
+    return short(label.strip(), LONGEST_LABEL) if isinstance(label, str) and label.strip() else None
 
 
 def index_of(value, number):
     """The number of a place that a member `index` tells, or where that is none, this one."""
-    return value if isinstance(value, int) and not isinstance(value, bool) and value >= 0 else number
+    return value if isinstance(value, int) and not isinstance(value, bool) and 0 <= value <= MOST_INDEX else number
+
+
+PLANNERS = {"deconstruction_planner", "upgrade_planner"}
+
+
+def kind_of(names):
+    """What an entry of a book with members of these names is, where it is no design."""
+    return "planner" if names & PLANNERS else "empty slot" if not names - {"index", "active_index"} else ""
 
 
 def entry(reader, book, number, depth):
     """Reads one entry: a design, a book, or what is neither."""
     reader.sign()
-    start, label, held = reader.at, None, None
+    start, label, held, names = reader.at, None, None, set()
     if reader.sign() != "{":
         reader.value()
     else:
         for name in reader.members():
+            names.add(name)
             if name == "blueprint_book" and reader.sign() == "{":
                 held = Book(book, number)
                 yield pages(reader, held, depth + 1)
@@ -134,8 +154,11 @@ def entry(reader, book, number, depth):
             number = index_of(value, number) if name == "index" else number
             if held:
                 held.number = number
+    if len(reader.found) >= MOST_DESIGNS:
+        raise Fault(INPUTS["designs"].format(MOST_DESIGNS))
     if not held:
-        reader.found.append(Entry(book, number, reader.text[start : reader.at], label))
+        kind = kind_of(names) if book else ""
+        reader.found.append(Entry(book, number, reader.text[start : reader.at], label, kind))
 
 
 def pages(reader, book, depth):
@@ -149,7 +172,7 @@ def pages(reader, book, depth):
         else:
             value = reader.value()
             if name == "label" and isinstance(value, str) and value.strip():
-                book.label = value
+                book.label = short(value.strip(), LONGEST_LABEL)
 
 
 def end_of_value(text):

@@ -7,14 +7,14 @@ import sys
 from collections import Counter
 from pathlib import Path
 
-from . import cleaning, files, inputs, openings, report, running
+from . import cleaning, compare, files, inputs, labels, openings, report, running
 from .answers import Limits
 from .program import NoProgram, find
 from .rows import LABELS, Row
 from .states import PROPERTIES
 from .work import DESIGN_JSON, DESIGN_NET, Folder, Reading, Worker, all_of
 
-ENDED_WELL, FAILED, WRONG_WORDS, STOPPED, UNHEARD = 0, 1, 2, 130, 141
+ENDED_WELL, FAILED, WRONG_WORDS, UNEXPECTED, STOPPED, UNHEARD = 0, 1, 2, 3, 130, 141
 PATHS = "a file, or a folder with all that is in it; - for standard input; or a blueprint string itself"
 SECONDS = "how many seconds by the clock a decision, or its check, may take"
 MOST = 1_000_000_000
@@ -51,6 +51,23 @@ def opening(parser):
     parser.add_argument("--bare-ends", choices=openings.MODES, default="label", help=told)
 
 
+def properties(words):
+    """The properties that are named, with commas between."""
+    found = [it.strip() for it in words.split(",")]
+    wrong = [it for it in found if it not in PROPERTIES]
+    if wrong:
+        raise argparse.ArgumentTypeError(f"{wrong[0]!r} is none of {', '.join(PROPERTIES)}")
+    return found
+
+
+def expecting(parser):
+    """The words that tell what has to hold."""
+    told = f"ends with {UNEXPECTED} where a design hasn't each of these properties, with commas between"
+    parser.add_argument("--expect", metavar="PROPERTIES", type=properties, action="extend", default=[], help=told)
+    told = f"ends with {UNEXPECTED} where a design isn't what its label says: its ends, TU, balanced, universal"
+    parser.add_argument("--expect-labels", action="store_true", help=told)
+
+
 def words_of(arguments):
     """What the words ask for."""
     parser = argparse.ArgumentParser(
@@ -66,37 +83,64 @@ def words_of(arguments):
     parser.add_argument("--learnt", type=at_least(0), help="how many steps a log may have, as for decide")
     parser.add_argument("--pivots", type=at_least(0), help="how many turns there may be, as for decide")
     parser.add_argument("--smaller", action="store_true", help="looks for a smaller layout of each design laid out")
+    told = "how many tiles wide a smaller layout may be at most: the shortest of that width is looked for"
+    parser.add_argument("--width", type=at_least(1), metavar="W", help=told)
     opening(parser)
     treating(parser)
+    expecting(parser)
     parser.add_argument("--program", metavar="FILE", help="the program to run, in place of that of bin/beltproof")
     other = parser.add_mutually_exclusive_group()
     other.add_argument("--plan", action="store_true", help="prints a command for each design, and runs nothing")
     other.add_argument("--gather", action="store_true", help="makes the report of what is there, and runs nothing")
+    told = "compares two reports, and writes what changed, as a page and a table"
+    other.add_argument("--compare", nargs=2, metavar=("OLD", "NEW"), help=told)
     other.add_argument("--one", metavar="FOLDER", help="does the work of one design, in its folder")
     asked = parser.parse_args(arguments)
+    if asked.compare:
+        if asked.paths or not asked.output:
+            parser.error("two reports, and -o with a folder for what changed, are wanted")
+        return asked
     if not asked.one and not (asked.paths and asked.output):
         parser.error("the designs and -o with the report's folder are wanted")
     return asked
 
 
-def say(rows, output):
+def unexpected(rows, asked):
+    """What doesn't hold of the designs that is expected, in lines."""
+    for row in rows:
+        if row.same_as or row.found.is_passed or row.reason() and not row.network:
+            continue
+        claims = labels.claims(row.found.label()).properties if asked.expect_labels else {}
+        for prop in dict.fromkeys([*asked.expect, *claims]):
+            if row.answer(prop).verdict != "yes":
+                whence = f"its label says {claims[prop]}" if prop in claims else "expected"
+                yield f"{row.found.name}: {whence}: {prop}, and the verdict is {LABELS[row.answer(prop).verdict]}"
+        if asked.expect_labels and labels.told(row.found.label()) and (row.of_ends() or row.warning() or not row.net):
+            yield f"{row.found.name}: {row.of_ends() or row.warning() or row.reason()}"
+
+
+def say(rows, output, asked):
     """Tells what a report says; the status of a command that wrote it."""
     for row in rows:
-        for it in [row.reason()] if row.is_broken() or row.trouble else [] if row.same_as else row.remarks():
+        is_told = row.is_broken() or row.trouble or row.found.is_passed
+        for it in [row.reason()] if is_told else [] if row.same_as else row.remarks():
             print(f"collection: {files.plain(f'{row.found.name}: {it}')}", file=sys.stderr)
     with_network = [row for row in rows if row.net]
+    found = sum(not row.found.is_passed for row in rows)
     verdicts = Counter(row.answer(prop).verdict for row in with_network for prop in PROPERTIES)
     told = ", ".join(f"{number} {LABELS[verdict]}" for verdict, number in verdicts.items())
-    print(f"{output / 'index.html'}: {len(rows)} found, {len(with_network)} with a network{': ' * bool(told)}{told}")
+    print(f"{output / 'index.html'}: {found} found, {len(with_network)} with a network{': ' * bool(told)}{told}")
     looked_for = [row.smaller.verdict for row in with_network if row.smaller]
     if looked_for:
         kept = sum(row.smaller.sides for row in with_network if row.smaller)
         print(f"{looked_for.count('found')} with a smaller layout, of which {kept} with each end at its own side")
-    broken = all(row.is_broken() for row in rows)
+    broken = all(row.is_broken() or row.found.is_passed for row in rows)
     if broken:
         print("collection: there is no design in what was given", file=sys.stderr)
     failed = verdicts["failed"] or "failed" in looked_for or any(row.trouble for row in rows)
-    return FAILED if failed or broken else ENDED_WELL
+    wrong = list(unexpected(rows, asked))
+    print("".join(f"collection: not as expected: {files.plain(it)}\n" for it in wrong), end="", file=sys.stderr)
+    return FAILED if failed or broken else UNEXPECTED if wrong else ENDED_WELL
 
 
 def one(path, worker):
@@ -114,11 +158,11 @@ def one(path, worker):
     return FAILED if failed else ENDED_WELL
 
 
-def gather(rows, output):
+def gather(rows, output, asked):
     """Makes the report of what is there."""
     running.fill(rows)
     programs = Counter(row.folder.record.get("program", "") for row in running.own_rows(rows))
-    return say(report.write(output, rows, max(programs, key=programs.get, default="")), output)
+    return say(report.write(output, rows, max(programs, key=programs.get, default="")), output, asked)
 
 
 def plan(rows, worker, asked):
@@ -131,11 +175,22 @@ def plan(rows, worker, asked):
     return ENDED_WELL
 
 
+def compared(asked):
+    """Compares two reports."""
+    found = compare.write(asked.output, *asked.compare)
+    kinds = Counter(it.kind for it in found)
+    told = ", ".join(f"{kinds[it]} {it}" for it in compare.CHANGES if kinds[it]) or "nothing has changed"
+    print(f"{Path(asked.output) / compare.PAGE}: {told}")
+    return ENDED_WELL
+
+
 def collect(asked):
     """Does what the words ask for; the status."""
+    if asked.compare:
+        return compared(asked)
     worker = None
     if not asked.gather:
-        limits = Limits(asked.seconds, asked.learnt, asked.pivots)
+        limits = Limits(asked.seconds, asked.learnt, asked.pivots, asked.width)
         worker = Worker(find(asked.program), limits, asked.smaller, Reading(asked.bare_ends, tuple(asked.treat_as)))
     if asked.one:
         return one(asked.one, worker)
@@ -144,11 +199,11 @@ def collect(asked):
     output.mkdir(parents=True, exist_ok=True)
     running.place(rows, output)
     if asked.gather:
-        return gather(rows, output)
+        return gather(rows, output, asked)
     if asked.plan:
         return plan(rows, worker, asked)
     running.work(rows, worker, asked.jobs)
-    return say(report.write(output, rows, worker.program.digest), output)
+    return say(report.write(output, rows, worker.program.digest), output, asked)
 
 
 def main(arguments):
@@ -168,7 +223,7 @@ def main(arguments):
         return UNHEARD
     except inputs.NotThere as missing:
         print("".join(f"collection: {line}\n" for line in str(missing).split("\n")), end="", file=sys.stderr)
-    except NoProgram as reason:
+    except (NoProgram, compare.NoReport) as reason:
         print(f"collection: {reason}", file=sys.stderr)
     except OSError as fault:
         why = ": ".join(filter(None, (fault.filename and str(fault.filename), running.fault_of(fault))))

@@ -169,13 +169,13 @@ def middle_of(entity):
     return None if None in middle else tuple(middle)
 
 
-def stranger_of(index, entity, middle, sixteenths):
-    """What is no part, at the tiles nearest to its position."""
+def stranger_of(index, entity, middle, sixteenths, is_nothing=False):
+    """What is no part, at the tiles nearest to its position; whether it is taken for nothing."""
     name = entity.get("name")
     size = BYSTANDERS.get(name) if isinstance(name, str) else None
     sides = size or (1, 1)
     sides = sides[::-1] if direction_of(entity, sixteenths) in (EAST, WEST) else sides
-    return Stranger(index, str(name), tuple(map(int, middle)), sides, size is not None)
+    return Stranger(index, str(name), tuple(map(int, middle)), sides, size is not None or is_nothing)
 
 
 def cells_of(kind, direction, middle):
@@ -226,7 +226,9 @@ def read(text, bounded=True, treated=()):
         raise Unreadable("the blueprint has no entities" if not entities else "no entity has a position")
     shift = shift or (0, 0)
     moved = [(index, entity, [it - by for it, by in zip(middle, shift)]) for index, entity, middle in others]
-    found = Design(parts, [stranger_of(*it, sixteenths) for it in moved], shift, sixteenths)
+    nothing = {name for name, part in treated.items() if part is None}
+    strangers = [stranger_of(*it, sixteenths, str(it[1].get("name")) in nothing) for it in moved]
+    found = Design(parts, strangers, shift, sixteenths)
     least_x, least_y, most_x, most_y = found.box()
     if bounded and max(most_x - least_x, most_y - least_y) >= WIDEST:
         raise Unreadable(f"the entities reach over more than {WIDEST} tiles")

@@ -36,6 +36,8 @@ class Listed:
     entities: list
     end: int
     """Where the list's closing bracket stands."""
+    others: dict
+    """The blueprint's other members."""
 
     def text_of(self, entity):
         return self.text[entity.start : entity.end]
@@ -47,11 +49,18 @@ class Listed:
         values = (texts.get(name, self.text[it.value_start : it.end]) for name, it in kept)
         return "{" + ",".join(map("".join, zip(heads, values))) + "}"
 
-    def with_all(self, texts):
-        """The blueprint's text with these entities in place of its own."""
+    def with_all(self, texts, values=None):
+        """The blueprint's text with these entities in place of its own, and other texts for the values of some of its other
+        members."""
         first = self.entities[0].start if self.entities else self.end
         last = self.entities[-1].end if self.entities else self.end
-        return self.text[:first] + ",\n".join(texts) + self.text[last:]
+        changes = [(first, last, ",\n".join(texts))]
+        changes += [(self.others[name].value_start, self.others[name].end, it) for name, it in (values or {}).items()]
+        found, at = [], 0
+        for start, end, text in sorted(changes):
+            found += [self.text[at:start], text]
+            at = end
+        return "".join([*found, self.text[at:]])
 
     def with_more(self, texts):
         """The blueprint's text with these entities behind its own."""
@@ -79,19 +88,36 @@ def entity_at(reader):
     return Entity(start, reader.at, members)
 
 
+MOST_LISTED = 16384
+"""How many entities are listed at most; with more, no program takes the design."""
+
+
+def all_entities(reader):
+    """The entities of the list that stands here; a fault where there are too many."""
+    found = []
+    for _ in reader.parts("[", "]"):
+        if len(found) == MOST_LISTED:
+            raise Fault(f"there are more than {MOST_LISTED} entities")
+        found.append(entity_at(reader))
+    return found
+
+
 def listed(text):
     """A blueprint's entities; a fault where the text is no blueprint with a list of them, or is damaged."""
-    reader, entities, end = Reader(text), [], None
+    reader, entities, end, others = Reader(text), [], None, {}
     for name in reader.members():
         if name != "blueprint" or end is not None or reader.sign() != "{":
             reader.value()
             continue
         for inner in reader.members():
             if inner == "entities" and end is None and reader.sign() == "[":
-                entities = [entity_at(reader) for _ in reader.parts("[", "]")]
+                entities = all_entities(reader)
                 end = reader.at - 1
             else:
-                reader.value()
+                reader.sign()
+                start, value = reader.at, reader.value()
+                if isinstance(inner, str):
+                    others[inner] = Member(value, start, start, reader.at)
     if end is None:
         raise Fault("the text is no blueprint with a list of entities")
-    return Listed(text, entities, end)
+    return Listed(text, entities, end, others)

@@ -8,6 +8,9 @@ import unicodedata
 from contextlib import contextmanager
 from pathlib import Path
 
+from .words import WORDS
+
+INPUTS = WORDS["inputs"]
 LONGEST_NAME = 80
 """How many characters a folder's name has at most, without the number that tells it from others."""
 
@@ -64,6 +67,8 @@ def digest_of_file(path):
 
 def plain(text):
     """The text without characters that steer what shows it: each of these as its number."""
+    if text.isascii() and text.isprintable():
+        return text
     steering = ("Cc", "Cf", "Cs", "Co", "Cn", "Zl", "Zp")
     return "".join(f"\\u{ord(it):04x}" if unicodedata.category(it) in steering else it for it in text)
 
@@ -75,7 +80,7 @@ def counted(number, word):
 
 def slug(name):
     """A folder's name for a design of this name: letters, digits and dashes alone."""
-    flat = "".join(it for it in unicodedata.normalize("NFKD", name) if not unicodedata.combining(it))
+    flat = "".join(it for it in unicodedata.normalize("NFKD", name[: 4 * LONGEST_NAME]) if not unicodedata.combining(it))
     word = re.sub(r"[^A-Za-z0-9]+", "-", flat).strip("-").lower()[:LONGEST_NAME].strip("-")
     return word or "design"
 
@@ -85,11 +90,19 @@ def is_slug(name):
     return re.fullmatch(r"[a-z0-9]+(?:-[a-z0-9]+)*", name) is not None
 
 
-def free_name(name, taken):
-    """The folder's name, with a number where it is taken."""
-    word, count = slug(name), 1
-    found = word
+def short(text, most):
+    """A text of so many signs at most; where more were cut, with how many."""
+    return text if len(text) <= most else INPUTS["cut"].format(text[:most], len(text) - most)
+
+
+def free_name(name, taken, counts=None):
+    """The folder's name, with a number where it is taken; the numbers that names have come to are kept where told."""
+    counts = {} if counts is None else counts
+    word = slug(name)
+    count = counts.get(word, 1)
+    found = word if count == 1 else f"{word}-{count}"
     while found in taken:
         count += 1
         found = f"{word}-{count}"
+    counts[word] = count
     return found

@@ -4,16 +4,20 @@ what is none, and why."""
 import os
 import re
 import stat
-from dataclasses import dataclass
+from collections import Counter
+from dataclasses import dataclass, replace
 from functools import cached_property
 from pathlib import Path
 
 from . import strings
 from .books import Fault, Reader, end_of_value, entries
-from .files import digest, plain
+from .files import INPUTS, counted, digest, plain
+from .words import NUMBERS
 
-MOST_READ = 64 * 2**20
-"""How many bytes a file has at most."""
+MOST_READ, LONGEST_DESIGN = NUMBERS["most_read"], NUMBERS["longest_design"]
+"""How many bytes a file has at most, and a design."""
+MOST_BRACKETS, MOST_COMMAS = NUMBERS["most_brackets"], NUMBERS["most_commas"]
+"""How many of these JSON has at most that is read."""
 
 BLANKS = b" \t\r\n"
 BYTE_ORDER_MARK = b"\xef\xbb\xbf"
@@ -44,6 +48,8 @@ class Design:
     text: bytes | None
     trouble: str | None = None
     books: str = ""
+    is_passed: bool = False
+    """Whether it stands for what was passed over, since it is no design."""
 
     def label(self):
         """Its name without those of the books around it."""
@@ -126,24 +132,36 @@ def read_file(path):
 
 def from_json(data, name, source):
     """The designs in a text of JSON: itself, or those of a book."""
+    if data.count(b"{") + data.count(b"[") > MOST_BRACKETS or data.count(b",") > MOST_COMMAS:
+        return [Design(name, source, "", None, INPUTS["brackets"].format(MOST_BRACKETS, MOST_COMMAS))]
     text = data.decode("utf-8", "surrogateescape")
     found, fault = entries(text)
     if fault and not any(it.book for it in found):
         # No book: the program tells what is wrong with the text.
-        return [Design(name, source, "", data)]
+        return [bounded(Design(name, source, "", data))]
     if not found:
         return [Design(name, source, "", None, "it is a book in which nothing stands")]
     title = f"{source}, {plain(found[0].title())}" if found and found[0].title() else source
-    designs = []
-    for it in found:
+    designs, passed = [], Counter(it.kind for it in found if it.kind)
+    for it in (it for it in found if not it.kind):
         whole = it.text.encode("utf-8", "surrogateescape")
         *books, label = map(plain, it.path() if it.book or it.label else [name])
         place = ".".join(map(str, it.place()))
         text = whole if it.book else data
-        designs.append(Design("/".join([*books, label]), title, place, text, books="/".join(books)))
+        designs.append(bounded(Design("/".join([*books, label]), title, place, text, books="/".join(books))))
+    if passed:
+        told = " and ".join(counted(number, kind) for kind, number in passed.items())
+        designs.append(Design(f"{name}: no designs", title, "", None, f"passed over: {told}", is_passed=True))
     if fault:
         designs.append(Design(f"{name}: the rest", title, "", None, f"{fault}, and what stands behind isn't read"))
     return designs
+
+
+def bounded(design):
+    """A design, or where its text is too long, that it is."""
+    if len(design.text) <= LONGEST_DESIGN:
+        return design
+    return replace(design, text=None, trouble=INPUTS["design"].format(LONGEST_DESIGN // 2**20))
 
 
 def from_strings(text, name, source):
@@ -175,7 +193,7 @@ def from_bytes(data, name, source):
     if front.startswith(b"{"):
         return from_json(data, name, source)
     if front.split(None, 1)[:1] == [b"net"]:
-        return [Design(name, source, "", data.replace(b"\r\n", b"\n"))]
+        return [bounded(Design(name, source, "", data.replace(b"\r\n", b"\n")))]
     found = from_strings(data.decode("ascii", "replace"), name, source)
     begin = JSON_START.search(data)
     if not found and begin:

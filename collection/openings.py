@@ -5,12 +5,12 @@ that isn't so stays bare."""
 
 from bisect import bisect_left, bisect_right
 from collections import defaultdict
-from dataclasses import dataclass, replace
+from dataclasses import dataclass, field, replace
 
-from . import design, labels, refusals
+from . import design, ends, labels, refusals
 from .design import EAST, PREFIXES, SOUTH, WEST, step
 from .entities import listed
-from .trace import Layout, Untraced, bare_ends, place_of, same_network, spelled, tile
+from .trace import Half, Layout, Untraced, bare_ends, place_of, same_network, spelled, tile
 
 NO_ENDS = "refused 42 "
 
@@ -44,9 +44,17 @@ class Opened:
     unopened: list
     """The ends that can't be opened, each with the reason."""
     before: tuple
-    """How many inputs and outputs there were, are, and would be with all open that can be."""
+    """How many inputs and outputs there were, are, and would be with all open."""
     after: tuple
     would: tuple
+    ends: str = ""
+    """What the rule of ends tells, as `ends` names it; nothing where it isn't asked."""
+    gaps: list = field(default_factory=list)
+    """The tiles at which a belt may be missing."""
+    choices: list = field(default_factory=list)
+    """Where several choices of halves make the ends that the label tells of, the design with each, the likely one first."""
+    is_marked: bool = False
+    """Whether the ends are marked in the network alone, since not all have room for belts: the network is what is judged."""
 
 
 class Ground:
@@ -161,6 +169,7 @@ class Opening:
 
     def __init__(self, text, bystanders, recover):
         self.text, self.recover = text, recover
+        self.taken = [cell for it in bystanders for cell in it.cells]
         self.answer = recover(text)
         if self.answer.startswith("net "):
             self.lines, self.is_whole = self.answer.splitlines(), True
@@ -171,11 +180,12 @@ class Opening:
         try:
             self.found = design.read(text)
             self.network = Layout(self.found.parts).network()
+            self.bare = bare_ends(self.found.parts)
             belts = design.MOST_ENTITIES - len(self.found.parts)
             self.ways = ways_of(self.found, bystanders, belts) if self.network.splitters else []
         except (design.Unreadable, Untraced):
             self.found = self.network = None
-            self.ways = []
+            self.ways = self.bare = []
         self.listed = listed(text) if self.ways else None
         if self.network and not self.is_whole:
             self.lines = self.network.lines()
@@ -229,24 +239,89 @@ class Opening:
         return Opened(*best, belts, [it.place for it in kept], unopened, self.ends(), ends, ends)
 
 
+    def marked(self, ways):
+        """The design with these ends marked in its network alone."""
+        text = self.with_ends(ways)
+        answer = self.recover(text)
+        new = {f"{sign}{k}" for sign, old, now in zip("io", self.ends(), self.more_ends(ways)) for k in range(old, now)}
+        if not answer.startswith("net "):
+            return None
+        left = without(answer.splitlines(), new)
+        if sorted(left) != sorted(self.lines) if self.is_whole else sorted(plain(left)) != sorted(self.lines):
+            return None
+        places, after = [it.place for it in ways], self.more_ends(ways)
+        return Opened(self.text, answer, 0, places, [], self.ends(), after, after, is_marked=True)
+
+    def with_ends(self, ways):
+        """The network's text with these bare halves as ends, behind those that there are."""
+        parts, network = self.found.parts, self.network
+        names, mixed = {part: f"s{k}" for k, part in enumerate(network.splitters)}, len({it.tier for it in parts}) > 1
+        edges = [(edge.source, edge.target, edge.cap, edge.run[0][1], edge.run[-1][1]) for edge in network.edges]
+        counts = list(self.ends())
+        for bare in (self.bare[self.ways.index(way)] for way in ways):
+            half, cap = Half(bare.part, bare.half), design.SPEED[parts[bare.part].tier] if mixed else 1
+            end = f"{'io'[bare.front]}{counts[bare.front]}"
+            counts[bare.front] += 1
+            ends_ = (names[bare.part], end) if bare.front else (end, names[bare.part])
+            edges.append((*ends_, cap, half if bare.front else None, None if bare.front else half))
+        lines = [f"edge {source} {target}{f' {cap}' if cap != 1 else ''}" for source, target, cap, _, _ in edges]
+        gives, takes = ({it[at]: number for number, it in enumerate(edges)} for at in (3, 4))
+        for part, name in names.items():
+            left = parts[part].left_half()
+            for word, side, at in (("give", parts[part].give, gives), ("take", parts[part].take, takes)):
+                half = Half(part, left if side == "left" else 1 - left)
+                lines += [f"{word} {name} {at[half]}"] if side and half in at else []
+        return "\n".join([f"net {counts[0]} {counts[1]} {len(names)}", *lines, "end\n"])
+
+    def opened_as(self, ways):
+        """The design with all of these ends: with belts where each has room for them, else marked."""
+        if all(it.why is None for it in ways):
+            found = self.opened(ways)
+            if len(found.opened) == len(ways):
+                return found
+        return self.marked(ways)
+
+    def told_ends(self, label):
+        """What the rule of ends tells of the design, or None where its parts can't be traced; a pair that may be its own
+        size, and fits its size and not its ends, is none."""
+        if self.network is None:
+            return None
+        pairs = labels.told_with_sizes(label)
+        told = ends.ends_of(self.found.parts, self.taken, list(pairs))
+        least_x, least_y, most_x, most_y = design.box_of([cell for it in self.found.parts for cell in it.cells])
+        size = most_x - least_x + 1, most_y - least_y + 1
+        left = [it for it, may in pairs.items() if not (may and it in (size, size[::-1]))]
+        if told.status == ends.NONE and len(left) < len(pairs):
+            return ends.ends_of(self.found.parts, self.taken, left)
+        return told
+
+
 MODES = ("never", "label", "always")
+"""When bare halves are opened: never, by the rule of ends, or all that can be."""
 
 
 def opened(opening, mode, label):
-    """Opens bare halves: all; or none; or those that make the ends that the label tells of, where all, all inputs or
-    all outputs do and the design hasn't these without; else all, where without them it has no input or no output."""
+    """Opens bare halves: none; or all; or by the rule of ends those that the label tells of, and where it tells of none, all
+    where without them there is no input or no output."""
     free = [it for it in opening.ways if it.why is None]
-    whole = opening.opened(free)
-    if mode == "always":
-        return whole
+    told = opening.told_ends(label)
+    gaps = list(told.gaps) if told else []
     shut = opening.opened([])
-    shut = replace(shut, unopened=whole.unopened, would=whole.after)
-    pairs = labels.told(label)
-    if mode == "never" or opening.is_whole and shut.after in pairs:
-        return shut
-    for ways in (free, [it for it in free if it.front], [it for it in free if not it.front]):
-        if ways and opening.more_ends(ways) in pairs:
-            found = whole if ways is free else replace(opening.opened(ways), would=whole.after)
-            if found.after in pairs:
-                return found
-    return shut if opening.is_whole else whole
+    if told:
+        shut = replace(shut, would=told.could)
+    if mode == "always":
+        return replace(opening.opened(free), gaps=gaps)
+    if mode == "never" or told is None:
+        return replace(shut, gaps=gaps)
+    if told.status == ends.ALL and not labels.told(label):
+        return replace(opening.opened(free), ends=ends.ALL, would=told.could)
+    return by_choices(opening, told, replace(shut, gaps=gaps, ends=told.status, unopened=[]))
+
+
+def by_choices(opening, told, shut):
+    """Opens the choice of halves that is told, or makes of several a design each; else the design as it stands."""
+    found = [opening.opened_as([opening.ways[it] for it in halves]) for halves in told.choices if halves]
+    if None in found:
+        return replace(shut, ends=ends.NONE)
+    found = [replace(it, ends=told.status, would=told.could, unopened=[]) for it in found]
+    return replace(shut, choices=found) if told.status == ends.SEVERAL else found[0] if found else shut

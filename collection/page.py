@@ -8,18 +8,21 @@ from dataclasses import dataclass
 from html import escape
 from pathlib import Path
 
-from . import files, labels, states, strings
+from . import files, labels, states, strings, trace
 from .answers import SETTLED
 from .files import counted
 from .flows import flows
-from .rows import LABELS, Row
+from .rows import LABELS, Row, core_of
 from .states import KNOWN_AS, PROMISES, PROPERTIES
-from .work import DESIGN_JSON, NETWORK, ORIGINAL, SMALLER, SMALLER_STRING
+from .words import NUMBERS, OF_ENDS, of_properties
+from .work import DESIGN_JSON, NETWORK, OF_SEARCHES, ORIGINAL, SMALLER, SMALLER_STRING
 
 HERE = Path(__file__).resolve().parent
 VOID = {"br", "meta", "input"}
 """The elements that have no content, and no end."""
 SIGNS = {"yes": "✓", "no": "✕"}
+ALSO_KNOWN_AS = of_properties("also")
+"""By which other words a property is found."""
 PIXELS, MOST_PIXELS, PLENTY = 34, 46, 420
 """How wide a cell is on a large screen: more where the whole picture is small."""
 WIDEST_BESIDE = 20
@@ -28,6 +31,9 @@ THUMB = 60
 """How wide and how high the small picture in the table is at most."""
 MOST_IN_TABLE, MOST_IN_PAGE = 3, 24
 """How many bare halves a sentence names at most, in the table and on a design's own page."""
+LONGEST = NUMBERS["longest_name"]
+MOST_DRAWN = 12
+"""How many choices of bare halves are drawn at most."""
 AT_ONCE = 40
 """So many rows of the table are laid out when the page opens; those behind them once it is there."""
 SOMETIMES = ("bare", "same network", "smaller", "seconds")
@@ -121,8 +127,8 @@ def where(row, alone):
 
 def remarks(row, most):
     """What there is to say of how a design was read, with so many names in each sentence."""
-    kinds = ("warning" if it == row.warning() else "" for it in row.remarks(most))
-    lines = [element("li", shown(it[0].upper() + it[1:]), class_=kind) for it, kind in zip(row.remarks(most), kinds)]
+    told, warnings = row.remarks(most), set(row.warnings())
+    lines = [element("li", shown(it[0].upper() + it[1:]), class_="warning" * (it in warnings)) for it in told]
     return element("ul", *lines, class_="remarks") if lines else ""
 
 
@@ -160,6 +166,11 @@ def kin_of(row):
             yield element("a", named(it.found.label()), href=f"#{page_id(it)}") + apart
 
 
+def searched(row):
+    """What became of the search for a smaller layout, in a few words."""
+    return OF_SEARCHES[{"found": "yes"}.get(row.smaller.verdict, row.smaller.verdict)]
+
+
 def cells_of(row):
     """What the table tells of a design: of each column what is shown, and by what it is sorted."""
     net, size, order = row.net, row.size(), list(LABELS)
@@ -174,7 +185,7 @@ def cells_of(row):
         "tiers": (" ".join(map(tier_mark, row.tiers())) or "–", " ".join(row.tiers())),
         **{it: (badge(row.answer(it), it), order.index(row.answer(it).verdict)) for it in PROPERTIES},
         "same network": same_network(row),
-        "smaller": (f"{area} → {less} cells", less - area) if less else ("", 0),
+        "smaller": (f"{area} → {less}", less - area) if less else (note(searched(row)), 0) if row.smaller else ("", 0),
         "seconds": (f"{seconds:.1f}" if seconds >= LEAST_SECONDS else "", seconds),
     }
 
@@ -189,8 +200,10 @@ def sought(row, words, **more):
 def table_row(row, alone, columns):
     """A design's row of the table, with these columns; whether all are from one file."""
     net, verdicts_ = row.net, [f"{prop}:{row.answer(prop).verdict}" for prop in PROPERTIES]
-    marks = ("bare", row.bare), ("opened", row.of_reading("opened")), ("warning", row.warning())
-    words = [*row.tiers(), *verdicts_, *(word for word, told in marks if told)]
+    also = (f"{it}:{row.answer(prop).verdict}" for prop, names in ALSO_KNOWN_AS.items() for it in names)
+    verdicts_ += [f"smaller:{searched(row).replace(' ', '-')}"] if row.smaller else []
+    marks = ("bare", row.bare), ("opened", row.of_reading("opened")), ("warning", row.warnings()), ("false", row.claims())
+    words = [*row.tiers(), *verdicts_, *also, *(word for word, told in marks if told)]
     told = {"data_ends": f"{net.inputs}-{net.outputs}", "data_tiers": " ".join(row.tiers())}
     told |= {"data_verdicts": " ".join(verdicts_), "data_page": page_id(row.same_as or row)}
     head = element("th", who(row, alone), scope="row", data_sort=files.plain(row.found.name).lower())
@@ -203,8 +216,15 @@ def refused_row(row, alone):
     """A row for what has no network; whether all are from one file."""
     reason = row.reason() or "not read yet"
     head = element("th", who(row, alone), scope="row")
+    if row.found.is_passed:
+        return element("tr", element("th", shown(row.found.name), scope="row"), element("td", note(shown(reason))))
     told = {"data_page": page_id(row.same_as or row)} if row.folder else {}
     return element("tr", head, element("td", shown(reason)), **sought(row, [reason], **told))
+
+
+def without_ends(core, size):
+    """How many cells wide and high a design is without its end belts, in words, where that is another size."""
+    return f", without its end belts {core[0]} × {core[1]}" if core and tuple(core) != tuple(size) else ""
 
 
 def facts(row):
@@ -214,18 +234,23 @@ def facts(row):
         kinds = ((net.inputs, "input"), (net.outputs, "output"), (net.splitters, "splitter"), (len(net.edges), "edge"))
         told.append(("Network", ", ".join(counted(*it) for it in kinds)))
     if size:
-        told.append(("Cells", f"{size[0]} × {size[1]}"))
+        told.append(("Cells", f"{size[0]} × {size[1]}{without_ends(row.core_size(), size)}"))
     for tier, kinds in row.tiers().items():
         under = kinds["entrance"] + kinds["exit"]
         words = ((kinds["belt"], "belt"), (under, "underground end"), (kinds["splitter"], "splitter"))
         told.append(("Parts", f"{tier_mark(tier)} {', '.join(counted(*it) for it in words if it[0])}"))
-    names = Counter(it.name for it in parts.strangers if not it.stands_by) if parts else None
+    names = Counter(it.name[:LONGEST] for it in parts.strangers if not it.stands_by) if parts else None
     if names:
-        told.append(("Others", ", ".join(f"{number} × {shown(name)}" for name, number in names.items())))
+        them = [f"{number} × {shown(name)}" for name, number in names.most_common(MOST_IN_PAGE)]
+        them += [f"{len(names) - MOST_IN_PAGE} more"] if len(names) > MOST_IN_PAGE else []
+        told.append(("Others", ", ".join(them)))
     if row.kin:
         told.append(("The same network", element("br").join(kin_of(row))))
+    if row.found.is_json() and not row.has_version():
+        told.append(("Version", "none is told: directions are read as before 2.0"))
     told.append(("From", shown(row.found.source + (f", place {row.found.place}" if row.found.place else ""))))
-    kept = [row.found.file(), *([ORIGINAL] if row.is_changed() else []), *([NETWORK] if net else [])]
+    is_told = net and not row.choices
+    kept = [row.found.file(), *([ORIGINAL] if row.is_changed() else []), *([NETWORK] if is_told else [])]
     told.append(("Files", ", ".join(link(row, name) for name in kept)))
     told.append(("Digest", element("code", shown(row.judged_digest()[:16]))))
     lines = (element("div", element("dt", key), element("dd", value)) for key, value in told)
@@ -261,7 +286,8 @@ def marks_legend(row):
         (row.bare, "hollow: a half to which no belt leads"),
         (row.of_reading("belts"), "dashed rims: belts that were added"),
         (any(it.give or it.take for it in parts.parts), "triangle: a side that a splitter prefers"),
-        (row.refused and row.refused.places, "red: what is refused"),
+        (row.of_reading("gaps"), "red: where a belt may be missing"),
+        (row.places() and not row.of_reading("gaps"), "red: what is refused"),
     ]
     shown_ = [element("span", words) for there, words in told if there]
     return element("p", *shown_, class_="legend") if shown_ else ""
@@ -322,13 +348,44 @@ def smaller(row):
     than = f", where the design has {own[0]} × {own[1]}, {counted(own[0] * own[1], 'cell')}" if own else ""
     links = " and ".join(link(row, it) for it in (SMALLER, SMALLER_STRING))
     sides = SIDES_KEPT if told.sides else SIDES_LEFT
-    said = element("p", f"{width} × {height}, {counted(width * height, 'cell')}{than}: ", links, f". {sides}")
     picture = row.smaller_picture
+    core = core_of(picture.design.parts, picture.network) if picture.network else None
+    told = f"{width} × {height}, {counted(width * height, 'cell')}{without_ends(core, told.size)}{than}: "
+    said = element("p", told, links, f". {sides}")
     label = f"{files.plain(row.found.name)}, laid out smaller"
     drawn = figure(picture, picture.parts(f"s-{row.id()}") + picture.ends(), label)
     summary = element("summary", "Blueprint string of the smaller layout, to paste into the game")
     string = element("details", summary, element("code", row.smaller_string(), class_="string"))
     return element("section", heading, said, drawn, string, class_="smaller")
+
+
+def of_choices(row):
+    """The choices of bare halves that make the ends which the label tells of, side by side."""
+    cards = [of_choice(row, at, it) for at, it in enumerate(row.choices, 1)]
+    heading = element("h3", "Which halves are meant?")
+    return element("section", heading, element("div", *cards, class_="choices"))
+
+
+def of_choice(row, at, choice):
+    """A choice: which halves it opens, its picture, and what holds of it."""
+    folder, (picture, _) = f"designs/{row.id()}/{choice.id()}", choice.picture
+    likely = f", {OF_ENDS['likely']}" if at == 1 else ""
+    told = element("h4", f"{at}{likely}: ", shown(trace.spelled(choice.of_reading("opened"), MOST_IN_PAGE)))
+    drawn = ""
+    if picture and at <= MOST_DRAWN:
+        label = f"{files.plain(row.found.name)}, choice {at}"
+        drawn = picture.parts(f"c-{row.id()}-{at}") + picture.ends() + picture.halves(*choice.marked())
+        drawn = figure(picture, drawn, label)
+    lines = []
+    for prop in PROPERTIES:
+        it = choice.answer(prop)
+        what = "breaking state" if it.verdict == "no" else "certificate"
+        leading = element("a", what, href=f"{folder}/{it.file}") if it.file else shown(it.why)
+        lines.append(element("div", element("dt", prop), element("dd", badge(it, prop), " ", leading)))
+    lines.append(element("div", element("dt", "Files"), element("dd", *(
+        element("a", name, href=f"{folder}/{name}") + " " for name in (DESIGN_JSON, NETWORK)
+    ))))
+    return element("div", told, drawn, element("dl", *lines, class_="facts"), class_="choice")
 
 
 WAYS = element("nav", element("a", "← All designs", href="#all"), element("span"))
@@ -342,7 +399,7 @@ def arranged(row, picture, drawn):
     """A design's picture with what is told of it: beside it where none of its properties is broken, and else the states
     that break them stand beside it."""
     small, judged = not picture or picture.box[2] <= WIDEST_BESIDE, verdicts(row) if row.net else ""
-    noes = [prop for prop in PROPERTIES if row.net and row.answer(prop).verdict == "no"]
+    noes = [prop for prop in PROPERTIES if row.net and row.answer(prop).verdict == "no" and row.answer(prop).file]
     if not noes:
         told = element("div", facts(row), judged)
         return element("div", element("div", drawn), told, class_="two" if small else "one")
@@ -359,7 +416,8 @@ def page(row):
     drawn = ""
     if picture:
         label = f"{files.plain(row.found.name)}, drawn from its parts"
-        drawn = figure(picture, element("use", href=f"#p-{row.id()}") + picture.ends(), label, ruled=True)
+        halves = picture.halves(*row.marked())
+        drawn = figure(picture, element("use", href=f"#p-{row.id()}") + picture.ends() + halves, label, ruled=True)
         drawn += marks_legend(row)
     drawn += note(shown(lack)) if lack else ""
     both = arranged(row, picture, drawn)
@@ -367,19 +425,20 @@ def page(row):
     if row.found.is_json():
         opened = row.of_reading("opened")
         text = row.folder.file(DESIGN_JSON).read_bytes() if opened else row.found.text
-        what = ", with the belts that were added" if opened else ""
+        what = ", with the belts that were added" if row.of_reading("belts") else ""
         summary = element("summary", f"Blueprint string, to paste into the game{what}")
         string = element("details", summary, element("code", strings.deflate(text), class_="string"))
     less = smaller(row) if row.smaller else ""
     described = element("p", named(row.description()), class_="described") if row.description() else ""
     told = remarks(row, MOST_IN_PAGE)
-    return "".join((element("h2", named(name)), described, refused, told, both, less, string))
+    choices = of_choices(row) if row.choices else ""
+    return "".join((element("h2", named(name)), described, refused, told, both, choices, less, string))
 
 
 def summary(rows):
     """How many designs there are, and how many have each property."""
     with_network = [row for row in rows if row.net]
-    tiles = [(len(rows), "found"), (len(with_network), "with a network")]
+    tiles = [(sum(not row.found.is_passed for row in rows), "found"), (len(with_network), "with a network")]
     for prop in PROPERTIES:
         number = sum(row.answer(prop).verdict == "yes" for row in with_network)
         tiles.append((f"{number}{element('small', f' of {len(with_network)}')}", prop))
@@ -436,7 +495,7 @@ def front(designs, title, program):
     """The first page: the table of all designs, and what has no network."""
     alone = len({it.row.found.source for it in designs}) == 1
     there = set().union(*(it.columns for it in designs))
-    columns = ["ends", "bare", "splitters", "cells", "tiers", *PROPERTIES, "same network", "smaller", "seconds"]
+    columns = ["ends", "bare", "splitters", "cells", "tiers", *PROPERTIES, "smaller", "same network", "seconds"]
     columns = [it for it in columns if it in there or it not in SOMETIMES]
     titles = (element("th", it, scope="col", title=KNOWN_AS.get(it, "")) for it in ("design", *columns))
     head = element("tr", *titles)

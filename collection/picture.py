@@ -28,7 +28,7 @@ from collections import defaultdict
 from dataclasses import dataclass
 from html import escape
 
-from .design import TIERS, step
+from .design import STEPS, TIERS, step
 from .files import plain
 from .trace import exit_ahead, standing
 
@@ -325,6 +325,19 @@ class Picture:
     def rules(self):
         """The text of the numbers of columns and rows."""
         return svg(rules(self.box))
+
+    def halves(self, places, before=(0, 0)):
+        """The text of the marks of ends at halves for whose belts there is no room, behind so many inputs and outputs."""
+        at, found, counts = standing(self.design.parts), [], dict(zip(("input", "output"), before))
+        for kind, *cell in places:
+            name = f"{kind[0]}{counts[kind]}"
+            counts[kind] += 1
+            (x, y), (along, down) = middle_of(cell), STEPS[self.design.parts[at[tuple(cell)].part].direction]
+            away = -7 if kind == "input" else 7
+            x, y, word = x + away * along, y + away * down, "in" if kind == "input" else "out"
+            found.append(["rect", {"class": f"badge {word}", "x": x - 8, "y": y - 5, "width": 16, "height": 10, "rx": 3}, ""])
+            found.append(sign(name, x, y + 3, "on"))
+        return svg(found)
 
     def ends(self, told=None):
         """The text of the numbers of the ends; with a state, each with its load or room."""

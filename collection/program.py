@@ -100,7 +100,8 @@ def feed(pipe, reads):
 
 
 def find(path=None):
-    """The program at a path, or the one that bin/beltproof starts."""
+    """The program at a path, or that which the environment names, or the one that bin/beltproof starts."""
+    path = path or os.environ.get("BELTPROOF_PROGRAM")
     if path is None:
         asked = subprocess.run([str(TOP / "tools" / "program")], stdout=subprocess.PIPE, text=True)
         if asked.returncode:

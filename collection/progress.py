@@ -21,13 +21,17 @@ class Progress:
         self.count, self.stream, self.clock = count, stream or sys.stderr, clock
         self.done, self.running, self.live = 0, {}, (stream or sys.stderr).isatty()
         self.start = self.told = clock()
+        self.least = {}
+        """The least that was found so far, by designs, in words."""
 
     def line(self):
         left, passed = self.count - self.done, self.clock() - self.start
         rest = passed / self.done * left if self.done else 0
         time_left = f", some {int(rest) // 60}:{int(rest) % 60:02} left" if self.done else ""
         runs = ", ".join(plain(it) for it in list(self.running.values())[:MOST_NAMED])
-        return f"{self.done} done, {left} to do{time_left}: {runs}"
+        least = "".join(f"; {plain(name)}: {words}" for name, words in list(self.least.items())[-1:])
+        clock = f"{int(passed) // 60}:{int(passed) % 60:02}"
+        return f"{clock}: {self.done} done, {left} to do{time_left}: {runs}{least}"
 
     def draw(self):
         """Draws the line, where it is time to."""

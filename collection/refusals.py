@@ -6,37 +6,20 @@ from . import design
 from .design import step
 from .files import plain
 from .trace import bare_ends, place_of, spelled, standing, tile
+from .words import NUMBERS
+from .words import WORDS as SHARED
 
-LONGEST = 100
-"""How much of a name or a number is told."""
-MOST_NAMED = 24
-"""How many bare halves are named at most."""
+SAID = SHARED["refusals"]
+LONGEST, MOST_NAMED = NUMBERS["longest_name"], NUMBERS["most_named"]
+"""How much of a name or a number is told, and how many bare halves are named at most."""
 
-WORDS = {
-    10: "the text is no JSON from byte {0} on",
-    11: "65 brackets stand in one another at byte {0}",
-    12: "the name at byte {0} stands in its object a second time",
-    20: "the JSON is no blueprint",
-    21: "the JSON is a book",
-    22: "it has more than 4096 entities",
-    23: "{0} is no belt, underground belt or splitter",
-    24: "the member {1} of {0} isn't what it has to be",
-    25: "{0} stands off the grid of the first entity, or too far out",
-    26: "{0} is of another tier than the first entity",
-    27: "{0} has a condition or a filter, in its member {1}",
-    30: "{0} and {1} stand on the same tile",
-    31: "{0} has no other end: none of its tier in reach that faces the right way",
-    32: "{0} is loaded from its side, or by two at once",
-    33: "what leaves {0} can't go on",
-    34: "{0} is on a ring of belts that has no splitter",
-    40: "line {0} may not stand in a network text",
-    41: "there are more than 2048 inputs, outputs, splitters or edges",
-    42: "there is no input, or no output",
-}
-OF_ENTITIES = {23: 1, 24: 1, 25: 1, 26: 1, 27: 1, 30: 2, 31: 1, 32: 1, 33: 1, 34: 1}
+WORDS = {int(number): words for number, words in SAID["words"].items()}
+OF_ENTITIES = {int(number): count for number, count in SAID["entities"].items()}
 """How many entities each refusal names first."""
+TO_LAY_OUT = {int(number): words for number, words in SAID["to_lay_out"].items()}
+"""Why no smaller layout of a design is looked for, where the refusal means something else than of a design."""
 SIDE_LOAD, BLOCKED, NO_ENDS = 32, 33, 42
-BROKEN = range(10, 21)
+BROKEN = range(SAID["broken"]["from"], SAID["broken"]["to"] + 1)
 """The refusals of what is no blueprint at all."""
 
 

@@ -1,17 +1,18 @@
 """The report: a page to look at, and a table of all results."""
 
+import unicodedata
 from collections import defaultdict
 from pathlib import Path
 
-from . import files, networks, page, trace
+from . import files, networks, page, results, trace
 from .answers import SETTLED
 from .rows import Row
 from .running import share
 from .states import KNOWN_AS, PROPERTIES
 from .work import SMALLER
 
-FORMULAS = tuple("=+-@")
-"""How a text begins that a spreadsheet takes for a formula."""
+FORMULAS, QUOTES = set("=+-@"), "\"'` \u00a0\u3000"
+"""How a text begins that a spreadsheet takes for a formula, as its widest form too, and what may stand before that."""
 
 COLUMNS = "design place source property verdict why steps processor_seconds clock_seconds accepted file".split()
 COLUMNS += "design_digest program_digest known_as ends bare opened remarks same_network_as".split()
@@ -30,7 +31,7 @@ def lines_of(row, program):
     same = row.kin[0].found.name if row.kin else ""
     of_ends = [row.ends(), *halves, "; ".join(row.remarks()), same]
     if not row.net:
-        verdict = "failed" if row.trouble else "refused" if row.refusal() else "unread"
+        verdict = "failed" if row.trouble else "refused" if row.refusal() else "passed" if row.found.is_passed else "unread"
         return [[*start, "-", verdict, row.reason() or "not read yet", 0, 0, 0, "", "", *digests, "", *of_ends]]
     lines = []
     for prop in PROPERTIES:
@@ -49,10 +50,15 @@ def lines_of(row, program):
     return lines
 
 
+MOST_BEFORE = 40
+"""So many signs are looked at for where a formula begins."""
+
+
 def cell(word):
     """A cell of the table: a text that a spreadsheet takes for a formula has a mark in front that makes it none."""
     text = files.plain(str(word))
-    return f"'{text}" if text[:1] in FORMULAS and text != "-" else text
+    begin = unicodedata.normalize("NFKC", text[:MOST_BEFORE]).lstrip(QUOTES)[:1]
+    return f"'{text}" if begin in FORMULAS and text != "-" or text[:1] == '"' else text
 
 
 def table(lines):
@@ -110,17 +116,17 @@ def guarded(row, alone, program, unshown):
     try:
         if row.id() in unshown:
             raise NotShown(row.found.digest[:16])
-        return page.show(row, alone), lines_of(row, program)
+        return page.show(row, alone), lines_of(row, program), results.of_design(row)
     except Exception as fault:
         if row.folder:
             unshown.add(row.id())
         why = f"what is kept of it can't be shown ({type(fault).__name__}: {fault})"
         bare = Row(row.found, trouble=why)
-        return page.show(bare, alone), lines_of(bare, program)
+        return page.show(bare, alone), lines_of(bare, program), results.unshown(bare, why)
 
 
 def write(output, rows, program):
-    """Writes the report into its folder; both files, or none. Gives the rows as it shows them."""
+    """Writes the report into its folder; all files, or none. Gives the rows as it shows them."""
     for left in output.glob(f".*{files.UNDONE}"):
         left.unlink()
     share(rows)
@@ -129,11 +135,12 @@ def write(output, rows, program):
     alone = len({row.found.source for row in rows}) == 1
     unshown = set()
     made = [guarded(row, alone, program, unshown) for row in rows]
-    lines = table(line for _, them in made for line in them)
-    text = page.whole([it for it, _ in made], title_of(rows), program)
-    with files.replacing(output / "results.tsv", synced=True) as results:
-        with files.replacing(output / "index.html", synced=True) as whole:
-            whole.write(text.encode())
-            results.write(lines.encode())
-            results.flush()
-    return [it.row for it, _ in made]
+    lines = table(line for _, them, _ in made for line in them)
+    text = page.whole([it for it, _, _ in made], title_of(rows), program)
+    told = results.whole([it for _, _, it in made], program)
+    with files.replacing(output / "results.tsv", synced=True) as tsv, files.replacing(output / "results.json", True) as whole:
+        with files.replacing(output / "index.html", synced=True) as shown:
+            for file, it in ((shown, text), (tsv, lines), (whole, told)):
+                file.write(it.encode())
+                file.flush()
+    return [it.row for it, _, _ in made]

@@ -3,35 +3,34 @@
 from dataclasses import dataclass, field, replace
 from functools import cached_property
 
-from . import design, files, labels, refusals, states, trace
-from .answers import UNDECIDED, Network, Smaller
+from . import design, ends, files, labels, refusals, states, trace
+from .answers import OF_HALVES, UNDECIDED, Answer, Network, Smaller
 from .files import counted
 from .inputs import Design
 from .picture import Marks, Picture
+from .words import CLAIMING, NUMBERS, OF_ENDS, PROPERTIES, WORDS
 from .work import DESIGN_JSON, NETWORK, ORIGINAL, SMALLER, SMALLER_STRING, Folder
 
-LABELS = {
-    "yes": "yes",
-    "no": "no",
-    "spent": "log full",
-    "pivots": "turns spent",
-    "wide": "too wide",
-    "late": "time up",
-    "unaccepted": "unchecked",
-    "failed": "failed",
-    "open": "not yet",
-}
+LABELS = WORDS["verdicts"]
 """How the report calls the verdicts, in the order in which it sorts them."""
-
-
-TO_LAY_OUT = {
-    27: "a splitter prefers a side, and a layout is looked for of designs in which none does",
-    41: "a layout is looked for of networks of at most 128 edges and splitters, and this one has more",
-    45: "a layout is looked for of networks in which each edge carries one full belt, and of this one an edge doesn't",
-}
-"""Why no smaller layout of a design is looked for, where the refusal means something else than of a design."""
 MOST_LISTED = 8
 """How many bare halves a sentence names at most."""
+
+
+def core_of(parts, network):
+    """How many cells wide and high parts are without the belts between an end and the first splitter or underground end;
+    None where that is all of them."""
+    gone = set()
+    for edge in network.edges:
+        run = [half.part for _, half in edge.run]
+        for end, way in ((edge.source, run), (edge.target, run[::-1])):
+            count = next((at for at, it in enumerate(way) if parts[it].kind != "belt"), len(way))
+            gone.update(way[:count] if end[0] != "s" else [])
+    cells = [cell for at, it in enumerate(parts) if at not in gone for cell in it.cells]
+    if not cells:
+        return None
+    least_x, least_y, most_x, most_y = design.box_of(cells)
+    return most_x - least_x + 1, most_y - least_y + 1
 
 
 @dataclass
@@ -58,10 +57,52 @@ class Row:
         return self.network.line if self.network else ""
 
     def reason(self):
-        """Why this is no design of belts, or couldn't be dealt with, in words; None where it has a network."""
+        """Why this is no design of belts, or couldn't be dealt with, in words; None where it has a network, or several
+        that may be meant."""
         if self.found.trouble or self.trouble:
             return self.found.trouble or self.trouble
+        if self.choices:
+            return None
+        if self.is_open() and self.network.status != 0:
+            return self.of_ends()
         return self.refused.words if self.refused else None
+
+    def is_open(self):
+        """Whether nothing is decided, since it isn't clear which bare halves are ends."""
+        return self.network is not None and self.network.ends in ends.UNJUDGED
+
+    @cached_property
+    def choices(self):
+        """The choices of bare halves where there are several, each as a row of its own, the likely one first."""
+        if not self.folder or not self.network or not self.network.choices:
+            return []
+        return [self.choice(it) for it in self.folder.choices()]
+
+    def choice(self, folder):
+        """A choice of bare halves as a row."""
+        row = Row(self.found, folder, network=folder.network())
+        row.decided = {prop: it for prop in PROPERTIES if (it := folder.decided(prop))}
+        return row
+
+    def of_ends(self):
+        """What there is to say of its ends where nothing is decided, or where several choices are left; or None."""
+        if not self.network or not (self.is_open() or self.choices):
+            return None
+        if self.network.ends == ends.GAP:
+            return f"{self.of_gaps()}; {OF_ENDS['unjudged']}"
+        pairs = labels.spelled(labels.told(self.found.label()))
+        if self.choices:
+            return OF_ENDS["several"].format(pairs, len(self.choices))
+        stand, could = tuple(self.network.before), tuple(self.network.would)
+        said = OF_ENDS["counts"].format(pairs, labels.spelled([stand]))
+        said += OF_ENDS["could"].format(labels.spelled([could])) if could != stand else ""
+        return f"{said}: {OF_ENDS[self.network.ends]}"
+
+    def of_gaps(self):
+        """At which tiles a belt may be missing, in words; None where there is none."""
+        tiles = [trace.tile(it) for it in self.of_reading("gaps")]
+        word = "gap" if len(tiles) == 1 else "gaps"
+        return OF_ENDS[word].format(states.together(tiles[:MOST_LISTED])) if tiles else None
 
     @cached_property
     def refused(self):
@@ -71,10 +112,12 @@ class Row:
     def is_broken(self):
         """Whether this is no design at all, whatever the program would say of one."""
         number = refusals.number_of(self.refusal())
-        return self.found.text is None or number in refusals.BROKEN
+        return self.found.text is None and not self.found.is_passed or number in refusals.BROKEN
 
     def answer(self, prop):
         """What became of a property."""
+        if self.is_open():
+            return Answer(OF_HALVES, OF_ENDS["undecided"])
         return self.decided.get(prop) or UNDECIDED
 
     @cached_property
@@ -107,28 +150,46 @@ class Row:
         """How many inputs and outputs the network has, in words."""
         return f"{self.net.inputs} to {self.net.outputs}" if self.net else ""
 
+
     def warning(self):
         """What is amiss with the number of ends, in words, where the label tells of others; or None."""
+        if self.of_ends() or self.of_gaps():
+            return self.of_ends() or self.of_gaps()
         pairs = labels.told(self.found.label())
         if not self.net or not pairs or (self.net.inputs, self.net.outputs) in pairs:
             return None
-        said = f"its label says {labels.spelled(pairs)}, but its network is {self.ends()}"
-        would = tuple(self.of_reading("would"))
-        if self.of_reading("opened"):
-            said += ", with belts at its bare halves"
-        elif would and would != (self.net.inputs, self.net.outputs):
-            said += f", and with belts at its bare halves it would be {labels.spelled([would])}"
-        else:
-            return f"{said}: a belt may be missing, or be one too many"
-        return f"{said}: which of them are meant can't be known, so put a belt at each one that is an end"
+        would, said = tuple(self.of_reading("would")), OF_ENDS["counts"].format(labels.spelled(pairs), self.ends())
+        if would and would != (self.net.inputs, self.net.outputs):
+            return said + OF_ENDS["could"].format(labels.spelled([would]))
+        return said
+
+    def claims(self):
+        """What its label claims that isn't so, and that of lanes nothing is said, in sentences without stops."""
+        told = labels.claims(self.found.label())
+        false = {}
+        for prop, words in told.properties.items():
+            if self.answer(prop).verdict == "no":
+                false.setdefault(words, []).append(states.KNOWN_AS[prop])
+        said = [CLAIMING["contradicted"].format(words, states.together(them)) for words, them in false.items()]
+        return said + ([CLAIMING["lanes"]] if told.lanes else [])
+
+    def warnings(self):
+        """What is amiss with its ends, and with what its label claims."""
+        return [it for it in [self.warning()] if it and it != self.reason()] + self.claims()
 
     def remarks(self, most=MOST_LISTED):
         """What there is to say of how the design was read, in sentences without stops, with so many halves each."""
         opened, unopened = self.of_reading("opened"), self.of_reading("unopened")
-        told = [self.warning()] if self.warning() else []
+        told = [*self.warnings()]
         belts = counted(self.of_reading("belts") or 0, "belt")
-        told += [f"opened by {belts}: {trace.spelled(opened, most)}"] if opened else []
-        told += [f"bare halves: {trace.spelled(self.bare, most)}"] if self.bare and self.net else []
+        if opened and self.of_reading("is_marked"):
+            told += [OF_ENDS["marked"].format(trace.spelled(opened, most))]
+        elif opened:
+            told += [f"opened by {belts}: {trace.spelled(opened, most)}"]
+        shut = [it for it in self.bare if list(it) not in map(list, opened)]
+        if shut and self.net and not self.choices:
+            word = "shut_one" if len(shut) == 1 else "shut"
+            told += [OF_ENDS[word].format(len(shut), trace.spelled(shut, most))]
         reasons = [f"{trace.spelled([place])}, since {why}" for place, why in unopened[:most]]
         more = f", and {len(unopened) - most} more" if len(unopened) > most else ""
         told += [f"not opened: {'; '.join(reasons)}{more}"] if unopened else []
@@ -136,11 +197,15 @@ class Row:
 
     @cached_property
     def net_text(self):
+        if self.choices:
+            return self.choices[0].net_text
         return self.folder.text(NETWORK)
 
     @cached_property
     def net(self):
-        """The network in numbers, where there is one."""
+        """The network in numbers, where there is one; of several the likely one."""
+        if self.choices:
+            return self.choices[0].net
         if not self.network or self.network.status != 0:
             return None
         return states.read_net(self.net_text)
@@ -177,7 +242,14 @@ class Row:
             told = design.blueprint_of(self.text).get("description") if self.found.is_json() else None
         except design.Unreadable:
             return ""
-        return told if isinstance(told, str) else ""
+        return files.short(told, NUMBERS["longest_description"]) if isinstance(told, str) else ""
+
+    def has_version(self):
+        """Whether the blueprint tells the game's version, without which directions are read as before 2.0."""
+        try:
+            return "version" in design.blueprint_of(self.text)
+        except design.Unreadable:
+            return True
 
     def tiers(self):
         parts, _ = self.design
@@ -191,6 +263,28 @@ class Row:
         cells = [cell for it in parts.parts or parts.strangers for cell in it.cells]
         least_x, least_y, most_x, most_y = design.box_of(cells)
         return most_x - least_x + 1, most_y - least_y + 1
+
+    def sides(self):
+        """At which side of the design each end is, north, east, south or west, where it is at one and looks across it; None
+        where that can't be told."""
+        picture, _ = self.picture
+        if not picture or not picture.network:
+            return None
+        parts, (least_x, least_y, most_x, most_y) = picture.design.parts, design.box_of(
+            [cell for it in picture.design.parts for cell in it.cells]
+        )
+        found = {}
+        for sign, halves, away in (("i", picture.network.inputs, 2), ("o", picture.network.outputs, 0)):
+            for k, half in enumerate(halves):
+                (x, y), side = parts[half.part].cells[half.half], (parts[half.part].direction + away) % 4
+                at = (y == least_y, x == most_x, y == most_y, x == least_x)[side]
+                found[f"{sign}{k}"] = side if at else None
+        return found
+
+    def core_size(self):
+        """How many cells wide and high the design is without the belts at its ends, where it has such and more than these."""
+        picture, _ = self.picture
+        return core_of(picture.design.parts, picture.network) if picture and picture.network else None
 
     @cached_property
     def smaller_picture(self):
@@ -208,13 +302,22 @@ class Row:
         """Why there is no smaller layout, in words."""
         line = self.smaller.why
         number = refusals.number_of(line)
-        if number in TO_LAY_OUT:
-            return f"refused {number} {line.split(' ')[2]}: {TO_LAY_OUT[number]}"
+        if number in refusals.TO_LAY_OUT:
+            return f"refused {number} {line.split(' ')[2]}: {refusals.TO_LAY_OUT[number]}"
         return refusals.told(line, self.text)
 
     def smaller_string(self):
         """The smaller layout as a string to paste."""
         return self.folder.text(SMALLER_STRING).strip()
+
+    def marked(self):
+        """The ends that are marked in the network alone, and how many inputs and outputs stand before them."""
+        return (self.of_reading("opened"), tuple(self.of_reading("before"))) if self.of_reading("is_marked") else ([], (0, 0))
+
+    def places(self):
+        """The places with a red frame: what is refused, and where a belt may be missing."""
+        gaps = [((tuple(it),), OF_ENDS["gap"].format(trace.tile(it))) for it in self.of_reading("gaps")]
+        return gaps or (self.refused.places if self.refused and not self.choices else ())
 
     @cached_property
     def picture(self):
@@ -223,14 +326,16 @@ class Row:
         if parts is None:
             return None, reason
         added = frozenset(range(len(parts.parts) - (self.of_reading("belts") or 0), len(parts.parts)))
-        marks = Marks(tuple(trace.bare_ends(parts.parts)), added, self.refused.places if self.refused else ())
-        if self.net is None:
+        marks = Marks(tuple(trace.bare_ends(parts.parts)), added, self.places())
+        if self.net is None or self.choices:
             return Picture(parts, marks=marks), None
         lack = "Ends and states aren't drawn: "
         try:
             network = trace.Layout(parts.parts).network()
         except trace.Untraced as reason:
             return Picture(parts, marks=marks), f"{lack}as traced for the picture, {reason}."
+        if self.of_reading("is_marked"):
+            return Picture(parts, marks=marks), f"{lack}not all of them have room for a belt."
         if not trace.same_network(network, self.net_text):
             return Picture(parts, marks=marks), f"{lack}traced for the picture, the network is another one."
         return Picture(parts, network, marks), None

@@ -8,7 +8,7 @@ from concurrent.futures import ThreadPoolExecutor
 from contextlib import contextmanager
 from queue import Empty, SimpleQueue
 
-from . import design, files
+from . import cleaning, design, files, networks
 from .answers import Answer, Smaller
 from .progress import REDRAWN_EACH, Progress
 from .states import PROPERTIES
@@ -26,7 +26,7 @@ def fault_of(fault):
 def place(rows, output):
     """Gives each design its folder; the same design twice has the same one. A folder that is there is used again, where
     its name is one that a design is given."""
-    there, taken, first = {}, set(), {}
+    there, taken, first, counts = {}, set(), {}, {}
     folder = output / "designs"
     for path in sorted(folder.iterdir()) if folder.is_dir() else []:
         taken.add(path.name)
@@ -39,7 +39,7 @@ def place(rows, output):
         if digest in first:
             row.same_as, row.folder = first[digest], first[digest].folder
             continue
-        path = there.get(digest) or folder / files.free_name(row.found.name, taken)
+        path = there.get(digest) or folder / files.free_name(row.found.name, taken, counts)
         taken.add(path.name)
         row.folder, first[digest] = Folder(path), row
 
@@ -97,17 +97,46 @@ def decide(worker, row, prop):
         row.decided[prop] = Answer("failed", f"the answer can't be written: {fault_of(fault)}")
 
 
-def shrink(worker, row):
+def shrink(worker, row, others=()):
+    """Looks for a smaller layout of a design, and gives what is found to others with the same network and sides."""
+    for it in [row, *others]:
+        try:
+            it.smaller = worker.shrink(row.folder) if it is row else worker.share(it.folder, row.folder, it.cells() or 0)
+        except Exception as fault:
+            it.smaller = Smaller("failed", f"the smaller layout can't be written: {fault_of(fault)}")
+
+
+def alike(rows):
+    """Groups of designs with the same network, each end at the same side, and parts of the same tiers; the largest first."""
+    groups = []
+    for row in sorted(rows, key=lambda it: -(it.cells() or 0)):
+        group = next((them for them in groups if is_alike(them[0], row)), None)
+        if group is None:
+            groups.append([row])
+        else:
+            group.append(row)
+    return groups
+
+
+def is_alike(one, other):
+    """Whether one search for a smaller layout serves both designs."""
     try:
-        row.smaller = worker.shrink(row.folder)
-    except Exception as fault:
-        row.smaller = Smaller("failed", f"the smaller layout can't be written: {fault_of(fault)}")
+        sides, theirs = one.sides(), other.sides()
+        if None in (sides, theirs) or list(one.tiers()) != list(other.tiers()) or len(one.net.edges) != len(other.net.edges):
+            return False
+        if networks.shape(one.net) != networks.shape(other.net):
+            return False
+        names = networks.renaming(one.net.edges, other.net.edges)
+    except Exception:
+        return False
+    return names is not None and all(sides[end[1]] == theirs[name[1]] for end, name in names.items() if end[1] in sides)
 
 
 def is_to_shrink(folder, worker):
     """Whether a smaller layout of this design is still to be looked for."""
     told = folder.smaller()
-    return worker.smaller and folder.file(DESIGN_JSON).is_file() and not (told and told.stands(worker.limits))
+    wanted = worker.smaller and folder.judged_file() == folder.file(DESIGN_JSON) and not folder.choices()
+    return wanted and not (told and told.stands(worker.limits))
 
 
 def undecided(folder, worker):
@@ -123,8 +152,8 @@ def tasks_of(rows, worker):
         row.decided = {prop: row.folder.decided(prop) for prop in PROPERTIES if prop not in left}
         row.smaller = row.folder.smaller()
         yield from ((f"{row.found.name} {prop}", (decide, worker, row, prop)) for prop in left)
-        if is_to_shrink(row.folder, worker):
-            yield f"{row.found.name} smaller", (shrink, worker, row)
+    for row, *others in alike([row for row in rows if is_to_shrink(row.folder, worker)]):
+        yield f"{row.found.name} smaller", (shrink, worker, row, others)
 
 
 def next_of(ended, progress):
@@ -152,9 +181,10 @@ def stops_into(ended):
             signal.signal(it, before[it])
 
 
-def run_all(tasks, jobs, program):
-    """Does all tasks, so many at once."""
+def run_all(tasks, jobs, program, least=None):
+    """Does all tasks, so many at once; what was found so far is told as it changes."""
     progress, ended = Progress(len(tasks)), SimpleQueue()
+    progress.least = least if least is not None else {}
 
     def run(name, call, *rest):
         progress.running[id(rest)] = name
@@ -191,17 +221,17 @@ def work(rows, worker, jobs):
     """All the work: networks first, then decisions."""
     own = [row for row in own_rows(rows) if begin(worker, row)]
     run_all([(row.found.name, (recover, worker, row)) for row in own], jobs, worker.program)
-    with_network = [row for row in own if row.network and row.network.status == 0]
-    run_all(list(tasks_of(with_network, worker)), jobs, worker.program)
+    judged = [row for row in own if row.network and row.network.is_judged()]
+    run_all(list(tasks_of(judged, worker)), jobs, worker.program, worker.least)
 
 
 def words_for_one(asked):
     """The words of a command for one design that asks for the same."""
-    given = [(f"--{name}", getattr(asked, name)) for name in ("seconds", "learnt", "pivots", "program")]
+    given = [(f"--{name}", getattr(asked, name)) for name in ("seconds", "learnt", "pivots", "width", "program")]
     words = [word for name, value in given if value is not None for word in (name, str(value))]
     words += ["--smaller"] if asked.smaller else []
     words += ["--bare-ends", asked.bare_ends] if asked.bare_ends != "label" else []
-    return words + [it for name, part in asked.treat_as for it in ("--treat-as", f"{name}={design.NAMES[part][1]}")]
+    return words + [it for name, part in asked.treat_as for it in ("--treat-as", f"{name}={design.NAMES[part][1] if part else cleaning.NOTHING}")]
 
 
 def plan(rows, worker, asked):

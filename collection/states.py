@@ -4,27 +4,14 @@ from dataclasses import dataclass
 from fractions import Fraction
 
 from .design import SPEED
+from .words import NUMBERS, PROPERTIES, of_properties
 
-PROPERTIES = ("balanced", "drawn-evenly", "unlimited", "full")
+PROMISES, KNOWN_AS = of_properties("promise"), of_properties("known_as")
+"""What each property says of every steady state, and what players call it."""
 
-PROMISES = {
-    "balanced": "where no output is blocked, all outputs carry the same",
-    "drawn-evenly": "where every input is fully loaded, all inputs give the same",
-    "unlimited": "the outputs together carry all that is loaded, or all that they take, whichever is less",
-    "full": "the same as unlimited, where every input is fully loaded and no output is blocked",
-}
-
-KNOWN_AS = {
-    "balanced": "output balanced",
-    "drawn-evenly": "input balanced (equal drain)",
-    "unlimited": "throughput unlimited (TU)",
-    "full": "full throughput with everything open",
-}
-"""What players call the properties."""
-
-ITEMS = 15
+ITEMS = NUMBERS["items"]
 """How many items a second a full basic belt carries; a full belt of each tier above carries so many more."""
-MOST_LISTED = 24
+MOST_LISTED = NUMBERS["most_listed"]
 """How many numbers a sentence has at most."""
 
 
@@ -70,7 +57,13 @@ def at_ends(net, state):
     return [carried[f"i{k}"] for k in range(net.inputs)], [carried[f"o{k}"] for k in range(net.outputs)]
 
 
-def listed(numbers, spelled=str):
+def mixed(number):
+    """A number as one says it: what is whole, and the part that is left, as in 36 7/8."""
+    whole, rest = divmod(Fraction(number), 1)
+    return f"{whole} {rest}" if whole and rest else str(whole or rest)
+
+
+def listed(numbers, spelled=mixed):
     """The numbers, so spelled; where there are many, the first ones and between which all are."""
     if len(numbers) <= MOST_LISTED:
         return ", ".join(map(spelled, numbers))
@@ -106,8 +99,8 @@ def set_up(net, state):
     """What comes in at each input and what is taken at each output, in words."""
     caps = {end: cap for source, target, cap in net.edges for end in (source, target)}
     inputs, outputs = ([f"{word}{k}" for k in range(count)] for word, count in (("i", net.inputs), ("o", net.outputs)))
-    loads = [{0: "empty", caps[end]: "full"}.get(it, f"with {it}") for end, it in zip(inputs, state.loads)]
-    rooms = [{0: "blocked", caps[end]: "open"}.get(it, f"open for {it}") for end, it in zip(outputs, state.rooms)]
+    loads = [{0: "empty", caps[end]: "full"}.get(it, f"with {mixed(it)}") for end, it in zip(inputs, state.loads)]
+    rooms = [{0: "blocked", caps[end]: "open"}.get(it, f"open for {mixed(it)}") for end, it in zip(outputs, state.rooms)]
     return f"{told_of_ends('input', inputs, loads, 'empty')}; {told_of_ends('output', outputs, rooms, 'open')}"
 
 
@@ -124,5 +117,5 @@ def shown(prop, net, state, tiers=()):
         out, most = sum(carried), min(sum(state.loads), sum(state.rooms))
         items = f", {decimal(out * speed)} of {decimal(most * speed)} items a second" if tiers else ""
         comes = "comes" if most == 1 or 0 < out <= 1 else "come"
-        said = f"{out} of {most} {belt}{'' if most == 1 else 's'} {comes} through{items}"
+        said = f"{mixed(out)} of {mixed(most)} {belt}{'' if most == 1 else 's'} {comes} through{items}"
     return f"{said}: {set_up(net, state)}."

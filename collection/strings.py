@@ -8,8 +8,11 @@ import re
 import zlib
 from dataclasses import dataclass
 
-MOST_INFLATED = 64 * 2**20
-"""How many bytes a string inflates to at most."""
+from .files import INPUTS
+from .words import NUMBERS
+
+MOST_INFLATED, MOST_DESIGNS = NUMBERS["most_inflated"], NUMBERS["most_designs"]
+"""How many bytes a string inflates to at most, and how many strings of a text are read."""
 
 VERSION = "0"
 SIGNS = "A-Za-z0-9+/"
@@ -88,6 +91,8 @@ def find(text):
         if line is None and start is None:
             return found
         begin = line.start(1) if line else start.start()
+        if len(found) >= MOST_DESIGNS:
+            return [*found, Found(begin, None, INPUTS["designs"].format(MOST_DESIGNS))]
         try:
             data, at = held_at(text, begin)
             found.append(Found(begin, data))

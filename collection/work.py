@@ -6,29 +6,38 @@ isn't as it came, it is kept as it came too."""
 
 import json
 import re
+import shutil
 import threading
 from dataclasses import dataclass, field, replace
 from pathlib import Path
 
-from . import cleaning, design, files, openings, strings
-from .answers import ANSWERS, FOUND, GAVE_UP, SETTLED, Answer, Limits, Network, Smaller
+from . import cleaning, design, files, labels, openings, strings
+from .answers import ANSWERS, FOUND, GAVE_UP, SETTLED, Answer, Limits, Network, Smaller, together
 from .inputs import design_digest
 from .program import EXACT_STATUSES
 from .states import PROPERTIES
+from .words import WORDS
 
+OF_SEARCHES = WORDS["searches"]
 RECORD = "record.json"
 NETWORK = "network.net"
 DESIGN_JSON, DESIGN_NET = "design.json", "design.net"
 ORIGINAL = "original.json"
 """The design as it came, where what is judged is another text."""
+CHOICE = "choice-{}"
+"""The folder of a choice of bare halves, in that of its design."""
 LONGEST_LINE = 4096
 SMALLER, SMALLER_STRING, SMALLER_NETWORK = "smaller.json", "smaller.txt", "smaller.net"
 """A smaller blueprint, the string to paste of it, and the network that is recovered from it."""
 REFUSED = 3
 """The program's status where it refuses a design."""
+RULE = "2"
+"""By which rule designs are read: what was read by another one is read anew."""
 FIRST_LEARNT, TIMES_LEARNT, DEFAULT_LEARNT = 500, 4, 100_000
 """The steps of the first search where the time is bounded, how many times as many the next one has, and the program's own
 bound."""
+MOST_HIGH = 16
+"""How many tiles high a layout is at most of which the width is asked for."""
 GRID = re.compile(rb"grid (\d{1,9})x(\d{1,9})")
 FAILED = -1
 """What stands for its status where it gave no answer."""
@@ -40,7 +49,7 @@ class Folder:
 
     def __init__(self, path):
         self.path, self.guard = Path(path), threading.Lock()
-        self.record = self.read()
+        self.record, self.of_choices = self.read(), {}
 
     def read(self):
         try:
@@ -66,6 +75,19 @@ class Folder:
     def design_file(self):
         """The file of the design as it is judged, or None."""
         return self.first_file(DESIGN_JSON, DESIGN_NET)
+
+    def judged_file(self):
+        """The file of what is judged: the design, or where its ends are marked there alone, its network."""
+        told = Network.of(self.record.get("network"))
+        return self.file(NETWORK) if told and told.is_marked else self.design_file()
+
+    def choices(self):
+        """The folders of the choices of bare halves, the likely one first."""
+        told = Network.of(self.record.get("network"))
+        with self.guard:
+            for at in range(1, told.choices + 1) if told else ():
+                self.of_choices.setdefault(at, Folder(self.file(CHOICE.format(at))))
+            return [self.of_choices[at] for at in range(1, told.choices + 1)] if told else []
 
     def original_file(self):
         """The file of the design as it came, or None."""
@@ -94,7 +116,10 @@ class Folder:
         return told if same else None
 
     def decided(self, prop):
-        """What the record tells of a property, where the files are what they were."""
+        """What the record tells of a property, where the files are what they were; of choices what they tell together."""
+        choices = self.choices()
+        if choices:
+            return together([it.network() and it.decided(prop) for it in choices])
         told = Answer.of(self.record.get("decided", {}).get(prop))
         if told is None or not told.is_of(prop):
             return None
@@ -116,6 +141,10 @@ class Folder:
             answers = (f"{word}-{prop}.txt" for word in ANSWERS.values() for prop in PROPERTIES)
             for name in [NETWORK, SMALLER, SMALLER_STRING, *answers]:
                 self.file(name).unlink(missing_ok=True)
+            self.of_choices = {}
+            for it in self.path.glob(CHOICE.format("[0-9]*")):
+                if it.is_dir() and not it.is_symlink():
+                    shutil.rmtree(it)
 
     def put(self, judged, original):
         """Writes the design as it is judged, and where that is another text, as it came. What was answered to another
@@ -214,6 +243,12 @@ def rounds(limits):
     return [*found, ["--learnt", str(most)]]
 
 
+def of_opened(found):
+    """What a record keeps of how bare halves were opened."""
+    names = ("belts", "opened", "unopened", "before", "after", "would", "ends", "gaps", "is_marked")
+    return {name: getattr(found, name) for name in names}
+
+
 @dataclass
 class Spent:
     """What several runs took, in seconds of a processor and by the clock."""
@@ -223,6 +258,24 @@ class Spent:
 
     def add(self, ended):
         self.processor, self.clock = self.processor + ended.processor, self.clock + ended.clock
+
+
+def with_words_of(text, blueprint):
+    """A smaller blueprint with the label, the icons and the description of the design, as far as it has them."""
+    try:
+        root, of_design = json.loads(blueprint), design.blueprint_of(text)
+    except (ValueError, RecursionError, design.Unreadable):
+        return blueprint
+    if not isinstance(root, dict) or not isinstance(root.get("blueprint"), dict):
+        return blueprint
+    kept = {name: of_design[name] for name in ("icons", "description") if name in of_design}
+    label = of_design.get("label")
+    kept |= {"label": f"{label}{OF_SEARCHES['label']}"} if isinstance(label, str) and label else {}
+    own = {name: it for name, it in root["blueprint"].items() if name not in ("label", "icons", "description")}
+    if not kept and own == root["blueprint"]:
+        return blueprint
+    root["blueprint"] = own | kept
+    return (json.dumps(root, separators=(",", ":"), default=float, ensure_ascii=False) + "\n").encode("utf-8", "surrogatepass")
 
 
 class NoAnswer(Exception):
@@ -236,8 +289,10 @@ class Reading:
     bare_ends: str = "label"
     treated: tuple = ()
 
-    def told(self):
-        return [self.bare_ends, *map(list, self.treated)]
+    def told(self, label):
+        """How a design with this label is read: what is told of it stands until another way is asked for."""
+        pairs = labels.spelled(labels.told(label)) if self.bare_ends == "label" else ""
+        return [f"{RULE} {self.bare_ends} {pairs}", *map(list, self.treated)]
 
 
 @dataclass
@@ -249,6 +304,8 @@ class Worker:
     smaller: bool = False
     """Whether smaller layouts are looked for."""
     reading: Reading = field(default_factory=Reading)
+    least: dict = field(default_factory=dict)
+    """The least that was found so far, in words, by the names of the designs' folders."""
 
     def begin(self, folder, name, label, text, file):
         """Puts a design into its folder. What is there of another design or program is forgotten."""
@@ -278,9 +335,12 @@ class Worker:
 
     def recover(self, folder):
         """Finds the network of the design as it is judged, or the refusal."""
-        told = folder.network()
-        if told is not None and told.asked == self.reading.told():
+        told, asked = folder.network(), self.reading.told(folder.record.get("label", ""))
+        if told is not None and told.asked == asked:
             return told
+        if told is not None:
+            # The ends may be others, though the text stays.
+            folder.forget({key: it for key, it in folder.record.items() if key in ("design", "program", "name", "label")})
         file = folder.original_file()
         try:
             if file.name == DESIGN_NET:
@@ -289,13 +349,16 @@ class Worker:
                 answer, kept = self.judge(folder, file.read_bytes())
         except NoAnswer as ended:
             return Network(FAILED, how_it_ended(ended.args[0]))
-        if answer.startswith("net "):
-            files.write(folder.file(NETWORK), answer)
-            told = Network(0, digest=files.digest(answer.encode()), asked=self.reading.told(), **kept)
-        else:
-            told = Network(REFUSED, answer, asked=self.reading.told(), **kept)
+        told = self.kept_network(folder, answer, {**kept, "asked": asked})
         folder.keep(network=told.kept())
         return told
+
+    def kept_network(self, folder, answer, kept):
+        """Puts a network into its folder; what is told of it, or of the refusal."""
+        if answer.startswith("net "):
+            files.write(folder.file(NETWORK), answer)
+            return Network(0, digest=files.digest(answer.encode()), **kept)
+        return Network(REFUSED, answer, **kept)
 
     def judge(self, folder, data):
         """Puts a blueprint into its folder as it is judged; the program's answer, and what is told of it."""
@@ -307,14 +370,31 @@ class Worker:
             opening = openings.Opening(clean.text, bystanders, lambda it: self.ask(folder, encoded(it)))
             found = openings.opened(opening, self.reading.bare_ends, folder.record.get("label", ""))
             judged, answer = found.text, found.answer
-            kept |= {name: getattr(found, name) for name in ("belts", "opened", "unopened", "before", "after", "would")}
+            kept |= of_opened(found)
         except openings.Refused as refusal:
-            judged, answer = clean.text, str(refusal)
+            judged, answer, found = clean.text, str(refusal), None
         folder.put(encoded(judged), data)
+        if found and found.choices:
+            self.keep_choices(folder, found.choices)
+            kept["choices"] = len(found.choices)
         return answer, kept
 
+    def keep_choices(self, folder, choices):
+        """Puts each choice of bare halves into a folder of its own."""
+        for at, found in enumerate(choices, 1):
+            own = Folder(folder.file(CHOICE.format(at)))
+            text = encoded(found.text)
+            own.forget({"design": files.digest(text), "program": self.program.digest})
+            own.put(text, text)
+            told = self.kept_network(own, found.answer, of_opened(found))
+            own.keep(network=told.kept())
+
     def decide(self, folder, prop):
-        """Decides a property and checks the answer; what the record tells is not done again."""
+        """Decides a property and checks the answer, for each choice of bare halves where there are several; what the
+        record tells is not done again."""
+        choices = folder.choices()
+        if choices:
+            return together([self.decide(it, prop) for it in choices])
         told = folder.decided(prop)
         if told and told.stands(self.limits):
             return told
@@ -330,7 +410,7 @@ class Worker:
     def decide_anew(self, folder, prop, answer):
         with open(answer, "wb") as out:
             words = ["decide", prop, *self.limits.words()]
-            ended = self.program.run(words, [folder.design_file()], out, self.limits.seconds)
+            ended = self.program.run(words, [folder.judged_file()], out, self.limits.seconds)
         verdict, line = VERDICT_OF.get(ended.status), first_line(answer)
         if ended.late:
             told = Answer("late", f"the time was up after {self.limits.seconds:g} seconds by the clock")
@@ -355,7 +435,7 @@ class Worker:
         asked = folder.file(f"{prop}.check{files.UNDONE}")
         try:
             with open(asked, "wb") as out:
-                both = [folder.design_file(), b"\n", answer]
+                both = [folder.judged_file(), b"\n", answer]
                 check = self.program.run(["check", prop], both, out, self.limits.seconds)
             line = "the time was up" if check.late else first_line(asked) or how_it_ended(check)
         finally:
@@ -398,17 +478,20 @@ class Worker:
             first, told = told, self.look_in_rounds(folder, answer, [], seconds, spent)
             if first.verdict == told.verdict == "none":
                 told = replace(told, why=f"{first.why} with each end at its own side, and {told.why} with ends at any")
-        return replace(told, processor=round(spent.processor, 3), clock=round(spent.clock, 3), limits=self.limits.told())
+        return replace(told, processor=round(spent.processor, 3), clock=round(spent.clock, 3), limits=self.limits.told_to_find())
 
     def look_in_rounds(self, folder, answer, words, seconds, spent):
         """Looks for a smaller layout with these words until so many seconds are spent; where the time is bounded, with
         more and more steps, so that what was found stands when it is up."""
         tier, found, told = tier_words(folder.text(folder.design_file().name)), None, None
+        tier = [*tier, *(["--most", f"{self.limits.width}x{MOST_HIGH}"] if self.limits.width else [])]
         for steps in rounds(self.limits):
             left = seconds and max(0.001, seconds - spent.clock)
             told = self.look(folder, answer, [*words, *tier, *steps], left, spent)
             if told.verdict == "found":
                 found = told
+                folder.keep(smaller=replace(told, sides="--sides" in words).kept())
+                self.least[folder.path.name] = "{}x{} so far".format(*told.size)
             elif told.verdict != "none":
                 break
         return found if found and told.verdict in ("late", "none") else told
@@ -424,7 +507,8 @@ class Worker:
         if ended.status == 0 and line:
             return self.keep_smaller(folder, answer)
         if ended.status == 4 and word_of(line, 1).isdigit():
-            return Smaller("none", f"none was found in {word_of(line, 1)} steps")
+            within = f"{word_of(line, 1)} steps" if self.limits.seconds is None else f"{self.limits.seconds:g} seconds"
+            return Smaller("none", f"none was found in {within}")
         if ended.status in EXACT_STATUSES and line:
             return Smaller("refused", line)
         return Smaller("failed", line or how_it_ended(ended))
@@ -435,6 +519,7 @@ class Worker:
         size = GRID.fullmatch(grid)
         if size is None:
             return Smaller("failed", f"the program wrote no size of a grid: {first_line(answer)!r}")
+        blueprint = with_words_of(folder.text(DESIGN_JSON), blueprint)
         asked = folder.file(f"{SMALLER_NETWORK}{files.UNDONE}")
         try:
             with open(asked, "wb") as out:
@@ -444,10 +529,29 @@ class Worker:
             asked.unlink(missing_ok=True)
         if ended.status != 0 or sizes(shown) != sizes(folder.text(NETWORK)):
             return Smaller("failed", f"what was found shows another network: {shown[:LONGEST_LINE]!r}")
+        return Smaller("found", size=[int(it) for it in size.groups()], digests=self.written(folder, blueprint))
+
+    def written(self, folder, blueprint):
+        """Writes a smaller blueprint and its string; the digests of both."""
         files.write(folder.file(SMALLER), blueprint)
         files.write(folder.file(SMALLER_STRING), strings.deflate(blueprint.rstrip(b"\n")) + "\n")
-        digests = {name: files.digest_of_file(folder.file(name)) for name in (SMALLER, SMALLER_STRING)}
-        return Smaller("found", size=[int(it) for it in size.groups()], digests=digests)
+        return {name: files.digest_of_file(folder.file(name)) for name in (SMALLER, SMALLER_STRING)}
+
+    def share(self, folder, leader, cells):
+        """Gives a design of so many cells what was found for another with the same network and sides."""
+        told, limits = leader.smaller(), self.limits.told_to_find()
+        if told is None or not told.stands(self.limits):
+            return self.shrink(folder)
+        for name in (SMALLER, SMALLER_STRING):
+            folder.file(name).unlink(missing_ok=True)
+        told = replace(told, processor=0.0, clock=0.0, limits=limits)
+        if told.verdict == "found" and told.size[0] * told.size[1] < cells:
+            blueprint = with_words_of(folder.text(DESIGN_JSON), leader.file(SMALLER).read_bytes())
+            told = replace(told, digests=self.written(folder, blueprint))
+        elif told.verdict == "found":
+            told = Smaller("none", OF_SEARCHES["shared"], processor=0.0, clock=0.0, limits=limits)
+        folder.keep(smaller=told.kept())
+        return told
 
 
 def all_of(worker, folder):
@@ -455,7 +559,8 @@ def all_of(worker, folder):
     network = worker.recover(folder)
     if network.status == FAILED:
         return [network.line]
-    answers = [worker.decide(folder, prop) for prop in PROPERTIES] if network.status == 0 else []
-    if worker.smaller and network.status == 0 and folder.design_file().name == DESIGN_JSON:
+    judged = network.is_judged()
+    answers = [worker.decide(folder, prop) for prop in PROPERTIES] if judged else []
+    if worker.smaller and judged and not network.choices and folder.judged_file() == folder.file(DESIGN_JSON):
         answers.append(worker.shrink(folder))
     return [it.why for it in answers if it.verdict == "failed"]

@@ -88,7 +88,7 @@ def by_program(program, words, data):
 def by_page(page, words):
     """The same of the page's program, over the bytes that the page was given: of its memory the pages that hold something, since
     no more of the program's is counted, and all that it grew to."""
-    script = f"program.run({words}, window.timed, 'timing', true).told.then((it) => [it.seconds, it.touched, it.status, it.written?.length, it.memory])"
+    script = f"program.run({words}, window.timed, 'timing', {{ isMeasured: true }}).told.then((it) => [it.seconds, it.touched, it.status, it.written?.length, it.memory])"
     told = page.ask("Runtime.evaluate", expression=script, awaitPromise=True, returnByValue=True)
     return told["result"]["value"]
 

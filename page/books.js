@@ -2,14 +2,18 @@
 // so that each design stays what it was, faults and all, for the program to judge; and without recursion. The same as
 // `collection/books.py`.
 
-/** How many books stand in one another at most. */
-const MOST_NESTED = 100000;
+/** How many books stand in one another at most, and how many designs are read. */
+const [MOST_NESTED, MOST_DESIGNS] = [WORDS.numbers.most_nested, WORDS.numbers.most_designs];
 
-/** How many digits a place in a book has at most: the report reads none longer. */
-const LONGEST_INDEX = 4300;
+/** How many signs a label has at most, and the greatest number of a place in a book. */
+const [LONGEST_LABEL, MOST_INDEX] = [WORDS.numbers.longest_label, 10 ** 9];
+
+/** How many digits of such a number are looked at. */
+const LONGEST_INDEX = 16;
 
 class Fault extends Error {}
 
+const STRING_DECODER = new TextDecoder("utf-8", { ignoreBOM: true });
 const QUOTE = 0x22;
 const SIGN = Object.fromEntries([..."{}[],:"].map((it) => [it, it.charCodeAt(0)]));
 const [OPEN, CLOSE, OPEN_LIST, CLOSE_LIST, COMMA_SIGN, COLON] = [..."{}[],:"].map((it) => it.charCodeAt(0));
@@ -94,9 +98,14 @@ class Walk {
   }
 }
 
+/** A label without the blanks around it, and only so long; null where nothing else is in it. */
+const shortLabel = (label) => (label === null ? null : short(unblanked(label), LONGEST_LABEL) || null);
+
 /** A string's value, or what is written where it isn't one. */
 const text = (bytes) => {
-  const written = new TextDecoder().decode(bytes);
+  const isPlain = bytes[0] === QUOTE && bytes.length > 1 && bytes.every((it) => it >= 0x20 && it !== BACKSLASH);
+  if (isPlain) return STRING_DECODER.decode(bytes.subarray(1, bytes.length - 1));
+  const written = STRING_DECODER.decode(bytes);
   try {
     const value = JSON.parse(written);
     return typeof value === "string" ? value : written;
@@ -117,24 +126,30 @@ const labelOf = (walk) => {
         const value = walk.value();
         if (name === "label") label = isString ? text(value) : null;
       }
-      return label?.trim() ? label : null;
+      return shortLabel(label);
     } catch (fault) {
       if (!(fault instanceof Fault)) throw fault;
       walk.at = start;
     }
   }
   walk.value();
-  return label?.trim() ? label : null;
+  return shortLabel(label);
 };
 
-/** A whole number from 0 on, as JSON writes it: digits alone, which are kept as they are, since a number may be too long. */
+/** A whole number as JSON writes it. */
 const WHOLE = /^-?(?:0|[1-9]\d*)$/;
 
 /** The number of a place that a member `index` tells, or where that is none, this one. */
 const indexOf = (bytes, number) => {
   const written = new TextDecoder().decode(bytes.subarray(0, LONGEST_INDEX + 1));
-  if (written === "-0") return "0";
-  return bytes.length <= LONGEST_INDEX && WHOLE.test(written) && written[0] !== "-" ? written : number;
+  const value = bytes.length <= LONGEST_INDEX && WHOLE.test(written) ? Number(written) : -1;
+  return value >= 0 && value <= MOST_INDEX ? String(value + 0) : number;
+};
+
+/** What an entry of a book with members of these names is, where it is no design; of what may be one, nothing. */
+const kindOf = (names) => {
+  if (names.includes("deconstruction_planner") || names.includes("upgrade_planner")) return "planner";
+  return names.every((it) => it === "index" || it === "active_index") ? "empty slot" : "";
 };
 
 /** Reads one entry: a design, a book, or what is neither. Its number is that of its place, as the book that it stands in
@@ -144,9 +159,11 @@ function* entry(walk, found, book, number, depth) {
   const start = walk.at;
   let label = null;
   let held = null;
+  const names = [];
   if (walk.sign() !== SIGN["{"]) walk.value();
   else
     for (const name of walk.members()) {
+      names.push(name);
       if (name === "blueprint_book" && walk.sign() === SIGN["{"]) {
         held = { above: book, number, label: null };
         yield pages(walk, found, held, depth + 1);
@@ -158,7 +175,8 @@ function* entry(walk, found, book, number, depth) {
       if (name === "index") number = indexOf(walk.bytes.subarray(begin, walk.at), number);
       if (held) held.number = number;
     }
-  if (!held) found.push({ book, number, label, bytes: walk.bytes.subarray(start, walk.at) });
+  if (found.length >= MOST_DESIGNS) throw new Fault(filledIn(WORDS.inputs.designs, MOST_DESIGNS));
+  if (!held) found.push({ book, number, label, kind: book ? kindOf(names) : "", bytes: walk.bytes.subarray(start, walk.at) });
 }
 
 /** Reads a book: its label, and its entries. */
@@ -174,7 +192,7 @@ function* pages(walk, found, book, depth) {
     } else {
       const isString = walk.sign() === QUOTE;
       const value = walk.value();
-      if (name === "label" && isString && text(value).trim()) book.label = text(value);
+      if (name === "label" && isString) book.label = shortLabel(text(value)) ?? book.label;
     }
   }
 }

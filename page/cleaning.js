@@ -30,21 +30,29 @@ const cleaned = (bytes) => {
     if (!(fault instanceof Fault || fault instanceof SyntaxError)) throw fault;
     return { bytes, notes: [] };
   }
-  const leftOut = new Map();
-  const texts = [];
+  const [leftOut, ends, texts] = [new Map(), new Map(), []];
   let readers = 0;
-  for (const entity of found.entities) {
-    const name = found.value(entity, "name");
-    if (BYSTANDERS.has(name)) {
-      leftOut.set(name, (leftOut.get(name) ?? 0) + 1);
-      continue;
+  const loaders = endLoaders(bytes);
+  const nameIn = (entity) => found.value(entity, "name");
+  const isGone = (entity, at) => loaders.has(at) || BYSTANDERS.has(nameIn(entity));
+  const numbers = new Set(found.entities.filter(isGone).map((it) => found.value(it, "entity_number")).filter(Number.isInteger));
+  found.entities.forEach((entity, at) => {
+    const name = nameIn(entity);
+    if (isGone(entity, at)) {
+      const them = loaders.has(at) ? ends : leftOut;
+      them.set(name, (them.get(name) ?? 0) + 1);
+      return;
     }
     const reads = isBelt(name) && entity.members.has(CONTROL) && onlyReads(found.value(entity, CONTROL));
     readers += reads;
-    texts.push(reads ? found.without(entity, CONTROL) : found.textOf(entity));
-  }
-  const told = [...leftOut].map(([name, number]) => `${number} × ${name}`).join(", ");
-  const notes = leftOut.size ? [`left out, since it can't touch a belt: ${told}`] : [];
+    const linked = numbers.size && entity.members.has(CONNECTIONS) ? connectionsOf(found.value(entity, CONNECTIONS), numbers) : null;
+    const without = new Set([...(reads ? [CONTROL] : []), ...(linked === "" ? [CONNECTIONS] : [])]);
+    const isChanged = reads || linked !== null;
+    texts.push(isChanged ? found.changed(entity, without, new Map(linked ? [[CONNECTIONS, linked]] : [])) : found.textOf(entity));
+  });
+  const counted = (them) => [...them].map(([name, number]) => `${number} × ${name}`).join(", ");
+  const notes = leftOut.size ? [`left out, since it can't touch a belt: ${counted(leftOut)}`] : [];
   if (readers) notes.push(`left out, since it only reads: ${CONTROL} of ${readers} × transport belt`);
-  return notes.length ? { bytes: found.withAll(texts), notes } : { bytes, notes };
+  if (ends.size) notes.push(`taken for ends, with the belts that they stand at: ${counted(ends)}`);
+  return notes.length ? { bytes: found.withAll(texts, changedLinks(found, numbers)), notes } : { bytes, notes };
 };

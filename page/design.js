@@ -58,6 +58,27 @@ const blueprintOf = (bytes) => {
   return blueprint;
 };
 
+/** What a design's author says of it, or nothing. */
+const descriptionOf = (bytes) => {
+  try {
+    const { description } = isJson(bytes) ? blueprintOf(bytes) : {};
+    return typeof description === "string" ? short(description, WORDS.numbers.longest_description) : "";
+  } catch (fault) {
+    if (!(fault instanceof Unreadable)) throw fault;
+    return "";
+  }
+};
+
+/** Whether a blueprint tells the game's version, without which directions are read as before 2.0. */
+const hasVersion = (bytes) => {
+  try {
+    return "version" in blueprintOf(bytes);
+  } catch (fault) {
+    if (!(fault instanceof Unreadable)) throw fault;
+    return true;
+  }
+};
+
 /** The list of a blueprint's entities, whatever they are. */
 const entitiesOf = (blueprint) => {
   const entities = blueprint.entities ?? [];

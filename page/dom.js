@@ -34,32 +34,18 @@ const svgOf = (elements) =>
 /** A text that others wrote. */
 const told = (text) => make("bdi", {}, plain(text));
 
-const count = (number, word) => `${number} ${word}${number === 1 ? "" : "s"}`;
+/** Saves bytes, or parts of them in a list, under a name. */
+const save = (bytes, name) => saveBlob(new Blob(Array.isArray(bytes) ? bytes : [bytes], { type: "application/octet-stream" }), name);
 
-/** A length of bytes, in words. */
-const size = (bytes) => (bytes < 1000 ? count(bytes, "byte") : bytes < 1e6 ? `${(bytes / 1000).toFixed(1)} KB` : `${(bytes / 1e6).toFixed(1)} MB`);
-
-const seconds = (number) => (number < 0.1 ? "under 0.1 s" : number < 60 ? `${number.toFixed(1)} s` : `${Math.floor(number / 60)} min ${Math.floor(number % 60)} s`);
-
-/** Saves bytes under a name. */
-const save = (bytes, name) => {
-  const address = URL.createObjectURL(new Blob([bytes], { type: "application/octet-stream" }));
+const saveBlob = (blob, name) => {
+  if (!blob) return;
+  const address = URL.createObjectURL(blob);
   const link = make("a", { href: address, download: name });
   document.body.append(link);
   link.click();
   link.remove();
   setTimeout(() => URL.revokeObjectURL(address), 60000);
 };
-
-/** A file's name for a design of this name: letters, digits and dashes alone. */
-const slug = (name) =>
-  name
-    .normalize("NFKD")
-    .replace(/\p{M}/gu, "")
-    .replace(/[^A-Za-z0-9]+/g, "-")
-    .slice(0, 80)
-    .replace(/^-+|-+$/g, "")
-    .toLowerCase() || "design";
 
 /** Puts a text on the clipboard, and says so on the button that asked for it. */
 const copy = async (text, button) => {

@@ -25,12 +25,17 @@ const entityAt = (walk) => {
   return { start, end: walk.at, members };
 };
 
+/** How many entities are listed at most; with more, no program takes the design. */
+const MOST_ENTITIES_LISTED = 16384;
+
 /** A blueprint's bytes with its entities; a fault where they are no blueprint with a list of them, or are damaged. */
 class Listed {
   constructor(bytes) {
     const walk = new Walk(bytes);
     this.bytes = bytes;
     this.entities = [];
+    /** The blueprint's other members. */
+    this.others = new Map();
     this.end = null;
     for (const name of walk.members()) {
       if (name !== "blueprint" || this.end !== null || walk.sign() !== SIGN["{"]) {
@@ -39,9 +44,17 @@ class Listed {
       }
       for (const inner of walk.members()) {
         if (inner === "entities" && this.end === null && walk.sign() === SIGN["["]) {
-          for (const _ of walk.parts("[", "]")) this.entities.push(entityAt(walk));
+          for (const _ of walk.parts("[", "]")) {
+            if (this.entities.length === MOST_ENTITIES_LISTED) throw new Fault(`there are more than ${MOST_ENTITIES_LISTED} entities`);
+            this.entities.push(entityAt(walk));
+          }
           this.end = walk.at - 1;
-        } else walk.value();
+        } else {
+          walk.sign();
+          const valueStart = walk.at;
+          walk.value();
+          this.others.set(inner, { valueStart, end: walk.at });
+        }
       }
     }
     if (this.end === null) throw new Fault("the text is no blueprint with a list of entities");
@@ -51,10 +64,15 @@ class Listed {
     return new TextDecoder().decode(this.bytes.subarray(start, end));
   }
 
+  /** A member's value. */
+  valueOf(member) {
+    return JSON.parse(this.written(member.valueStart, member.end));
+  }
+
   /** The value of an entity's member, or undefined. */
   value(entity, name) {
     const member = entity.members.get(name);
-    return member && JSON.parse(this.written(member.valueStart, member.end));
+    return member && this.valueOf(member);
   }
 
   /** An entity's text. */
@@ -62,16 +80,25 @@ class Listed {
     return this.bytes.subarray(entity.start, entity.end);
   }
 
-  /** An entity's text without one of its members. */
-  without(entity, name) {
-    const kept = [...entity.members].filter(([it]) => it !== name).map(([, it]) => this.bytes.subarray(it.start, it.end));
-    return glued([BRACES[0], ...between(kept, COMMA), BRACES[1]]);
+  /** An entity's text without some of its members, and with other texts for the values of some. */
+  changed(entity, without, texts) {
+    const kept = [...entity.members].filter(([it]) => !without.has(it));
+    const written = kept.map(([name, { start, valueStart, end }]) => (texts.has(name) ? glued([this.bytes.subarray(start, valueStart), asBytes(texts.get(name))]) : this.bytes.subarray(start, end)));
+    return glued([BRACES[0], ...between(written, COMMA), BRACES[1]]);
   }
 
-  /** The blueprint's bytes with these entities in place of its own. */
-  withAll(texts) {
+  /** The blueprint's bytes with these entities in place of its own, and other texts for the values of some of its other members. */
+  withAll(texts, values = new Map()) {
     const [first, last] = [this.entities[0]?.start ?? this.end, this.entities[this.entities.length - 1]?.end ?? this.end];
-    return glued([this.bytes.subarray(0, first), ...between(texts, COMMA_LINE), this.bytes.subarray(last)]);
+    const changes = [[first, last, glued(between(texts, COMMA_LINE))]];
+    for (const [name, it] of values) changes.push([this.others.get(name).valueStart, this.others.get(name).end, asBytes(it)]);
+    const found = [];
+    let at = 0;
+    for (const [start, end, bytes] of changes.sort((a, b) => a[0] - b[0])) {
+      found.push(this.bytes.subarray(at, start), bytes);
+      at = end;
+    }
+    return glued([...found, this.bytes.subarray(at)]);
   }
 
   /** The blueprint's bytes with these entities behind its own. */

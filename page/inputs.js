@@ -1,7 +1,13 @@
 // What was pasted or dropped: the designs in it, each with its name, its place in a book and its bytes, or why there is none.
 
-/** How many bytes are read of a file at most. */
-const MOST_READ = 64 * 2 ** 20;
+/** How many bytes are read of a file at most, and of a design. */
+const [MOST_READ, LONGEST_DESIGN] = [WORDS.numbers.most_read, WORDS.numbers.longest_design];
+
+/** How many brackets JSON has at most that is read, and how many commas. */
+const [MOST_BRACKETS, MOST_COMMAS] = [WORDS.numbers.most_brackets, WORDS.numbers.most_commas];
+
+/** How long the labels of the books around a design are together at most. */
+const LONGEST_PATH = WORDS.numbers.longest_path;
 
 /** How a blueprint string begins: the version byte, and what base64 makes of the head of zlib's formats. */
 const BEGINNING = /(?<![\w+/])0e[AFJN][\w+/-]+=*/g;
@@ -11,34 +17,63 @@ const decoder = new TextDecoder();
 const encoder = new TextEncoder();
 const isJson = (bytes) => new Walk(bytes).sign() === SIGN["{"];
 
+/** A line without the blanks around it, and without the signs by which it is quoted. */
+const unquoted = (line) => {
+  const whole = unblanked(line);
+  let at = 0;
+  while (whole[at] === ">" || BLANK.test(whole[at] ?? "")) at += 1;
+  return whole.slice(at);
+};
+
 /** The blueprint strings in a text: each may be wrapped over lines or quoted, and other words may stand around them. */
 const stringsIn = (written) => {
   const found = [];
   let isOpen = false;
-  for (const line of written.split("\n").map((it) => it.replace(/^[>\s]+|\s+$/g, ""))) {
+  for (const line of written.split("\n").map(unquoted)) {
     const begun = line.match(BEGINNING) ?? [];
     if (isOpen && !begun.length && GOING_ON.test(line)) found[found.length - 1] += line;
     else {
-      found.push(...begun);
+      for (const it of begun) if (found.length <= MOST_DESIGNS) found.push(it);
       isOpen = begun.length > 0 && line.endsWith(begun[begun.length - 1]);
     }
   }
   return found;
 };
 
+/** A design, or where its text is too long, that it is. */
+const bounded = (design) => {
+  if (design.bytes.length <= LONGEST_DESIGN) return design;
+  return { ...design, bytes: null, trouble: filledIn(WORDS.inputs.design, Math.floor(LONGEST_DESIGN / 2 ** 20)) };
+};
+
+/** Whether JSON has more brackets or commas than are read. */
+const isCrowded = (bytes) => {
+  let [brackets, commas] = [0, 0];
+  for (const byte of bytes) {
+    if (byte === OPEN || byte === OPEN_LIST) brackets += 1;
+    else if (byte === COMMA_SIGN) commas += 1;
+  }
+  return brackets > MOST_BRACKETS || commas > MOST_COMMAS;
+};
+
 /** The designs in a text of JSON: itself, or those of a book. */
 const fromJson = (bytes, name) => {
+  if (isCrowded(bytes)) return [{ name, books: [], place: "", bytes: null, trouble: filledIn(WORDS.inputs.brackets, MOST_BRACKETS, MOST_COMMAS) }];
   const { found, fault } = entries(bytes);
   // No book: the program tells what is wrong with the text.
-  if (fault && !found.some((it) => it.book)) return [{ name, books: [], place: "", bytes }];
+  if (fault && !found.some((it) => it.book)) return [bounded({ name, books: [], place: "", bytes })];
   if (!found.length) return [{ name, books: [], place: "", bytes: null, trouble: "it is a book in which nothing stands" }];
-  const designs = found.map((it) => {
+  const passed = new Map();
+  for (const { kind } of found) if (kind) passed.set(kind, (passed.get(kind) ?? 0) + 1);
+  const designs = found.filter((it) => !it.kind).map((it) => {
     const around = booksAround(it);
-    const books = around.slice(1).map((book) => plain(book.label ?? book.number));
+    const isLong = around.slice(1).reduce((sum, book) => sum + signsOf(book.label ?? ""), 0) > LONGEST_PATH;
+    const books = around.slice(1).map((book) => plain(isLong ? book.number : book.label ?? book.number));
     const place = around.length ? [...around.slice(1).map((book) => book.number), it.number].join(".") : "";
     const label = plain(it.label ?? (it.book ? it.number : name));
-    return { name: label, books, place, bytes: it.book ? it.bytes : bytes };
+    return bounded({ name: label, books, place, bytes: it.book ? it.bytes : bytes });
   });
+  if (passed.size) designs.push({ name: "no designs", books: [], place: "", bytes: null, isPassed: true, trouble: `passed over: ${[...passed].map(([kind, number]) => count(number, kind)).join(" and ")}` });
   if (fault) designs.push({ name: "the rest", books: [], place: "", bytes: null, trouble: `${fault}, and what stands behind isn't read` });
   return designs;
 };
@@ -85,10 +120,11 @@ const designsIn = async (given, name) => {
     bytes = encoder.encode(written);
   }
   if (isJson(bytes)) return fromJson(bytes, name);
-  if (/^\s*net(\s|$)/.test(written)) return [{ name, books: [], place: "", bytes: encoder.encode(written.replace(/\r\n/g, "\n")) }];
+  if (/^\s*net(\s|$)/.test(written)) return [bounded({ name, books: [], place: "", bytes: encoder.encode(written.replace(/\r\n/g, "\n")) })];
   const found = stringsIn(written);
   const designs = [];
-  for (const [at, it] of found.entries()) designs.push(...(await fromString(it, found.length === 1 ? name : `${name}, string ${at + 1}`)));
+  for (const [at, it] of found.slice(0, MOST_DESIGNS).entries()) designs.push(...(await fromString(it, found.length === 1 ? name : `${name}, string ${at + 1}`)));
+  if (found.length > MOST_DESIGNS) designs.push({ name: "the rest", books: [], place: "", bytes: null, trouble: filledIn(WORDS.inputs.designs, MOST_DESIGNS) });
   if (designs.length) return designs;
   const begin = latin(bytes).search(JSON_START);
   if (begin >= 0) return fromJson(unworded(bytes.subarray(begin)), name);

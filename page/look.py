@@ -118,7 +118,7 @@ def first_looks(page, address):
         if page.saved(f"pasted-design.{verdict}-{prop}") != expected:
             yield f"what is saved of {prop} isn't what the program writes"
         page.click("Check it", card)
-        if page.wait(f"{card}.textContent.includes('check: {'yes' if verdict == 'yes' else 'no'} {prop}')") is None:
+        if page.wait(f"{card}.textContent.includes('check accepts the {'certificate' if verdict == 'yes' else 'state'}')") is None:
             yield f"the check of {prop} doesn't accept it"
 
 
@@ -127,7 +127,7 @@ def ways(page):
     tree = deflate((EXAMPLES / "tree-1-to-4.json").read_bytes())
     pasted = "(() => {{ const data = new DataTransfer(); data.setData('text/plain', {}); {}.dispatchEvent(new ClipboardEvent('paste', {{ clipboardData: data, bubbles: true, cancelable: true }})); }})()"
     page.value(pasted.format(json.dumps(tree), "document.body"))
-    if page.wait("document.querySelector('#name')?.textContent === 'Pasted design' && document.querySelector('.facts').textContent.includes('1 → 4')") is None:
+    if page.wait("document.querySelector('#name')?.textContent === 'Pasted design' && document.querySelector('#design .facts').textContent.includes('1 → 4')") is None:
         yield "what is pasted beside the field isn't opened"
     many = "\n\n".join([tree] * (200_000 // len(tree)))
     page.value(pasted.format(json.dumps(many), "document.getElementById('text')"))
@@ -139,7 +139,7 @@ def ways(page):
         yield "a long text isn't opened again"
     dropped = f"(() => {{ const data = new DataTransfer(); data.items.add(new File([{json.dumps(tree)}], 'my tree.txt')); window.dispatchEvent(new DragEvent('drop', {{ dataTransfer: data, bubbles: true, cancelable: true }})); }})()"
     page.value(dropped)
-    if page.wait("document.querySelector('#name')?.textContent === 'my tree' && document.querySelector('.facts').textContent.includes('1 → 4')") is None:
+    if page.wait("document.querySelector('#name')?.textContent === 'my tree' && document.querySelector('#design .facts').textContent.includes('1 → 4')") is None:
         yield "what is dropped isn't opened"
     page.value("(() => { const it = document.getElementById('examples'); it.value = 1; it.dispatchEvent(new Event('change')); })()")
     if page.wait("document.querySelector('#name')?.textContent === document.getElementById('examples').selectedOptions[0].textContent") is None:
@@ -153,8 +153,9 @@ def more_looks(page):
     text = (EXAMPLES / "balancer-4-to-4.json").read_bytes()
     smaller = part("A smaller")
     page.value(f"{smaller}.open = true")
+    page.value(f"{smaller}.querySelectorAll('select')[1].value = 10")
     page.click("Look for one", smaller)
-    if page.wait(f"{smaller}.querySelector('.found svg, .found .held:last-child') !== null") is None:
+    if page.wait(f"!{smaller}.querySelector('button.main').disabled && {smaller}.querySelector('.found').textContent") is None:
         yield "looking for a smaller layout doesn't end"
     checks = part("Check a saved")
     page.value(f"{checks}.open = true")
@@ -202,18 +203,18 @@ def books(page):
     if page.value("document.activeElement === document.querySelectorAll('#designs button')[1]") is not True:
         yield "the arrow keys don't move in the list"
     page.value("document.getElementById('filter').value = 'plain'; document.getElementById('filter').dispatchEvent(new Event('input'))")
-    if page.value("[...document.querySelectorAll('#designs li')].filter((it) => !it.hidden).length") != 1:
+    if page.value("[...document.querySelectorAll('#designs tr')].filter((it) => !it.hidden).length") != 1:
         yield "the search leaves another number of designs"
     page.give((EXAMPLES / "collection" / "book.txt").read_text())
     page.wait("document.querySelectorAll('#designs button').length > 5")
     page.verdicts()
-    large = {"blueprint_book": {"blueprints": [json.loads((EXAMPLES / "balancer-8-to-8.json").read_text())] * 3000}}
+    large = {"blueprint_book": {"blueprints": [json.loads((EXAMPLES / "tree-1-to-4.json").read_text())] * 1900}}
     page.value(f"document.getElementById('text').value = {json.dumps(deflate(json.dumps(large).encode()))}")
     began = time.monotonic()
     page.value("document.getElementById('open').click()")
-    if page.wait("document.querySelectorAll('#designs button').length === 3000", 30) is None:
-        yield "a book of 3,000 designs isn't listed"
-    print(f"a book of 3,000 designs was listed after {time.monotonic() - began:.2f} s")
+    if page.wait("document.querySelectorAll('#designs button').length === 1900", 30) is None:
+        yield "a book of 1,900 designs isn't listed"
+    print(f"a book of 1,900 designs was listed after {time.monotonic() - began:.2f} s")
     page.value("document.getElementById('stop').click()")
 
 
@@ -234,9 +235,9 @@ def refused(page):
     inside = [it for it in trimmed["blueprint"]["entities"] if "splitter" in it["name"] or it["position"]["y"] not in (-0.5, 7.5, 0.5)]
     trimmed["blueprint"]["entities"] = inside
     page.give(json.dumps(trimmed))
-    page.wait("document.querySelector('.stage .switch input') !== null")
-    if not page.value("document.querySelector('.stage .switch input') !== null"):
-        yield "there is no switch for bare halves"
+    page.wait("document.querySelector('.tools select') !== null")
+    if not page.value("document.querySelector('.tools select') !== null"):
+        yield "there is no choice of bare halves"
     page.give((EXAMPLES / "balancer-16-to-16.json").read_text())
     page.wait("document.getElementById('what').textContent.startsWith('Deciding')")
     page.value("document.getElementById('stop').click()")

@@ -142,7 +142,8 @@ const linesIn = (written) => written.split("\n").filter((it, at, all) => it || a
 class Opening {
   static async of(bytes, bystanders, recover) {
     const it = new Opening();
-    Object.assign(it, { bytes, recover, answer: await recover(bytes), found: null, network: null, ways: [] });
+    const taken = bystanders.flatMap((other) => other.cells);
+    Object.assign(it, { bytes, recover, taken, answer: await recover(bytes), found: null, network: null, ways: [], bare: [] });
     it.isWhole = it.answer.startsWith("net ");
     if (!it.isWhole && !it.answer.startsWith(WITHOUT_ENDS)) throw new Refused(it.answer);
     it.lines = it.isWhole ? linesIn(it.answer) : [];
@@ -150,6 +151,7 @@ class Opening {
       const found = readDesign(bytes);
       it.network = new Layout(found.parts).network();
       it.found = found;
+      it.bare = bareEnds(found.parts);
       if (it.network.splitters.length) it.ways = waysOf(found, bystanders, MOST_ENTITIES - found.parts.length);
     } catch (fault) {
       if (!(fault instanceof Unreadable || fault instanceof Untraced)) throw fault;
@@ -214,23 +216,93 @@ class Opening {
     const unopened = this.ways.filter((it) => it.why || refused.has(it)).map((it) => ({ place: it.place, why: it.why ?? refused.get(it) }));
     const after = this.moreEnds(kept);
     const belts = kept.reduce((count, it) => count + it.belts.length, 0);
-    return { ...best, belts, opened: kept.map((it) => it.place), unopened, before: this.ends(), after, would: after };
+    return { ...UNTOLD, ...best, belts, opened: kept.map((it) => it.place), unopened, before: this.ends(), after, would: after };
+  }
+
+  /** The design with these ends marked in its network alone; null where that is another one. */
+  async marked(ways) {
+    const bytes = asBytes(this.withEnds(ways));
+    const answer = await this.recover(bytes);
+    const [ends, after] = [this.ends(), this.moreEnds(ways)];
+    const added = new Set(["i", "o"].flatMap((sign, side) => Array.from({ length: after[side] - ends[side] }, (_, k) => `${sign}${ends[side] + k}`)));
+    if (!answer.startsWith("net ")) return null;
+    const isSame = !this.isWhole || areSame(linesWithout(linesIn(answer), added).sort(), [...this.lines].sort());
+    return isSame ? { ...UNTOLD, bytes: this.bytes, answer, belts: 0, opened: ways.map((it) => it.place), unopened: [], before: ends, after, would: after, isMarked: true } : null;
+  }
+
+  /** The network's text with these bare halves as ends, behind those that there are. */
+  withEnds(ways) {
+    const { parts } = this.found;
+    const names = new Map(this.network.splitters.map((part, k) => [part, `s${k}`]));
+    const isMixed = new Set(parts.map((it) => it.tier)).size > 1;
+    const edges = this.network.edges.map(({ source, target, cap, run }) => ({ source, target, cap, first: nameOf(run[0].half), last: nameOf(run[run.length - 1].half) }));
+    const counts = this.ends();
+    for (const bare of ways.map((it) => this.bare[this.ways.indexOf(it)])) {
+      const cap = isMixed ? SPEED[parts[bare.part].tier] : 1;
+      const side = Number(bare.front);
+      const [end, name] = [`${"io"[side]}${counts[side]}`, names.get(bare.part)];
+      counts[side] += 1;
+      edges.push(bare.front ? { source: name, target: end, cap, first: nameOf(bare), last: null } : { source: end, target: name, cap, first: null, last: nameOf(bare) });
+    }
+    const lines = edges.map((it) => `edge ${it.source} ${it.target}${it.cap === 1 ? "" : ` ${it.cap}`}`);
+    for (const [part, name] of names)
+      for (const [word, which] of [["give", "first"], ["take", "last"]]) {
+        const side = parts[part][word];
+        const half = nameOf({ part, half: side === "left" ? leftHalf(parts[part]) : 1 - leftHalf(parts[part]) });
+        const at = edges.findLastIndex((it) => it[which] === half);
+        if (side && at >= 0) lines.push(`${word} ${name} ${at}`);
+      }
+    return [`net ${counts[0]} ${counts[1]} ${names.size}`, ...lines, "end\n"].join("\n");
+  }
+
+  /** The design with all of these ends: with belts where each has room for them, else marked. */
+  async openedAs(ways) {
+    if (ways.every((it) => !it.why)) {
+      const found = await this.opened(ways);
+      if (found.opened.length === ways.length) return found;
+    }
+    return this.marked(ways);
+  }
+
+  /** What the rule of ends tells of the design, or null where its parts can't be traced; a pair that may be its own size, and
+      fits its size and not its ends, is none. */
+  toldEnds(label) {
+    if (!this.network) return null;
+    const pairs = pairsWithSizes(label);
+    const ofPairs = (them) => endsOf(this.found.parts, this.taken, them.map(([inputs, outputs]) => [inputs, outputs]));
+    const told = ofPairs(pairs);
+    const [leastX, leastY, mostX, mostY] = spanOf(this.found.parts.flatMap((it) => it.cells));
+    const [width, height] = [mostX - leastX + 1, mostY - leastY + 1];
+    const left = pairs.filter(([inputs, outputs, isSize]) => !(isSize && isAmong([inputs, outputs], [[width, height], [height, width]])));
+    return told.status === "none" && left.length < pairs.length ? ofPairs(left) : told;
   }
 }
 
-/** Opens bare halves: all; or none; or all where the design has no input or no output without them, and where its label tells
-    of as many ends as it has with all, all inputs or all outputs open, and hasn't without. */
+/** What is told of ends where the rule isn't asked. */
+const UNTOLD = { ends: "", gaps: [], choices: [], isMarked: false };
+
+/** What the rule of ends tells where nothing is decided. */
+const UNJUDGED = ["none", "many", "gap"];
+
+/** Opens bare halves: none; or all; or by the rule of ends those that the label tells of, and where it tells of none, all where
+    without them there is no input or no output. */
 const openedBy = async (opening, mode, label) => {
   const free = opening.ways.filter((it) => !it.why);
-  const whole = await opening.opened(free);
-  if (mode === "always") return whole;
-  const shut = { ...(await opening.opened([])), unopened: whole.unopened, would: whole.after };
-  const pairs = pairsIn(label);
-  if (mode === "never" || (opening.isWhole && isAmong(shut.after, pairs))) return shut;
-  for (const ways of [free, free.filter((it) => it.front), free.filter((it) => !it.front)]) {
-    if (!ways.length || !isAmong(opening.moreEnds(ways), pairs)) continue;
-    const found = { ...(await opening.opened(ways)), would: whole.after };
-    if (isAmong(found.after, pairs)) return found;
-  }
-  return opening.isWhole ? shut : whole;
+  const told = opening.toldEnds(label);
+  const gaps = told?.gaps ?? [];
+  const could = told ? { would: told.could } : {};
+  if (mode === "always") return { ...(await opening.opened(free)), gaps };
+  const shut = { ...(await opening.opened([])), ...could, gaps };
+  if (mode === "never" || !told) return shut;
+  if (told.status === "all" && !pairsIn(label).length) return { ...(await opening.opened(free)), ...could, ends: "all" };
+  return byChoices(opening, told, { ...shut, ends: told.status, unopened: [] });
+};
+
+/** Opens the choice of halves that is told, or makes of several a design each; else the design as it stands. */
+const byChoices = async (opening, told, shut) => {
+  const found = [];
+  for (const halves of told.choices) if (halves.length) found.push(await opening.openedAs(halves.map((it) => opening.ways[it])));
+  if (found.includes(null)) return { ...shut, ends: "none" };
+  const choices = found.map((it) => ({ ...it, ends: told.status, would: told.could, unopened: [] }));
+  return told.status === "several" ? { ...shut, choices } : choices[0] ?? shut;
 };

@@ -213,6 +213,21 @@ const badges = (cells, told = null) =>
     return [box, titled(`${name}: ${what}`, sign(name, x, y - 1, "on"), sign(told.get(name).short(), x, y + 8, "on"))];
   });
 
+/** The marks of ends at halves for whose belts there is no room, behind so many inputs and outputs. */
+const halfBadges = (parts, places, before = [0, 0]) => {
+  const at = standing(parts);
+  const counts = [...before];
+  return places.flatMap(({ kind, cell }) => {
+    const side = kind === "input" ? 0 : 1;
+    const name = `${kind[0]}${counts[side]}`;
+    counts[side] += 1;
+    const [along, down] = STEPS[parts[at.get(keyOf(cell)).part].direction];
+    const away = side ? 7 : -7;
+    const [x, y] = [middleOf(cell)[0] + away * along, middleOf(cell)[1] + away * down];
+    return [["rect", { class: `badge ${side ? "out" : "in"}`, x: x - 8, y: y - 5, width: 16, height: 10, rx: 3 }, ""], sign(name, x, y + 3, "on")];
+  });
+};
+
 /** How far a picture reaches, with these cells of badges: its least x and y, its width and its height, in cells. */
 const boxOf = (design, cells) => {
   const [leastX, leastY, mostX, mostY] = boxOfDesign(design);

@@ -4,38 +4,10 @@
 const plain = (text) => text.replace(/[\p{Cc}\p{Cf}\p{Cs}\p{Co}\p{Cn}\p{Zl}\p{Zp}]/gu, (it) => `\\u${it.codePointAt(0).toString(16).padStart(4, "0")}`);
 
 /** How much of a name or a number is told, and how many bare halves. */
-const LONGEST = 100;
-const MOST_NAMED = 24;
+const [LONGEST, MOST_NAMED] = [WORDS.numbers.longest_name, WORDS.numbers.most_named];
 
-const REFUSALS = {
-  10: "the text is no JSON from byte {0} on",
-  11: "65 brackets stand in one another at byte {0}",
-  12: "the name at byte {0} stands in its object a second time",
-  20: "the JSON is no blueprint",
-  21: "the JSON is a book",
-  22: "it has more than 4096 entities",
-  23: "{0} is no belt, underground belt or splitter",
-  24: "the member {1} of {0} isn't what it has to be",
-  25: "{0} stands off the grid of the first entity, or too far out",
-  26: "{0} is of another tier than the first entity",
-  27: "{0} has a condition or a filter, in its member {1}",
-  30: "{0} and {1} stand on the same tile",
-  31: "{0} has no other end: none of its tier in reach that faces the right way",
-  32: "{0} is loaded from its side, or by two at once",
-  33: "what leaves {0} can't go on",
-  34: "{0} is on a ring of belts that has no splitter",
-  40: "line {0} may not stand in a network text",
-  41: "there are more than 2048 inputs, outputs, splitters or edges",
-  42: "there is no input, or no output",
-  43: "there is no butterfly or chain of this order",
-  44: "the pin on line {0} stands outside, or is the second of its end",
-  45: "edge {0} has another cap than 1, so it can't be laid out in one tier",
-  46: "the block on line {0} stands outside, or on a cell that is pinned or blocked",
-  47: "the two designs have other numbers of inputs or of outputs",
-};
-
-/** How many entities each refusal names first. */
-const OF_ENTITIES = { 23: 1, 24: 1, 25: 1, 26: 1, 27: 1, 30: 2, 31: 1, 32: 1, 33: 1, 34: 1 };
+/** What each refusal says, and how many entities it names first. */
+const [REFUSALS, OF_ENTITIES] = [WORDS.refusals.words, WORDS.refusals.entities];
 
 const [OFF_GRID, SIDE_LOAD, BLOCKED, NO_ENDS] = [25, 32, 33, 42];
 const KINDS = { belt: "belt", entrance: "underground entrance", exit: "underground exit", splitter: "splitter" };
@@ -98,6 +70,29 @@ const around = (number, parts, part) => {
   const found = number === BLOCKED ? obstacleOf(parts, part) : null;
   return found ? { more: `: it ${found.how} the ${KINDS[found.other.kind]} at ${tilesIn([found.ahead])}`, cells: [found.ahead] } : { more: "", cells: [] };
 };
+
+/** The refusal of a side that a splitter prefers, where what was asked is of designs in which none does. */
+const PREFERRED = 27;
+
+/** Whether a refusal is of such a side: a member of an entity, or a line of the network text that was given. */
+const isOfPreference = (line, given) => {
+  const words = line.split(" ");
+  if (numberOf(line) === PREFERRED) return /_priority$/.test(words[words.length - 1]);
+  return numberOf(line) === 40 && /^(?:give|take) /.test(new TextDecoder().decode(given).split("\n")[Number(words[3]) - 1] ?? "");
+};
+
+/** What a refusal's line says where something else was asked than what a design is: of these words, where it is one of them. */
+const toldOfAsking = (line, given, said, otherwise) => {
+  const number = isOfPreference(line, given) ? PREFERRED : numberOf(line);
+  const words = number === PREFERRED && !isOfPreference(line, given) ? null : said[number];
+  return words ? `refused ${numberOf(line)} ${line.split(" ")[2]}: ${words}` : otherwise();
+};
+
+/** What a refusal's line says where a layout was looked for. */
+const toldOfLayouts = (line, given) => toldOfAsking(line, given, WORDS.refusals.to_lay_out, () => toldRefusal(line, given).words);
+
+/** What a refusal's line says where two designs were compared. */
+const toldOfPairs = (line, given) => toldOfAsking(line, given, WORDS.refusals.to_compare, () => toldRefusal(line, new Uint8Array()).words);
 
 /** What a refusal's line says of a design's text, in words, and the places that it names, each with words; of any other line,
     the line. */

@@ -6,6 +6,7 @@ const TROUBLES = {
   trap: "the program trapped, which is a fault of it or of what built this page",
   fault: "the browser couldn't run the program",
   stopped: "it was stopped",
+  late: "the time was up",
 };
 
 /** Statuses that say nothing of the design, in words. */
@@ -35,23 +36,23 @@ class Program {
   }
 
   /** Begins a run of these words over these bytes; `told` is a promise of how it ended, and `stop` ends it. */
-  run(words, input, what, isMeasured = false) {
+  run(words, input, what, { isMeasured = false, isQuiet = false } = {}) {
     const worker = this.worker();
-    const run = { what, words, since: performance.now() };
+    const run = { what, words, isQuiet, since: performance.now() };
     run.told = new Promise((resolve) => {
       const end = (told, keeps) => {
         if (!this.running.delete(run)) return;
         if (keeps) this.idle.push(worker);
         else worker.terminate();
         this.changed();
-        resolve(told);
+        resolve({ words, ...told });
       };
       worker.onmessage = ({ data }) => end(data, !data.trouble);
       worker.onerror = (event) => {
         event.preventDefault();
         end({ trouble: "fault", why: event.message ?? "", seconds: 0 }, false);
       };
-      run.stop = () => end({ trouble: "stopped", seconds: (performance.now() - run.since) / 1000 }, false);
+      run.stop = (trouble = "stopped") => end({ trouble, seconds: (performance.now() - run.since) / 1000 }, false);
     });
     this.running.add(run);
     this.changed();
@@ -61,8 +62,15 @@ class Program {
     return run;
   }
 
+  /** Stops all runs but those of a whole book, which are stopped there. */
   stopAll() {
-    for (const run of [...this.running]) run.stop();
+    for (const run of [...this.running]) if (!run.isQuiet) run.stop();
+  }
+
+  /** The digest of the program, as a table tells it. */
+  async digest() {
+    this.told ??= await digestOf(this.bytes);
+    return this.told;
   }
 }
 
@@ -71,6 +79,11 @@ const faultOf = (told) => {
   if (told.trouble) return told.trouble === "fault" && told.why ? `${TROUBLES.fault} (${told.why})` : TROUBLES[told.trouble];
   return FAULTS[told.status] ?? null;
 };
+
+const LINE_FEED = new Uint8Array([10]);
+
+/** These bytes one behind the other, with a line feed between. */
+const lined = (...texts) => glued(between(texts, LINE_FEED));
 
 /** The first line of what was written. */
 const firstLine = (bytes) => {

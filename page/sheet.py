@@ -11,7 +11,15 @@ from pathlib import Path
 HERE = Path(__file__).resolve().parent
 TOP = HERE.parent
 EXAMPLES = TOP / "examples"
-SCRIPTS = "strings unpacking books design trace picture states refusals entities cleaning labels openings inputs runs dom drawing page".split()
+FIRST = "strings unpacking boot".split()
+"""What unpacks the rest, and is all that stands in the page as it is written here."""
+
+SCRIPTS = (
+    "words books design trace picture states refusals entities links rigs cleaning labels ends openings inputs runs sentences judging graph"
+    " saving lanes dom drawing table asking page"
+).split()
+"""What is packed with the program, and put into the page by its own text, whose digest the page's policy names."""
+
 PICTURE_RULES = re.compile(r"^\.body\{.*?(?=^@media)", re.M | re.S)
 COLORS = re.compile(r"^:root\{.*?\n(?=\*\{)", re.M | re.S)
 MOST_BYTES = 500_000
@@ -26,20 +34,31 @@ def stripped(script):
     return "\n".join(line.strip() for line in COMMENT.sub("", script).splitlines() if line.strip())
 
 
+def data():
+    """What the scripts read of data that others read too: what can't touch a belt, the words and numbers that the report has
+    too, and the sentences that state a verdict."""
+    tiles, words = (json.loads((TOP / "collection" / f"{it}.json").read_text("utf-8")) for it in ("bystanders", "words"))
+    sentences = json.loads((HERE / "sentences.json").read_text("utf-8"))["page"]
+    told = {"BYSTANDER_TILES": tiles["tiles"], "WORDS": {k: it for k, it in words.items() if k != "what"}, "SENTENCES": sentences}
+    return [f"const {name} = {json.dumps(it, separators=(',', ':'), ensure_ascii=False)};" for name, it in told.items()]
+
+
+def joined(names, listed):
+    return "\n".join(['"use strict";', *listed, *(stripped((HERE / f"{name}.js").read_text("utf-8")) for name in names)])
+
+
 def scripts(names):
-    """These scripts, which share their names, as one, with the list of what can't touch a belt."""
-    tiles = json.loads((TOP / "collection" / "bystanders.json").read_text("utf-8"))["tiles"]
-    listed = f"const BYSTANDER_TILES = {json.dumps(tiles, separators=(',', ':'))};"
-    return "\n".join(['"use strict";', listed, *(stripped((HERE / f"{name}.js").read_text("utf-8")) for name in names)])
+    """These scripts, which share their names, as one, behind their data."""
+    return joined(names, data())
 
 
-def style():
-    """The style: the colours of pictures and their rules are those of the report."""
+def picture_style():
+    """The colours of pictures and their rules, which are those of the report: a picture that is saved has them too."""
     report = (TOP / "collection" / "report.css").read_text("utf-8")
     shared = [COLORS.search(report), PICTURE_RULES.search(report)]
     if None in shared:
         raise ValueError("the colours or the rules of pictures aren't where they are sought in the report's style")
-    return "".join([*(it.group() for it in shared), (HERE / "style.css").read_text("utf-8")])
+    return "".join([*(it.group() for it in shared), (HERE / "graph.css").read_text("utf-8")])
 
 
 def samples():
@@ -73,9 +92,9 @@ def unsqueezed(text):
     return lzma.decompress(despelled(text)[4:], lzma.FORMAT_RAW, filters=PACKING)
 
 
-def packed(module):
-    """The examples and the program, packed: the length of the examples in four bytes, their JSON, and the module."""
-    told = json.dumps(samples(), separators=(",", ":")).encode()
+def packed(module, script):
+    """The scripts, the examples and the program, packed: the length of the former in four bytes, their JSON, and the module."""
+    told = json.dumps({"script": script, "samples": samples()}, separators=(",", ":")).encode()
     return squeezed(struct.pack("<I", len(told)) + told + module)
 
 
@@ -89,12 +108,12 @@ def hash_of(text):
     return f"'sha256-{base64.b64encode(hashlib.sha256(text.encode()).digest()).decode()}'"
 
 
-def policy(script_text, style_text):
-    """What the page may do: run its own script and its worker, and show its own style; and load nothing."""
+def policy(script_texts, style_texts):
+    """What the page may do: run its own scripts and its worker, and show its own styles; and load nothing."""
     rules = {
         "default-src": "'none'",
-        "script-src": f"{hash_of(script_text)} 'wasm-unsafe-eval'",
-        "style-src": hash_of(style_text),
+        "script-src": f"{' '.join(map(hash_of, script_texts))} 'wasm-unsafe-eval'",
+        "style-src": " ".join(map(hash_of, style_texts)),
         "worker-src": "blob:",
         "img-src": "data:",
         "base-uri": "'none'",
@@ -105,13 +124,16 @@ def policy(script_text, style_text):
 
 def page_of(module):
     """The whole page around this module."""
-    texts = {"style": style(), "script": scripts(SCRIPTS), "worker": stripped((HERE / "worker.js").read_text("utf-8"))}
+    written = (HERE / name for name in ("style.css", "worker.js"))
+    style, worker = (it.read_text("utf-8") for it in written)
+    texts = {"drawn": picture_style(), "style": style, "script": joined(FIRST, []), "worker": stripped(worker)}
     for name, text in texts.items():
-        if "</" + name in text or "<!--" in text or "</script" in text:
+        if re.search(r"</(?:script|style)|<!--", text):
             raise ValueError(f"the {name} holds a mark that would end it")
-    texts |= {"policy": policy(texts["script"], texts["style"]), "program": packed(module)}
+    rest = scripts(SCRIPTS)
+    texts |= {"policy": policy([texts["script"], rest], [texts["drawn"], style]), "program": packed(module, rest)}
     template = (HERE / "template.html").read_text("utf-8")
-    whole = re.sub(r"\{(style|script|worker|policy|program)\}", lambda found: texts[found.group(1)], template)
+    whole = re.sub(rf"\{{({'|'.join(texts)})\}}", lambda found: texts[found.group(1)], template)
     return whole.encode()
 
 

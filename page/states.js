@@ -1,6 +1,6 @@
 // Networks and states as the program writes them, and what a state shows in words. The same as `collection/states.py`.
 
-const PROPERTIES = ["balanced", "drawn-evenly", "unlimited", "full"];
+const PROPERTIES = WORDS.properties.map((it) => it.name);
 
 const greatestDivisor = (a, b) => {
   while (b) [a, b] = [b, a % b];
@@ -38,6 +38,12 @@ class Fraction {
 
   toString() {
     return this.below === 1n ? `${this.above}` : `${this.above}/${this.below}`;
+  }
+
+  /** As one says it: what is whole, and the part that is left, as in 36 7/8. */
+  mixed() {
+    const [whole, rest] = [this.above / this.below, new Fraction(this.above % this.below, this.below)];
+    return whole && rest.above ? `${whole} ${rest}` : `${whole ? whole : rest}`;
   }
 
   /** Its text where it is short, else a decimal number of three places: the nearest, of two the greater. */
@@ -79,13 +85,13 @@ const atEnds = (net, state) => {
 };
 
 /** How many numbers a sentence has at most. */
-const MOST_LISTED = 24;
+const MOST_LISTED = WORDS.numbers.most_listed;
 
 /** How many items a second a full basic belt carries; a full belt of each tier above carries so many more. */
-const ITEMS = 15;
+const ITEMS = WORDS.numbers.items;
 
 /** The numbers, so spelled; where there are many, the first ones and between which all are. */
-const listed = (numbers, spelled = String) => {
+const listed = (numbers, spelled = (it) => it.mixed()) => {
   if (numbers.length <= MOST_LISTED) return numbers.map(spelled).join(", ");
   const least = numbers.reduce((a, b) => (b.isLess(a) ? b : a));
   const most = numbers.reduce((a, b) => (a.isLess(b) ? b : a));
@@ -116,7 +122,7 @@ const toldOfEnds = (word, names, told, rest) => {
 const setUp = (net, state) => {
   const caps = new Map(net.edges.flatMap(({ source, target, cap }) => [[source, cap], [target, cap]]));
   const namesOf = (word, count) => Array.from({ length: count }, (_, k) => `${word}${k}`);
-  const wordOf = (end, number, none, whole, part) => (`${number}` === "0" ? none : `${number}` === `${caps.get(end)}` ? whole : `${part} ${number}`);
+  const wordOf = (end, number, none, whole, part) => (`${number}` === "0" ? none : `${number}` === `${caps.get(end)}` ? whole : `${part} ${number.mixed()}`);
   const [inputs, outputs] = [namesOf("i", net.inputs), namesOf("o", net.outputs)];
   const loads = inputs.map((end, at) => wordOf(end, state.loads[at], "empty", "full", "with"));
   const rooms = outputs.map((end, at) => wordOf(end, state.rooms[at], "blocked", "open", "open for"));
@@ -134,9 +140,18 @@ const shown = (property, net, state, tiers = []) => {
     const items = tiers.length ? `, or ${listed(flows, itemsOf)} items a second` : "";
     return `The ${ends} ${verb} ${listed(flows)} ${belt}s${items}, and should all ${verb} the same: ${setUp(net, state)}.`;
   }
+  if (property === "fair" || property === "drawn-fairly") {
+    const [word, verb, more, flows, mosts] = property === "fair" ? ["output", "carries", "and has room for", carried, state.rooms] : ["input", "gives", "and is loaded with", given, state.loads];
+    // What is short and has least, and what has most.
+    const short = flows.map((_, at) => at).filter((at) => flows[at].isLess(mosts[at]));
+    const least = short.reduce((a, b) => (flows[b].isLess(flows[a]) ? b : a));
+    const most = flows.map((_, at) => at).reduce((a, b) => (flows[a].isLess(flows[b]) ? b : a));
+    const name = (at) => `${word} ${word[0]}${at}`;
+    return `${capital(name(least))} ${verb} ${flows[least].mixed()} ${belt}s ${more} ${mosts[least].mixed()}, and should not have less than ${name(most)}, which ${verb} ${flows[most].mixed()}: ${setUp(net, state)}.`;
+  }
   const [out, loaded, taken] = [carried, state.loads, state.rooms].map(sum);
   const most = taken.isLess(loaded) ? taken : loaded;
   const items = tiers.length ? `, ${itemsOf(out)} of ${itemsOf(most)} items a second` : "";
   const comes = `${most}` === "1" || (out.above > 0n && out.above <= out.below) ? "comes" : "come";
-  return `${out} of ${most} ${belt}${`${most}` === "1" ? "" : "s"} ${comes} through${items}: ${setUp(net, state)}.`;
+  return `${out.mixed()} of ${most.mixed()} ${belt}${`${most}` === "1" ? "" : "s"} ${comes} through${items}: ${setUp(net, state)}.`;
 };

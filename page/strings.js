@@ -1,8 +1,5 @@
 // Blueprint strings: a version byte, and then, in base64, JSON that is compressed with zlib.
 
-/** How many bytes a string inflates to at most. */
-const MOST_INFLATED = 64 * 2 ** 20;
-
 class Damaged extends Error {}
 
 /** These bytes one behind the other. */
@@ -82,7 +79,7 @@ const inflate = async (string) => {
     throw new Damaged("the string is damaged: it is no base64");
   }
   try {
-    return await through(packed, new DecompressionStream("deflate"), MOST_INFLATED);
+    return await through(packed, new DecompressionStream("deflate"), WORDS.numbers.most_inflated);
   } catch (fault) {
     if (fault instanceof Damaged) throw fault;
     throw new Damaged("the string is damaged: it doesn't inflate, or it ends too early, or more follows behind it");

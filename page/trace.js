@@ -97,8 +97,8 @@ class Layout {
     return this.parts[it.part].cells[it.half];
   }
 
-  /** The network, numbered as the program numbers it. */
-  network() {
+  /** The network, numbered as the program numbers it; its caps as the program tells them, or in basic belts. */
+  network(inBasicBelts = false) {
     const { parts } = this;
     const ofKinds = (...kinds) => parts.flatMap((it, number) => (kinds.includes(it.kind) ? [{ part: number, half: 0 }] : []));
     const fromWest = (a, b) => this.cell(a)[0] - this.cell(b)[0] || this.cell(a)[1] - this.cell(b)[1];
@@ -115,16 +115,16 @@ class Layout {
         if (taker) sources.push([`s${k}`, [{ part, half: which }, taker]]);
       }
     });
-    const edges = sources.map(([source, run]) => this.edge(source, run, names, isMixed));
+    const edges = sources.map(([source, run]) => this.edge(source, run, names, isMixed || inBasicBelts));
     const seen = new Set(edges.flatMap((edge) => edge.run.map((it) => it.half.part)));
     if (!parts.every((it, number) => it.kind === "splitter" || seen.has(number))) throw new Untraced("a ring of belts has no splitter");
     return { edges, inputs, outputs, splitters };
   }
 
   /** An edge from here on: what it runs over, each cell with the part there. */
-  edge(source, run, names, isMixed) {
+  edge(source, run, names, inBasicBelts) {
     for (let last = run[run.length - 1]; !names.has(nameOf(last)); last = run[run.length - 1]) run.push(this.next.get(nameOf(last)));
-    const cap = isMixed ? Math.min(...run.map((it) => SPEED[this.parts[it.part].tier])) : 1;
+    const cap = inBasicBelts ? Math.min(...run.map((it) => SPEED[this.parts[it.part].tier])) : 1;
     return { source, target: names.get(nameOf(run[run.length - 1])), cap, run: run.map((it) => ({ cell: this.cell(it), half: it })) };
   }
 }

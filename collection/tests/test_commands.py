@@ -161,12 +161,18 @@ class Started(Case):
     def test_help_follows_words_that_are_no_command(self):
         all_of_it = "  check-same\n      reads two designs"
         of_one = "  decide PROPERTY [--learnt N] [--pivots N]\n      reads a design; writes"
-        for words in ([], ["help"], ["--help"], ["nothing"], ["help", "nothing"], ["help", "help"]):
+        for words in ([], ["nothing"]):
             status, out, wrong = self.start("beltproof", *words)
             self.assertEqual((status, out), (2, "usage\n"))
             self.assertIn(all_of_it, wrong)
             self.assertIn(of_one, wrong)
-        for words in (["help", "decide"], ["--help", "decide"], ["decide"], ["decide", "balanced", "--no"]):
+        for words in (["help"], ["--help"], ["help", "nothing"], ["help", "help"]):
+            status, out, wrong = self.start("beltproof", *words)
+            self.assertEqual((status, all_of_it in out, of_one in out, wrong), (0, True, True, ""))
+        for words in (["help", "decide"], ["--help", "decide"]):
+            status, out, wrong = self.start("beltproof", *words)
+            self.assertEqual((status, all_of_it in out, of_one in out, wrong), (0, False, True, ""))
+        for words in (["decide"], ["decide", "balanced", "--no"]):
             status, out, wrong = self.start("beltproof", *words)
             self.assertEqual((status, out, all_of_it in wrong, of_one in wrong), (2, "usage\n", False, True))
         for words in (["make"], ["make", "0x"]):
@@ -175,6 +181,15 @@ class Started(Case):
         for words in (["make", "2"], ["decide", "full"], ["recover"]):
             status, _, wrong = self.start("beltproof", *words, given=(EXAMPLES / "one-belt.net").read_bytes())
             self.assertEqual((status, wrong), (0, ""))
+
+    def test_the_version_and_the_range_of_a_grid_are_told(self):
+        status, out, _ = self.start("beltproof", "--version")
+        self.assertEqual(status, 0)
+        self.assertRegex(out, r"^beltproof [0-9]+\.[0-9.]+, sources [0-9a-f]{64}\n$")
+        self.assertIn(f"\n## {out.split()[1].rstrip(',')}\n", (TOP / "docs" / "CHANGES.md").read_text())
+        for grid, is_told in (("0x4", True), ("4x100000000", True), ("999x1", True), ("4x", False)):
+            status, out, wrong = self.start("beltproof", "layout", "--grid", grid)
+            self.assertEqual((status, out, f"and {grid} is not\n" in wrong), (2, "usage\n", is_told))
 
     def test_a_string_is_told_which_tool_takes_it(self):
         string, told = BOOK.read_text(), "bin/collection decides it"

@@ -177,7 +177,7 @@ class Programs(Case):
             line.done = int(now[0]) // 10
             line.draw()
         line.end()
-        lines = ["1 done, 3 to do, some 0:30 left", "2 done, 2 to do, some 0:20 left"]
+        lines = ["0:10: 1 done, 3 to do, some 0:30 left", "0:20: 2 done, 2 to do, some 0:20 left"]
         self.assertEqual(told.getvalue(), "".join(f"collection: {it}: a\\u001b[1m full\n" for it in lines))
 
     def test_a_plan_of_which_only_a_part_is_read(self):
@@ -215,7 +215,7 @@ class Mutated(Case):
                 data[at : at + size] = chance.choice((b"", *PIECES, bytes([chance.randrange(256)])))
             found = inputs.from_bytes(bytes(data), "book", "book")
             made = [report.guarded(Row(it), True, "", set()) for it in found]
-            self.assertFalse([it.row.trouble for it, _ in made if "can't be shown" in (it.row.trouble or "")], number)
+            self.assertFalse([it.row.trouble for it, *_ in made if "can't be shown" in (it.row.trouble or "")], number)
 
 
 class Found(Page):
@@ -237,7 +237,8 @@ class Found(Page):
         self.write("in/4 to 4.json", '{"blueprint_book":{"label":"Eight","blueprints":[%s]}}' % entry)
         run(self.folder / "in", "-o", self.report, "--program", self.fake())
         self.tags()
-        words = "[item=belt] one basic balanced:yes drawn-evenly:yes unlimited:yes full:yes"
+        words = "[item=belt] one basic balanced:yes drawn-evenly:yes unlimited:yes full:yes output-balanced:yes "
+        words += "input-balanced:yes equal-drain:yes tu:yes throughput-unlimited:yes"
         told = f'<tr data-words="{words}" data-around=" in/4 to 4.json, eight" data-ends="1-1" data-tiers="basic"'
         for text in (told, ">belt one<", "About &lt;b&gt;it&lt;/b&gt;", ' data-page="d-item-belt-one"'):
             self.assertIn(text, self.page())
@@ -249,7 +250,7 @@ class Found(Page):
             self.assertNotIn(f">{name}</th>", self.page())
         run(self.folder / "in", "-o", self.report, "--program", self.fake("small"), "--smaller")
         self.assertIn(">smaller</th>", self.page())
-        self.assertIn("1 → 1 cells", self.page())
+        self.assertIn("1 → 1", self.page())
 
     def test_rows_far_down_are_laid_out_later(self):
         self.write("book.json", json.dumps(many.book(90)))

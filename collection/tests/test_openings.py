@@ -1,10 +1,11 @@
 """Bare halves, labels, and what is left out of a design."""
 
+import json
 import re
 import subprocess
 
-from .. import cleaning, design, labels, openings, refusals, trace
-from . import Case, belt, blueprint, program_path, trimming
+from .. import cleaning, design, ends, labels, openings, refusals, trace
+from . import Case, belt, blueprint, program_path, test_ends, trimming
 
 WHOLE = {"balancer-16-to-16", "balancer-4-to-4", "balancer-8-to-8", "balancer-8-to-8-in-9x11", "loop-back-3-to-3"}
 WHOLE |= {"balancer-8-to-8-in-9x9", "loop-5-to-5", "loop-6-to-6", "loop-7-to-7"}
@@ -34,6 +35,16 @@ def unnamed(network):
 
 def splitter(x, y, direction=0, **more):
     return belt(x + (direction % 4 == 0) / 2, y + (direction % 4 == 2) / 2, direction, "splitter", **more)
+
+
+def text_of(parts):
+    """A blueprint of these parts."""
+    found, words = [], {"entrance": DOWN, "exit": UP}
+    for it in parts:
+        body = {"splitter": "splitter", "belt": "transport-belt"}.get(it.kind, UNDER)
+        x, y = (sum(cell[axis] for cell in it.cells) / len(it.cells) for axis in (0, 1))
+        found.append(belt(x, y, 2 * it.direction, design.PREFIXES[it.tier] + body, **words.get(it.kind, {})))
+    return blueprint(*found)
 
 
 class Labels(Case):
@@ -107,8 +118,8 @@ class Openings(Case):
                 self.assertEqual(len(it.opened), sum(ends) - 2)
                 self.assertEqual(it.text == self.TAP, not it.opened)
 
-    def test_without_an_end_all_is_opened_whatever_the_label(self):
-        for label in ("", "1 to 1", "2 to 2"):
+    def test_without_an_end_and_a_label_all_is_opened(self):
+        for label in ("", "2 to 2"):
             it = opened(blueprint(splitter(0, 0)), label)
             self.assertEqual((it.before, it.after, it.belts), ((0, 0), (2, 2), 4))
         self.assertEqual(opened(blueprint(splitter(0, 0), belt(0, 1)), "1 to 2").after, (1, 2))
@@ -169,6 +180,51 @@ class Openings(Case):
         it = openings.opened(opening, "always", "")
         self.assertEqual(it.opened, [("input", 1, 0)])
         self.assertEqual(it.unopened, [(("output", 1, 0), "with belts there the network would be another one")])
+
+    def test_ends_without_room_are_marked_in_the_network(self):
+        pole = {"name": "small-electric-pole", "position": {"x": 1.5, "y": -0.5}}
+        text = blueprint(splitter(0, 0, output_priority="right"), belt(0, 1), belt(0, -1), belt(2, -3))
+        for there, is_marked in (([], False), ([pole], True)):
+            opening = openings.Opening(text, design.bystanders(blueprint(*there, belt(9, 9))), recover)
+            it = openings.opened(opening, "label", "3 to 3")
+            self.assertEqual((it.ends, it.after, it.is_marked, it.unopened), (ends.ALL, (3, 3), is_marked, []))
+            self.assertEqual(it.text == text, is_marked)
+            self.assertEqual(it.answer.splitlines()[0], "net 3 3 1")
+            self.assertEqual([line[:8] for line in it.answer.splitlines() if line.startswith("give")], ["give s0 "])
+
+    def test_what_recover_says_is_held_against_marked_ends(self):
+        pole = {"name": "small-electric-pole", "position": {"x": 1.5, "y": -0.5}}
+        text = blueprint(splitter(0, 0), belt(0, 1), belt(0, -1), belt(2, -3))
+
+        def lying(asked):
+            return recover(asked).replace("edge i0 s0\n", "edge i0 s0 2\n") if asked.startswith("net") else recover(asked)
+
+        opening = openings.Opening(text, design.bystanders(blueprint(pole, belt(9, 9))), lying)
+        self.assertEqual(openings.opened(opening, "label", "3 to 3").ends, ends.NONE)
+
+    def test_a_pair_that_is_the_size_of_the_design_is_none(self):
+        text = blueprint(belt(0, 0), belt(0, 1), belt(1, 0), belt(1, 1), belt(2, 0), belt(2, 1))
+        self.assertEqual(opened(text, "lanes 3x2").ends, ends.WHOLE)
+        self.assertEqual(opened(text, "lanes 4x2").ends, ends.NONE)
+        self.assertEqual(opened(text, "lanes 3 to 2").ends, ends.NONE)
+
+    def test_where_nothing_is_decided_nothing_is_opened(self):
+        gap = blueprint(splitter(0, 0), splitter(0, -2))
+        for label in ("", "1 to 1"):
+            it = opened(gap, label)
+            self.assertEqual((it.ends, it.gaps, it.text), (ends.GAP, [(0, -1), (1, -1)], gap))
+        self.assertEqual(opened(gap, "4 to 4").ends, ends.ALL)
+        self.assertEqual((opened(gap, "", "always").gaps, opened(gap, "", "never").gaps), ([(0, -1), (1, -1)],) * 2)
+        self.assertEqual(opened(self.TAP, "7 to 9").ends, ends.NONE)
+
+    def test_several_choices_are_a_design_each(self):
+        case = next(it for it in test_ends.CASES if it["expected"]["status"] == ends.SEVERAL)
+        it = opened(text_of(test_ends.parts_of(case["parts"])), case["label"])
+        self.assertEqual((it.ends, it.opened, len(it.choices)), (ends.SEVERAL, [], len(case["expected"]["choices"])))
+        self.assertGreater(len(it.choices), 1)
+        self.assertEqual(len({str(unnamed(one.answer)) for one in it.choices}), len(it.choices))
+        self.assertIn(it.choices[0].after, labels.told(case["label"]))
+        self.assertEqual(len({one.after for one in it.choices}), 1)
 
     def test_ends_are_taken_out_of_a_network(self):
         net = "net 2 2 1,edge i0 s0,edge i1 s0,edge s0 o0,edge s0 o1 3,give s0 3,take s0 1,end".split(",")
@@ -246,6 +302,47 @@ class Cleaning(Case):
         self.assertEqual([(it.kind, it.tier) for it in found], [(kind, "express") for kind in names.values()])
         self.assertEqual(len(clean.notes), 1)
         self.assertEqual(cleaning.cleaned(text).text, text)
+
+    def test_links_to_what_is_left_out_go_too(self):
+        lamp = {"name": "small-lamp", "position": {"x": 9, "y": 9}}
+        reads = {"connections": {"1": {"red": [{"entity_id": 2}, {"entity_id": 3}], "green": [{"entity_id": 2}]}}}
+        only = {"connections": {"1": {"red": [{"entity_id": 2}]}}}
+        wires = [[1, 1, 2, 1], [1, 1, 3, 1], [2, 2, 3, 2]]
+        others = {"icons": [{"index": 1}], "description": "d", "snap-to-grid": {"x": 2, "y": 2}}
+        schedules = [{"locomotives": [2], "schedule": []}, {"locomotives": [2, 7]}, {"locomotives": [7]}]
+        more = {"wires": wires, "schedules": schedules, "stock_connections": [{"stock": 2}, {"stock": 7}], **others}
+        told = json.loads(cleaning.cleaned(blueprint(belt(0, 0, **reads), lamp, belt(0, -1, **only), **more)).text)["blueprint"]
+        self.assertEqual(told["wires"], [[1, 1, 3, 1]])
+        self.assertEqual(told["schedules"], [{"locomotives": [7]}, {"locomotives": [7]}])
+        self.assertEqual(told["stock_connections"], [{"stock": 7}])
+        self.assertEqual({name: told[name] for name in others}, others)
+        first, second = told["entities"]
+        self.assertEqual(first["connections"], {"1": {"red": [{"entity_id": 3}]}})
+        self.assertNotIn("connections", second)
+        odd = blueprint(belt(0, 0), lamp, wires=[["1", 1, 2.5, 1], 7], schedules={"x": 1})
+        self.assertEqual(json.loads(cleaning.cleaned(odd).text)["blueprint"]["wires"], [["1", 1, 2.5, 1], 7])
+
+    def test_loaders_at_the_ends_of_a_rig_are_ends(self):
+        def loader(x, y, direction, kind):
+            return {"name": "fast-loader", "position": {"x": x + 0.5, "y": y + 1}, "direction": direction, "type": kind}
+
+        chest = {"name": "infinity-chest", "position": {"x": 0.5, "y": 5.5}}
+        rig = [belt(0, 1), belt(0, 2), loader(0, 3, 0, "output"), chest, loader(0, -1, 0, "input")]
+        clean = cleaning.cleaned(blueprint(*rig))
+        self.assertEqual(recover(clean.text), "net 1 1 0\nedge i0 o0\nend\n")
+        self.assertIn("taken for ends, with the belts that they stand at: 2 × fast-loader", clean.notes)
+        for other in (loader(1, 1, 2, "output") | {"position": {"x": -1, "y": 1.5}}, loader(5, 5, 0, "input")):
+            self.assertNotIn("taken for ends", str(cleaning.cleaned(blueprint(*rig, other)).notes))
+        between = [belt(0, 1), loader(0, 2, 0, "input"), chest | {"position": {"x": 0.5, "y": 4.5}}]
+        between += [loader(0, 5, 0, "output"), belt(0, 7)]
+        self.assertNotIn("taken for ends", str(cleaning.cleaned(blueprint(*between)).notes))
+
+    def test_a_name_is_taken_for_nothing(self):
+        text = blueprint(belt(0, 0), {"name": "a-sign", "position": {"x": 5, "y": 5}})
+        clean = cleaning.cleaned(text, [cleaning.of_tier("a-sign=nothing")])
+        self.assertEqual(recover(clean.text), "net 1 1 0\nedge i0 o0\nend\n")
+        self.assertEqual(clean.notes, ["left out, since it can't touch a belt: 1 × a-sign"])
+        self.assertTrue(design.bystanders(text, [("a-sign", None)]))
 
     def test_wrong_names(self):
         cases = {

@@ -68,7 +68,7 @@ class Report(Page):
             ("Balancers/8 to 8", "unlimited"): "no",
             ("Balancers/16 to 16", "full"): None,
             ("Splitting and merging/1 to 3, chain", "balanced"): "no",
-            ("Broken on purpose/4 to 4, a belt is missing", "balanced"): "no",
+            ("Broken on purpose/4 to 4, a belt is missing", "balanced"): "halves",
             ("Broken on purpose/4 to 4, with a filter", "-"): "refused",
         }
         for place, verdict in expected.items():
@@ -133,14 +133,13 @@ class Published(Case):
         status, wrong, lines = self.told()
         self.assertEqual(status, 0)
         self.assertIn("collection: 4 to 4: opened by 2 belts: output at (0, 1)\n", wrong)
-        said = "its label says 1 to 4, but its network is 4 to 4, with belts at its bare halves: which of them are meant"
-        self.assertIn(f"collection: tree 1 to 4: {said} can't be known", wrong)
+        said = "3 bare halves stay shut: inputs at (0, 1), (3, 1), (2, 3)"
+        self.assertIn(f"collection: tree 1 to 4: {said}\n", wrong)
         tree, other = lines["tree 1 to 4"], lines["4 to 4"]
         self.assertEqual((other["ends"], other["opened"], other["bare"]), ("4 to 4", "output at (0, 1)", ""))
-        self.assertEqual((tree["ends"], tree["opened"].count("(")), ("4 to 4", 8))
+        self.assertEqual((tree["ends"], tree["opened"].count("(")), ("1 to 4", 5))
         self.assertIn(said, tree["remarks"])
         self.assertEqual(tree["known_as"], "throughput unlimited (TU)")
-        self.assertIn('class="warning"', self.page())
         self.assertIn('<path class="rim added basic"', self.page())
         self.assertIn("dashed rims: belts that were added", self.page())
         kept = self.kept("tree-1-to-4")
@@ -151,7 +150,7 @@ class Published(Case):
     def test_another_way_to_read_makes_it_anew(self):
         self.write("in/tree 1 to 4.json", self.tree)
         kept = self.kept("tree-1-to-4")
-        for words, ends in (([], "4 to 4"), (["--bare-ends", "never"], ""), (["--bare-ends", "always"], "4 to 4")):
+        for words, ends in (([], "1 to 4"), (["--bare-ends", "never"], ""), (["--bare-ends", "always"], "4 to 4")):
             status, _, lines = self.told(*words)
             self.assertEqual((status, lines["tree 1 to 4"]["ends"]), (0, ends))
             self.assertEqual((kept / "original.json").exists(), ends != "")
@@ -165,17 +164,18 @@ class Published(Case):
     def test_what_is_bare_is_named(self):
         self.write("in/tree.json", (EXAMPLES / "tree-1-to-4.json").read_text())
         _, wrong, lines = self.told()
-        self.assertEqual(wrong, "collection: tree: bare halves: inputs at (0, 1), (3, 1), (2, 3)\n")
+        self.assertEqual(wrong, "collection: tree: 3 bare halves stay shut: inputs at (0, 1), (3, 1), (2, 3)\n")
         self.assertEqual(lines["tree"]["bare"], "inputs at (0, 1), (3, 1), (2, 3)")
-        for text in ("Bare halves: inputs at (0, 1)", '<path class="hole"', "hollow: a half to which no belt leads"):
+        for text in ("3 bare halves stay shut: inputs at (0, 1)", '<path class="hole"', "hollow: a half to which no belt leads"):
             self.assertIn(text, self.page())
 
     def test_a_belt_that_was_forgotten_is_a_warning(self):
         name = "Broken on purpose/4 to 4, a belt is missing"
         status, _, wrong = run(BOOK, "-o", self.report, "--jobs", "2", "--learnt", "200")
         self.assertEqual(status, 0)
-        said = "its label says 4 to 4, but its network is 5 to 5: a belt may be missing, or be one too many"
-        self.assertEqual([it for it in wrong.splitlines() if "label" in it], [f"collection: {name}: {said}"])
+        said = "is a belt missing at tile (0, 3)? The way from one half to another breaks off there"
+        self.assertIn(f"collection: {name}: {said}; so nothing is decided", wrong)
+        self.assertEqual([it for it in wrong.splitlines() if "missing at tile" in it][1:], [])
 
     def test_which_splitters_want_a_belt(self):
         self.write("in/tree.json", self.tree)

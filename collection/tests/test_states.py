@@ -16,7 +16,7 @@ def shown(prop, load, room, flow, tiers=(), cap=1):
 class Shown(unittest.TestCase):
     def test_how_many_belts_come_through(self):
         told = shown("unlimited", "1 1", "1 1", "1 1/2 1 1/2", ("fast",))
-        self.assertEqual(told, "3/2 of 2 belts come through, 45 of 60 items a second: all inputs full; all outputs open.")
+        self.assertEqual(told, "1 1/2 of 2 belts come through, 45 of 60 items a second: all inputs full; all outputs open.")
         told = shown("unlimited", "1 0", "0 1", "1/3 0 0 1/3", ("turbo",))
         ends = "input i0 full, the others empty; output o0 blocked, the others open"
         self.assertEqual(told, f"1/3 of 1 belt comes through, 20 of 60 items a second: {ends}.")

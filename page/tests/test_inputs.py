@@ -12,7 +12,7 @@ from collection.tests import BOOK, belt, blueprint
 
 from . import EXAMPLES, needs_node, run_scripts
 
-NAMES = ["strings", "books", "design", "refusals", "inputs"]
+NAMES = ["strings", "words", "books", "design", "refusals", "inputs"]
 DRIVER = """
 const fs = require("fs");
 const asked = JSON.parse(fs.readFileSync(0, "utf8"));
@@ -25,7 +25,7 @@ const main = async () => {
     const designs = found.map((one) => ({ name: one.name, books: one.books.join("/"), place: one.place, text: one.bytes && Buffer.from(one.bytes).toString("base64"), trouble: one.trouble ?? null }));
     answers.push({ designs, seconds: (performance.now() - began) / 1000 });
   }
-  fs.writeSync(1, JSON.stringify(answers.length > 1 || answers[0].designs.length < 3000 ? answers : [{ seconds: answers[0].seconds, count: answers[0].designs.length }]));
+  fs.writeSync(1, JSON.stringify(answers.length > 1 || answers[0].designs.length < 2000 ? answers : [{ seconds: answers[0].seconds, count: answers[0].designs.length }]));
 };
 main();
 """
@@ -37,6 +37,22 @@ def book(*designs, label="outer"):
 
 def wrapped(string, width=60, start=""):
     return "\n".join(start + string[at : at + width] for at in range(0, len(string), width))
+
+
+def hostile():
+    """Labels, books and members as one would write them who wants a program to hang, in moderate sizes."""
+    long = "\u202f" + "[x" * 3000 + "😀"
+    inner = {"blueprint": {"label": long}}
+    for number in range(60):
+        inner = {"blueprint_book": {"label": f"{number} " + "a" * 1000, "blueprints": [inner]}}
+    yield json.dumps(inner)
+    yield json.dumps(book(*({"blueprint": {"label": f" {it} "}} for it in range(2100))))
+    yield json.dumps({"blueprint": {"label": long, "entities": []}})
+    yield '{"blueprint_book":{"blueprints":[' * 99 + '{"blueprint":{}}' + "]}}" * 99
+    yield '{"blueprint_book":{"blueprints":[' * 101 + '{"blueprint":{}}' + "]}}" * 101
+    yield "[" * 1_000_001
+    yield '{"blueprint":{"entities":[' + "," * 2_000_001
+    yield '{"blueprint":{"label":"' + "a" * (4 << 20) + '"}}'
 
 
 def given(texts):
@@ -90,6 +106,7 @@ class Inputs(unittest.TestCase):
             '{"blueprint":{"label":"alone"}}',
             '{"blueprint":',
             "[]",
+            *hostile(),
         ]
         for text, it in zip(texts, self.ask(*texts), strict=True):
             data = text if isinstance(text, bytes) else text.encode()
@@ -112,7 +129,7 @@ class Inputs(unittest.TestCase):
             "0" + "e" * 30: "damaged",
             deflate(b"{}")[:-12]: "damaged",
             deflate(b"[1]"): "no object of JSON",
-            bomb: "past 64 MB",
+            bomb: "past 32 MB",
         }
         began = time.monotonic()
         for (text, why), it in zip(cases.items(), self.ask(*cases), strict=True):
@@ -123,10 +140,10 @@ class Inputs(unittest.TestCase):
         self.assertEqual([it["designs"] for it in self.ask("", " \n ")], [[], []])
 
     def test_a_large_book_is_opened(self):
-        text = (EXAMPLES / "balancer-8-to-8.json").read_text()
+        text = (EXAMPLES / "splitter-2-to-2.json").read_text()
         whole = json.dumps(book(*([json.loads(text)] * 3000)))
         found = self.ask(deflate(whole.encode()))
-        self.assertEqual(found[0]["count"], 3000)
+        self.assertEqual(found[0]["count"], inputs.NUMBERS["most_designs"] + 1)
 
 
 if __name__ == "__main__":

@@ -127,14 +127,14 @@ class Sheet(unittest.TestCase):
         self.assertEqual(sheet.module_of(page), self.module)
         self.assertIn(self.module, sheet.unpacked(page))
         written = page.decode()
-        self.assertIsNone(re.search(r"\{(?:style|script|worker|policy|program)\}", written))
+        self.assertIsNone(re.search(r"\{(?:drawn|style|script|worker|policy|program)\}", written))
         self.assertEqual(len(re.findall(r"<script\b", written)), 3)
         self.assertIsNone(re.search(r"https?:", written))
         self.assertIsNone(re.search(r"<(?:link|img|script|iframe)[^>]*(?:src|href)=\"(?!data:,)", written))
 
     def test_the_policy_lets_nothing_in(self):
-        script, style = "a", "b"
-        rules = dict(it.split(" ", 1) for it in sheet.policy(script, style).split("; "))
+        rules = dict(it.split(" ", 1) for it in sheet.policy(["a", "b"], ["c"]).split("; "))
+        self.assertEqual(rules["script-src"], f"{sheet.hash_of('a')} {sheet.hash_of('b')} 'wasm-unsafe-eval'")
         self.assertEqual(rules["default-src"], "'none'")
         self.assertEqual(sorted(rules), ["base-uri", "default-src", "form-action", "img-src", "script-src", "style-src", "worker-src"])
         self.assertNotIn("unsafe-inline", "".join(rules.values()))

@@ -12,7 +12,7 @@ from collection.tests import belt, blueprint, program_path
 
 from . import EXAMPLES, needs_node, run_scripts
 
-NAMES = ["strings", "books", "design", "trace", "picture", "states", "refusals"]
+NAMES = ["strings", "words", "books", "design", "trace", "picture", "states", "refusals"]
 DRIVER = """
 const fs = require("fs");
 const asked = JSON.parse(fs.readFileSync(0, "utf8"));

@@ -8,11 +8,11 @@ import unittest
 from collection import cleaning, design, labels, openings
 from collection.books import entries
 from collection.strings import inflate
-from collection.tests import belt, blueprint, program_path
+from collection.tests import belt, blueprint, measured_ends, program_path, trimming
 
 from . import EXAMPLES, needs_node, run_scripts, sheet
 
-NAMES = ["strings", "books", "design", "trace", "states", "refusals", "entities", "cleaning", "labels", "openings"]
+NAMES = ["strings", "words", "books", "design", "trace", "states", "refusals", "entities", "links", "rigs", "cleaning", "labels", "ends", "openings"]
 DRIVER = """
 const fs = require("fs");
 const { spawnSync } = require("child_process");
@@ -24,15 +24,17 @@ const recover = async (bytes) => {
 };
 const written = (bytes) => Buffer.from(bytes).toString();
 const place = ({ kind, cell }) => [kind, ...cell];
+const toldOf = ({ bytes, answer, belts, opened, unopened, before, after, would, ends, gaps, isMarked, choices }) => {
+  const why = unopened.map((it) => [place(it.place), it.why]);
+  return { text: written(bytes), answer, belts, opened: opened.map(place), unopened: why, before, after, would, ends, gaps, marked: isMarked, choices: choices.map(toldOf) };
+};
 const answer = async ({ text, mode, label }) => {
   const bytes = new TextEncoder().encode(text);
   const clean = cleaned(bytes);
   try {
     const opening = await Opening.of(clean.bytes, bystandersOf(bytes), recover);
     const found = await openedBy(opening, mode, label);
-    const unopened = found.unopened.map((it) => [place(it.place), it.why]);
-    const { answer, belts, before, after, would } = found;
-    return { notes: clean.notes, text: written(found.bytes), answer, belts, opened: found.opened.map(place), unopened, before, after, would };
+    return { notes: clean.notes, ...toldOf(found) };
   } catch (fault) {
     if (!(fault instanceof Refused)) throw fault;
     return { notes: clean.notes, text: written(clean.bytes), refused: fault.message };
@@ -98,10 +100,28 @@ def cases():
         yield with_more(trimmed(text), POLE, {"name": "radar", "position": {"x": 3.5, "y": -2.5}}), "always", ""
         yield without_one(text, 0), "always", ""
         yield without_one(text, -1), "label", "4-4"
+    for _, text in trimming.designs():
+        network = trimming.traced(text)[1]
+        pair = f"{len(network.inputs)} to {len(network.outputs)}"
+        yield trimming.trimmed(text), "label", pair
+        yield trimming.trimmed(text), "label", "1 to 1 or 2 to 3"
+        yield from ((missing, "label", pair) for missing in measured_ends.with_one_forgotten(text, 1))
     reading = belt(9, 9, control_behavior={"circuit_read_hand_contents": True, "circuit_enabled": False, "circuit_condition": {}})
     stopping = belt(9, 9, control_behavior={"circuit_enabled": True})
     two = blueprint({"name": "splitter", "position": {"x": 3, "y": 5.5}}, {"name": "fast-splitter", "position": {"x": 3, "y": 2.5}, "direction": 2}, version=2 << 48)
     turned = blueprint({"name": "splitter", "position": {"x": 3.5, "y": 5}, "direction": 4}, {"name": "splitter", "position": {"x": 6, "y": 5.5}, "direction": 0}, version=2 << 48)
+    pole = {"name": "small-electric-pole", "position": {"x": 4.5, "y": 0.5}}
+    wired = belt(0, 1, connections={"1": {"red": [{"entity_id": 3}, {"entity_id": 1, "circuit_id": 1}]}, "2": {"green": [{"entity_id": 3}]}})
+    only = belt(0, 2, connections={"1": {"red": [{"entity_id": 3}]}})
+    linked = {"wires": [[1, 1, 3, 1], [1, 1, 2, 1], "é"], "schedules": [{"locomotives": [3, 1], "name": "é"}, {"locomotives": [3]}, 5]}
+    linked |= {"stock_connections": [{"stock": 3, "front": 1}, {"stock": 1}], "description": "é", "snap-to-grid": {"x": 2, "y": 1}}
+    yield blueprint(belt(0, 0), wired, pole, only, **linked), "label", ""
+    yield blueprint(belt(0, 0), wired, only, **linked), "label", ""
+    for y, kind, turn in ((2, "output", 0), (2, "input", 0), (-1, "input", 0), (2, "output", 4), (2, "output", 2)):
+        loader = {"name": "loader", "position": {"x": 0.5, "y": y}, "direction": turn, "type": kind}
+        chest = {"name": "steel-chest", "position": {"x": 0.5, "y": y + 1.5}}
+        yield blueprint(belt(0, 0), loader), "label", ""
+        yield blueprint(belt(0, 0), loader, chest, {"name": "loader", "position": {"x": 0.5, "y": y + 3}, "direction": turn, "type": "input"}), "label", ""
     for text in (blueprint(reading), blueprint(stopping), two, turned, with_more(two, POLE), "{", "{}", blueprint(), '{"blueprint":{"entities":[1]}}', blueprint(POLE)):
         yield text, "always", ""
         yield text, "never", "2 to 2"
@@ -116,7 +136,13 @@ def read_by_report(text, mode, label, recover):
         found = openings.opened(opening, mode, label)
     except openings.Refused as refusal:
         return told | {"text": clean.text, "refused": str(refusal)}
-    return told | {name: getattr(found, name) for name in "text answer belts opened unopened before after would".split()}
+    return told | told_of(found)
+
+
+def told_of(found):
+    """What is told of how bare halves were opened, of each choice too."""
+    told = {name: getattr(found, name) for name in "text answer belts opened unopened before after would ends gaps".split()}
+    return told | {"marked": found.is_marked, "choices": [told_of(it) for it in found.choices]}
 
 
 def recover(text):
@@ -140,6 +166,7 @@ class Readings(unittest.TestCase):
             with self.subTest(text=it["text"][:80], mode=it["mode"]):
                 self.assertEqual(ours, theirs)
         self.assertGreater(opened, 10)
+        self.assertLessEqual({"whole", "all", "one", "none", "gap"}, {it.get("ends") for it in told["answers"]})
         self.assertEqual(told["pairs"], [[list(pair) for pair in labels.told(it)] for it in SPELLINGS])
         self.assertEqual(told["spelled"], [labels.spelled(labels.told(it)) for it in SPELLINGS])
 
