@@ -110,7 +110,8 @@ for name, size in SIZES.items():
     # One lemma of the whole length lies in memory with all its terms.
     goal = "" if name == "ring" else " (at most 3)"
     print(
-        f"{name}: {length / 1e6:.0f} MB in {time:.2f} s, plain Rust {plain:.2f} s: {time / plain:.2f} times (at most 1.5); "
+        f"{name}: {length / 1e6:.0f} MB in {time:.2f} s, plain Rust {plain:.2f} s: {time / plain:.2f} "
+        "times (at most 1.5); "
         f"twice the length {double / time:.2f} times (at most 2.2); memory {memory / length:.2f} times the text{goal}"
     )
 PYTHON

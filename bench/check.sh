@@ -14,12 +14,14 @@ import os, subprocess, sys
 program, bench, examples, folder = sys.argv[1:]
 SIZE = 100_000_000
 ORDER = 7
-# The clauses of the flow formula of examples/chain-1-to-3.net and `unlimited`: a certificate numbers its steps after them.
+# The clauses of the flow formula of examples/chain-1-to-3.net and `unlimited`: a certificate numbers its steps after
+# them.
 CLAUSES = 38
 
 
 def repeated(certificate, size):
-    """A certificate of about so many bytes: the steps of this one again and again, but the empty clause at the end alone."""
+    """A certificate of about so many bytes: the steps of this one again and again, but the empty clause at the end
+    alone."""
     verdict, *steps, last, end = certificate.splitlines()
     text, count, length = [verdict], 0, 0
     while True:
@@ -52,7 +54,9 @@ def butterflies():
             return ("s", first + stage * half + (low | wire >> stage + 1 << stage))
 
         for wire in range(ends):
-            course = [("i", copy * ends + wire), *(splitter(stage, wire) for stage in range(ORDER)), ("o", copy * ends + wire)]
+            course = [
+                ("i", copy * ends + wire), *(splitter(stage, wire) for stage in range(ORDER)), ("o", copy * ends + wire)
+            ]
             edges += zip(course, course[1:])
     order = {"i": 0, "s": 1, "o": 2}
     return 2 * ends, 2 * ends, 2 * ORDER * half, sorted(edges, key=lambda e: [(order[end[0]], end[1]) for end in e])
@@ -99,12 +103,16 @@ certificate = open(os.path.join(examples, "chain-1-to-3.yes-unlimited")).read()
 long = repeated(certificate, SIZE)
 whole, answer = run([program, "check", "unlimited"], write("whole", network + long), 5)
 alone, word = run([bench, "check", network], write("alone", long.split("\n", 1)[1]), 5)
-print(f"100 MB: {answer}, {word}: {whole:.2f} s, the checker alone {alone:.2f} s: {whole / alone:.2f} times (at most 1.3)")
+print(
+    f"100 MB: {answer}, {word}: {whole:.2f} s, the checker alone {alone:.2f} s: {whole / alone:.2f} times (at most 1.3)"
+)
 
 for name, (inputs, outputs, splitters, edges) in {"belts": belts(), "butterflies": butterflies()}.items():
     text = network_text(inputs, outputs, splitters, edges)
     short, answer = run([program, "check", "unlimited"], write(name, text + "yes unlimited\nr 0 1 0\nend\n"), 20)
-    judged, other = run([program, "flow-check", "unlimited"], write(name + "-state", text + state_text(inputs, outputs, len(edges))), 20)
+    judged, other = run(
+        [program, "flow-check", "unlimited"], write(name + "-state", text + state_text(inputs, outputs, len(edges))), 20
+    )
     print(
         f"{name}: {len(edges)} edges, {answer}: {short * 1e3:.1f} ms, "
         f"flow-check ({other}) {judged * 1e3:.1f} ms: {short / judged:.2f} times (at most 3)"

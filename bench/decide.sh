@@ -1,8 +1,9 @@
 #!/usr/bin/env bash
 # Times `beltproof decide` as a whole program against z3 on the same question, which is written here as SMT-LIB, on the
-# networks that collections are about, which it makes itself (networks.py), and prints for each property the verdict, the
-# steps of its log, whether `check` accepts it, both times, their ratio and the program's memory. The seconds are those of
-# the processor, the least of several runs that take turns; what takes less than a tenth of a second counts as one.
+# networks that collections are about, which it makes itself (networks.py), and prints for each property the verdict,
+# the steps of its log, whether `check` accepts it, both times, their ratio and the program's memory. The seconds are
+# those of the processor, the least of several runs that take turns; what takes less than a tenth of a second counts as
+# one.
 #
 #     bench/decide.sh [NAME ...]
 #
@@ -36,7 +37,8 @@ def network(text):
 
 
 def formula(counts, edges, wanted):
-    """The states that break the property, as SMT-LIB: flows, loads, rooms and marks under the laws of a steady state."""
+    """The states that break the property, as SMT-LIB: flows, loads, rooms and marks under the laws of a steady
+    state."""
     inputs, outputs, splitters = counts
     out = ["(set-logic QF_LRA)"]
     f, m = [f"f{e}" for e in range(len(edges))], [f"m{e}" for e in range(len(edges))]
@@ -71,7 +73,9 @@ def formula(counts, edges, wanted):
     if wanted in ("drawn-evenly", "full"):
         out += [f"(assert (>= {c[i]} {edges[first['i', i]][2]}))" for i in range(inputs)]
     if wanted in ("balanced", "drawn-evenly"):
-        flows = [f[last["o", o]] for o in range(outputs)] if wanted == "balanced" else [f[first["i", i]] for i in range(inputs)]
+        flows = [f[last["o", o]] for o in range(outputs)] if wanted == "balanced" else [
+            f[first["i", i]] for i in range(inputs)
+        ]
         said(f"(or false {' '.join(f'(distinct {flows[0]} {it})' for it in flows[1:])})")
     else:
         carried = total([f[last["o", o]] for o in range(outputs)])
@@ -143,7 +147,9 @@ for name, text in texts.items():
     for wanted in PROPERTIES:
         question = write("formula", formula(*network(text), wanted))
         ours, theirs = race(
-            ([program, "decide", wanted], write("network", text), SECONDS), (["z3", "-smt2", "/dev/stdin"], question, Z3_SECONDS)
+            ([program, "decide", wanted], write("network", text), SECONDS), (
+                ["z3", "-smt2", "/dev/stdin"], question, Z3_SECONDS
+            )
         )
         answer = ours[2]
         if answer is None:

@@ -31,5 +31,8 @@ for words in (["add-small", "1000"], ["add-wide", "1000"]):
             best[program] = time if best[program] is None else min(best[program], time)
     if len(texts) != 1:
         sys.exit(f"{words[0]}: the sums differ")
-    print(f"{words[0]}: a million additions in {best[ours]:.3f} s, plain Rust {best[theirs]:.3f} s: {best[ours] / best[theirs]:.2f} times (at most 1.5)")
+    print(
+        f"{words[0]}: a million additions in {best[ours]:.3f} s, plain Rust {best[theirs]:.3f} s: "
+        f"{best[ours] / best[theirs]:.2f} times (at most 1.5)"
+    )
 PYTHON

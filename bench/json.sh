@@ -87,7 +87,10 @@ print(f"bt_json::read alone {ours[0]:.3f} s, with the tree let go {ours[1]:.3f} 
 for module, times in theirs.items():
     best = [min(column) for column in zip(*times)]
     limit = " (at most 1)" if module == "json" else ""
-    print(f"{module}.loads alone {best[0]:.3f} s: {ours[0] / best[0]:.2f} times{limit}; with the value let go {best[1]:.3f} s: {ours[1] / best[1]:.2f} times")
+    print(
+        f"{module}.loads alone {best[0]:.3f} s: {ours[0] / best[0]:.2f} times{limit}; with the value let "
+        f"go {best[1]:.3f} s: {ours[1] / best[1]:.2f} times"
+    )
 print(f"peak memory {peak / 2**20:.0f} MiB: {peak / size:.1f} times the text (at most 30)")
 worst = 0
 for name, parts in TEXTS.items():

@@ -6,9 +6,9 @@
 #
 #     bench/layout.sh [NAME ...]
 #
-# measures the requests whose names begin so, by default all, each under three numberings of its network, of which solvers
-# get the first. It takes those of cadical, minisat and cryptominisat5 that
-# it finds (`apt-get install minisat cryptominisat`).
+# measures the requests whose names begin so, by default all, each under three numberings of its network, of which
+# solvers get the first. It takes those of cadical, minisat and cryptominisat5 that it finds (`apt-get install minisat
+# cryptominisat`).
 set -euo pipefail
 bench=$(cd "$(dirname "${BASH_SOURCE[0]}")" && pwd)
 top=$(dirname "$bench")
@@ -23,7 +23,11 @@ import networks
 
 program, examples, work, *wanted_names = sys.argv[1:]
 SECONDS, SOLVER_SECONDS, LEAST, NUMBERINGS = 300, 60, 0.01, 3
-SOLVERS = [words for words in (["cadical", "-q"], ["minisat", "-verb=0"], ["cryptominisat5", "--verb", "0"]) if shutil.which(words[0])]
+SOLVERS = [
+    words
+    for words in (["cadical", "-q"], ["minisat", "-verb=0"], ["cryptominisat5", "--verb", "0"])
+    if shutil.which(words[0])
+]
 # A request, its grids, and what is wanted there: an answer, the most seconds, and the most as times of cadical.
 CASES = [
     ("balancer-4-to-4", ["4x6", "5x8"], "found", 0.05, None),
@@ -61,14 +65,19 @@ def staged(ends, stages):
     """As many inputs as outputs, two at each of the first and of the last splitters, and the edges between."""
     splitters = [int(number) for number in re.findall("s([0-9]+)", stages)]
     last = max(splitters) + 1 - ends // 2
-    edges = [f"i{i} s{i // 2}" for i in range(ends)] + stages.split(",") + [f"s{last + o // 2} o{o}" for o in range(ends)]
+    edges = [f"i{i} s{i // 2}" for i in range(ends)] + stages.split(",") + [
+        f"s{last + o // 2} o{o}" for o in range(ends)
+    ]
     return "\n".join([f"net {ends} {ends} {max(splitters) + 1}", *(f"edge {edge}" for edge in edges), "end"]) + "\n"
 
 
 def balancer():
     """The balancer of the examples, for loops: its edges as networks.py has them."""
     text = (Path(examples) / "balancer-8-to-8.net").read_text()
-    ends = [tuple((end[0], int(end[1:])) for end in line.split()[1:3]) for line in text.splitlines() if line.startswith("edge")]
+    ends = [
+        tuple((end[0], int(end[1:])) for end in line.split()[1:3])
+        for line in text.splitlines() if line.startswith("edge")
+    ]
     return networks.Network(8, 8, 12, ends)
 
 
@@ -109,7 +118,8 @@ MADE = {
 
 
 def run(words, text, rounds, limit):
-    """The least processor seconds of some runs and the most memory in MB, what was printed, or None where it takes too long."""
+    """The least processor seconds of some runs and the most memory in MB, what was printed, or None where it takes too
+    long."""
     path = Path(work) / "input"
     path.write_text(text)
     best, most, printed = None, 0, ""
@@ -146,7 +156,9 @@ for name, grids, wanted, most_seconds, most_times in CASES:
         ours, memory, printed = run([program, "layout", "--grid", grid], text, 3, SECONDS)
         first = printed.split("\n", 1)[0]
         steps = sum(line.startswith("r ") for line in printed.splitlines())
-        answer = "no answer" if ours is None else "found" if first.startswith("{") else f"{first.split()[0]}, {steps} steps"
+        answer = "no answer" if ours is None else "found" if first.startswith(
+            "{"
+        ) else f"{first.split()[0]}, {steps} steps"
         rivals = []
         formula = run([program, "formula", "--grid", grid], text, 1, SECONDS)[2] if numbering == 0 else ""
         for words in SOLVERS:
@@ -158,6 +170,12 @@ for name, grids, wanted, most_seconds, most_times in CASES:
                 sys.exit(f"{name} in {grid}: {words[0]} says otherwise")
             times = "" if None in (ours, seconds) else f"{max(ours, LEAST) / max(seconds, LEAST):.2f}"
             rivals.append(f"{told(seconds, SOLVER_SECONDS)} | {times} | ")
-        goal = [wanted] + [f"{most_seconds} s"] * (most_seconds is not None) + [f"{most_times} times cadical"] * (most_times is not None)
-        print(f"| {name} | {grid} | {answer} | {told(ours, SECONDS)} | {memory:.0f} | {''.join(rivals)}{', '.join(goal)} |", flush=True)
+        goal = [wanted] + [f"{most_seconds} s"] * (most_seconds is not None) + [f"{most_times} times cadical"] * (
+            most_times is not None
+        )
+        print(
+            f"| {name} | {grid} | {answer} | {told(ours, SECONDS)} | {memory:.0f} | "
+            f"{''.join(rivals)}{', '.join(goal)} |",
+            flush=True,
+        )
 PYTHON

@@ -1,15 +1,16 @@
 #!/usr/bin/env bash
-# Times the search of bt_sat, for each literal that it propagates, against minisat's on the same formulas, and prints the
-# ratios: on random clauses of three literals, on a pigeonhole formula, and on placement formulas (`beltproof formula`). Then
-# it times chains of implications, where twice as many should take twice as long, and tells the memory of the clauses.
+# Times the search of bt_sat, for each literal that it propagates, against minisat's on the same formulas, and prints
+# the ratios: on random clauses of three literals, on a pigeonhole formula, and on placement formulas (`beltproof
+# formula`). Then it times chains of implications, where twice as many should take twice as long, and tells the memory
+# of the clauses.
 #
-# The seconds are those of the processor, the least of many runs that take turns, less those of the same formula with two
-# units at its end that contradict each other, so reading and loading count on neither side; minisat simplifies nothing
-# before (`-no-pre`). A literal counts where the clauses are visited that watch it, choices too: that is what minisat
-# prints as `propagations`. bt_sat counts nothing, so bench/learning.rs (compiled by `rustc -O`) follows its search by its
-# log. What is propagated before a choice is the same in every order of visits; what is propagated before a conflict
-# isn't, and is counted in that program's order. The last column takes none of these for granted: there bt_sat's literals
-# are only those before choices, while minisat's are all of its own.
+# The seconds are those of the processor, the least of many runs that take turns, less those of the same formula with
+# two units at its end that contradict each other, so reading and loading count on neither side; minisat simplifies
+# nothing before (`-no-pre`). A literal counts where the clauses are visited that watch it, choices too: that is what
+# minisat prints as `propagations`. bt_sat counts nothing, so bench/learning.rs (compiled by `rustc -O`) follows its
+# search by its log. What is propagated before a choice is the same in every order of visits; what is propagated before
+# a conflict isn't, and is counted in that program's order. The last column takes none of these for granted: there
+# bt_sat's literals are only those before choices, while minisat's are all of its own.
 #
 # It needs minisat (`apt-get install minisat`).
 set -euo pipefail
@@ -28,7 +29,8 @@ PIGEONS = 8
 PLACED = [("balancer-4-to-4", "5x5"), ("balancer-4-to-4", "5x8")]
 CHAIN = 1_000_000
 CLAUSES = 500_000
-# Runs a program, and prints the most memory that it took. A process of its own: one that is large hands its own peak on.
+# Runs a program, and prints the most memory that it took. A process of its own: one that is large hands its own peak
+# on.
 PEAK = """
 import os, subprocess, sys
 child = subprocess.Popen(sys.argv[1:], stdout=subprocess.DEVNULL)
@@ -45,7 +47,10 @@ def random_formula(seed):
     """Clauses of three literals of different variables."""
     chance = random.Random(seed)
     places = range(1, VARIABLES + 1)
-    clauses = [[chance.choice((1, -1)) * variable for variable in chance.sample(places, 3)] for _ in range(int(RATIO * VARIABLES))]
+    clauses = [
+        [chance.choice((1, -1)) * variable for variable in chance.sample(places, 3)]
+        for _ in range(int(RATIO * VARIABLES))
+    ]
     return dimacs(VARIABLES, clauses)
 
 
@@ -73,7 +78,9 @@ def chain(length):
 def wide(length, size):
     """So many clauses of so many literals."""
     chance = random.Random(size)
-    return dimacs(20_000, [[chance.choice((1, -1)) * chance.randrange(1, 20_001) for _ in range(size)] for _ in range(length)])
+    return dimacs(
+        20_000, [[chance.choice((1, -1)) * chance.randrange(1, 20_001) for _ in range(size)] for _ in range(length)]
+    )
 
 
 def contradicted(formula):
@@ -122,7 +129,9 @@ def literals(path, log, steps):
     """How many literals bt_sat propagates: before choices, and before conflicts."""
     with open(log, "w") as file, open(path) as formula:
         subprocess.run([program, "log", "1"], check=True, stdin=formula, stdout=file)
-    printed = subprocess.run([os.path.join(folder, "learning"), path, log], check=True, capture_output=True, text=True).stdout
+    printed = subprocess.run(
+        [os.path.join(folder, "learning"), path, log], check=True, capture_output=True, text=True
+    ).stdout
     fixed, before_conflicts, conflicts, _ = map(int, printed.split())
     if conflicts != steps:
         sys.exit(f"{path}: {conflicts} conflicts, but {steps} steps")
@@ -144,7 +153,8 @@ def compare(title, formulas):
         propagations += int(re.search(r"propagations\s*: (\d+)", said).group(1))
     each, rival = ours / (fixed + before_conflicts), theirs / propagations
     print(
-        f"| {title} | {steps} | {fixed} | {before_conflicts} | {ours:.3f} s | {each * 1e9:.0f} | {propagations} | {theirs:.3f} s | {rival * 1e9:.0f} "
+        f"| {title} | {steps} | {fixed} | {before_conflicts} | {ours:.3f} s | {each * 1e9:.0f} | "
+        f"{propagations} | {theirs:.3f} s | {rival * 1e9:.0f} "
         f"| {each / rival:.2f} | {ours / fixed / rival:.2f} |"
     )
 
@@ -157,7 +167,10 @@ def memory(formula):
 
 
 print("Time for each propagated literal: the goal is at most 3 times minisat's.")
-print("| formula | steps | literals before choices | before conflicts | seconds | ns each | minisat's literals | seconds | ns each | times | at most |")
+print(
+    "| formula | steps | literals before choices | before conflicts | seconds | ns each | minisat's "
+    "literals | seconds | ns each | times | at most |"
+)
 print("|---|---|---|---|---|---|---|---|---|---|---|")
 compare(f"{FORMULAS} random, {VARIABLES} variables", [random_formula(seed) for seed in range(FORMULAS)])
 compare(f"{PIGEONS} pigeons, {PIGEONS - 1} holes", [pigeonhole(PIGEONS)])
@@ -171,13 +184,17 @@ for length in (CHAIN, 2 * CHAIN):
     if printed.split() != ["model", "0"]:
         sys.exit(f"a chain: {printed}")
     times.append(seconds)
-print(f"a chain of {CHAIN} implications: {times[0]:.3f} s (at most 1), of twice as many {times[1]:.3f} s: {times[1] / times[0]:.2f} times")
+print(
+    f"a chain of {CHAIN} implications: {times[0]:.3f} s (at most 1), of twice as many {times[1]:.3f} s: "
+    f"{times[1] / times[0]:.2f} times"
+)
 
 three, twice, six = memory(wide(CLAUSES, 3)), memory(wide(2 * CLAUSES, 3)), memory(wide(CLAUSES, 6))
 literal = (six - three) / CLAUSES / 3
 clause = (twice - three) / CLAUSES - 3 * literal
 print(
-    f"memory, peak less that of reading the formula alone: {literal:.1f} bytes a literal (at most 8), from {CLAUSES} clauses of 3 and of 6; "
+    f"memory, peak less that of reading the formula alone: {literal:.1f} bytes a literal (at most 8), "
+    f"from {CLAUSES} clauses of 3 and of 6; "
     f"{clause:.1f} bytes a clause with its watches (at most 40), from twice as many of 3"
 )
 PYTHON

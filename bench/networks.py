@@ -70,7 +70,8 @@ def exchanged(network, seed):
 
 
 def scattered(splitters, ends, seed):
-    """A random network with loops: so many splitters and inputs and outputs, each splitter with two in and two out edges."""
+    """A random network with loops: so many splitters and inputs and outputs, each splitter with two in and two out
+    edges."""
     chance = random.Random(seed)
     starts = [("i", i) for i in range(ends)] + [("s", s) for s in range(splitters)] * 2
     targets = [("o", o) for o in range(ends)] + [("s", s) for s in range(splitters)] * 2
@@ -91,9 +92,12 @@ def renumbered(text, seed):
     for order in numbers.values():
         chance.shuffle(order)
     named = lambda end: f"{end[0]}{numbers[end[0]][int(end[1:])]}"
-    edges = [" ".join([word, named(start), named(target), *rest]) for word, start, target, *rest in (line.split() for line in lines if line.startswith("edge"))]
+    words = [line.split() for line in lines if line.startswith("edge")]
+    edges = [" ".join([word, named(start), named(target), *rest]) for word, start, target, *rest in words]
     placed = [line.split() for line in lines if line.startswith(("pin", "side"))]
-    demands = [" ".join([word, end if end in ("inputs", "outputs") else named(end), *rest]) for word, end, *rest in placed]
+    demands = [
+        " ".join([word, end if end in ("inputs", "outputs") else named(end), *rest]) for word, end, *rest in placed
+    ]
     chance.shuffle(edges)
     return "\n".join([head, *edges, *demands, *(line for line in lines if line.startswith("block")), "end"]) + "\n"
 

@@ -1,6 +1,6 @@
 #!/usr/bin/env bash
-# Times checks of bt_simplex's tableau over the rows of the flow formula of examples/balancer-8-to-8.net, of which four are
-# bound or let go before each check, against plain Rust that makes the same turns (bench/pivots.rs, compiled by
+# Times checks of bt_simplex's tableau over the rows of the flow formula of examples/balancer-8-to-8.net, of which four
+# are bound or let go before each check, against plain Rust that makes the same turns (bench/pivots.rs, compiled by
 # `rustc -O`), and prints the ratio. Both print how many checks find values, and the script compares it.
 set -euo pipefail
 top=$(cd "$(dirname "${BASH_SOURCE[0]}")/.." && pwd)

@@ -48,7 +48,9 @@ def field(count):
 
 
 def blueprint(entities, **more):
-    return json.dumps({"blueprint": {"item": "blueprint", "entities": entities, **more, "version": 281479271677952}}).encode()
+    return json.dumps(
+        {"blueprint": {"item": "blueprint", "entities": entities, **more, "version": 281479271677952}}
+    ).encode()
 
 
 def padded(entities, size):
@@ -94,5 +96,8 @@ for _ in range(3):
     json.loads(text)
     spent = time.process_time() - begin
     theirs = spent if theirs is None else min(theirs, spent)
-print(f"{len(text) / 2**20:.1f} MiB: beltproof {ours:.3f} s, json.loads {theirs:.3f} s: {ours / theirs:.2f} times (at most 1)")
+print(
+    f"{len(text) / 2**20:.1f} MiB: beltproof {ours:.3f} s, json.loads {theirs:.3f} s: {ours / theirs:.2f} "
+    "times (at most 1)"
+)
 PYTHON

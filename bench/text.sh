@@ -1,7 +1,7 @@
 #!/usr/bin/env bash
-# Times the writing of the text of a blueprint of 4096 parts through the proved crate, against Python's json.dumps of the
-# same object without blanks, and prints the ratio of the processor seconds of one text, the least of five runs. Both texts
-# are the same, and the script compares them.
+# Times the writing of the text of a blueprint of 4096 parts through the proved crate, against Python's json.dumps of
+# the same object without blanks, and prints the ratio of the processor seconds of one text, the least of five runs.
+# Both texts are the same, and the script compares them.
 set -euo pipefail
 top=$(cd "$(dirname "${BASH_SOURCE[0]}")/.." && pwd)
 folder=$(mktemp -d)
@@ -17,7 +17,8 @@ TIERS = ["", "fast-", "express-", "turbo-"]
 
 
 def entity(number):
-    """A part of each kind, tier and direction in turn, in a field of 64 columns that begins west and north of the origin."""
+    """A part of each kind, tier and direction in turn, in a field of 64 columns that begins west and north of the
+    origin."""
     tier, direction, kind = number % 4, number // 4 % 4 * 2, number // 16 % 4
     x, y = 3 * (number % 64) - 90, 3 * (number // 64) - 90
     stem = ["transport-belt", "underground-belt", "underground-belt", "splitter"][kind]
@@ -55,7 +56,9 @@ def dumped(value, rounds):
     return best, text
 
 
-blueprint = {"blueprint": {"item": "blueprint", "entities": [entity(number) for number in range(PARTS)], "version": 281479271677952}}
+blueprint = {"blueprint": {
+    "item": "blueprint", "entities": [entity(number) for number in range(PARTS)], "version": 281479271677952
+}}
 path = os.path.join(folder, "blueprint")
 with open(path, "w") as out:
     json.dump(blueprint, out)
@@ -65,5 +68,8 @@ theirs, same = dumped(json.loads(text), ROUNDS // 10)
 theirs /= ROUNDS // 10
 if text.rstrip("\n") != same or json.loads(text) != blueprint:
     sys.exit("the texts differ")
-print(f"{PARTS} parts, {len(text)} bytes: {ours * 1e3:.3f} ms, json.dumps {theirs * 1e3:.3f} ms: {ours / theirs:.2f} times (at most 1)")
+print(
+    f"{PARTS} parts, {len(text)} bytes: {ours * 1e3:.3f} ms, json.dumps {theirs * 1e3:.3f} ms: "
+    f"{ours / theirs:.2f} times (at most 1)"
+)
 PYTHON

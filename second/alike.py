@@ -72,7 +72,7 @@ class Alike:
             self.told[f"layout {status}"] += 1
             if status == FOUND:
                 request = opinion.read_request(text, width, height)
-                parts = opinion.parts_of(opinion.json_value(written, 0)[0], False)
+                parts = opinion.parts_of(opinion.json_value(written, 0)[0], True)
                 if not opinion.lays(*request, width, height, 0, parts):
                     self.fail(f"a layout in {width}x{height} of another request", text)
                 return f"{width}x{height}"
@@ -95,7 +95,7 @@ class Alike:
     def compare(self, chance, net, pins, namings):
         """One request under so many more names."""
         named = [(net, pins), *(named_anew(chance, net, pins) for _ in range(namings))]
-        texts = [request_text(*names, []) for names in named]
+        texts = [request_text(*names, [], []) for names in named]
         answers = [self.least(text) for text in (texts if pins else texts[:1])]
         answers += [] if pins else [self.smallest(text) for text in texts]
         said = {answer for answer in answers if answer}

@@ -18,7 +18,8 @@ README.md and docs/REFUSALS.md. What it does stands in the folder opinion/, by s
 
 This reads priorities: behind the edges of a network text, `give sN E` and `take sN E` say that
 edge E out of, or into, splitter N comes first; in a blueprint a splitter's preferred sides do.
-Requests for layouts have neither. All numbers are exact; where a sum or a product leaves 128
+Requests for layouts may have them too, and in a blueprint that lays one the same edges come first.
+All numbers are exact; where a sum or a product leaves 128
 bits, this says so, as the program does."""
 
 import sys

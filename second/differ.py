@@ -263,7 +263,8 @@ WORDS = {
     b'"position"': (
         b'"filter":null,"position"', b'"control_behavior":{},"position"', b'"Position"', b'"pos\\u0069tion"',
         b'"input_priority":"none","position"', b'"output_priority":"up","position"', b'"x":[[[]]],"position"',
-        b'"output_priority":"left","position"', b'"input_priority":"right","position"', b'"name":1,"position"', b'"\\ud83d\\ude00":"\\ud800","position"', b'"\\ud800":1,"\\udc00":2,"position"'),
+        b'"output_priority":"left","position"', b'"input_priority":"right","position"', b'"name":1,"position"',
+        b'"\\ud83d\\ude00":"\\ud800","position"', b'"\\ud800":1,"\\udc00":2,"position"'),
     b'"direction"': (b'"dir"', b'"direction":0,"direction"'), b'"x"': (b'"z"', b'"x":1,"x"'),
     b"entities": (b"tiles", b"entities\\"), b'"blueprint"': (b'"blueprint_book"', b'"blue"', b"1"),
     b"version": (b"versio", b'version":562949953421312,"z'), b".5": (b".50", b".25", b".5e0", b"e1", b".", b""),

@@ -3,13 +3,14 @@
 
     exhaust.py PROGRAM [REQUESTS] [--cells N] [--seconds N]
 
-It lists every layout of at most three splitters, inputs and outputs in some grids of at most ten cells, and makes so many
-requests for these grids (5000 where none is told): networks of listed layouts and networks that are thrown together, with
-pins, directions, sides and blocks. The program must find a layout exactly where one is listed. What it finds must lay the
-request by `check.py` and be read back by `recover`; a certificate that there is none must be accepted. How many with one
-changed number are still accepted, and how many refused, it counts. It prints how many it compared, and ends with 1 where
-one is wrong. It writes nothing. With `--cells` it leaves out grids of more cells, whose lists take most of its time, and
-with `--seconds` it begins no request after so many."""
+It lists every layout of at most three splitters, inputs and outputs in some grids of at most ten cells, and makes so
+many requests for these grids (5000 where none is told): networks of listed layouts and networks that are thrown
+together, with preferred edges, pins, directions, sides, rows and blocks. Which edges are preferred doesn't tell whether
+there is a layout, but what is written must prefer them. The program must find a layout exactly where one is listed.
+What it finds must lay the request by `check.py` and be read back by `recover`; a certificate that there is none must be
+accepted. How many with one changed number are still accepted, and how many refused, it counts. It prints how many it
+compared, and ends with 1 where one is wrong. It writes nothing. With `--cells` it leaves out grids of more cells, whose
+lists take most of its time, and with `--seconds` it begins no request after so many."""
 
 import argparse
 import random
@@ -52,7 +53,8 @@ def is_heard(giver, taker, way):
     return not looks(giver, way) or takes(taker, way) or taker is None and giver[0] in HALVES
 
 
-# From west to east, and from north to south, the pieces of one axis come in pairs: what stands first and what closes it.
+# From west to east, and from north to south, the pieces of one axis come in pairs: what stands first and what closes
+# it.
 CLOSERS = {(ENTRANCE, 1): (EXIT, 1), (EXIT, 3): (ENTRANCE, 3), (ENTRANCE, 2): (EXIT, 2), (EXIT, 0): (ENTRANCE, 0)}
 
 
@@ -173,7 +175,7 @@ class Listing:
         spots = tuple((part.cell, part.dir) for part in firsts), tuple((part.cell, part.dir) for part in lasts)
         self.groups[shape(net)][spots, edges_by(net)].add(mask)
 
-    def has(self, net, pins, blocks):
+    def has(self, net, pins, rows, blocks):
         """Whether a layout is listed that lays the request."""
         blocked = sum(1 << (x + self.width * y) for x, y in blocks)
         wanted = {pin.end: pin for pin in pins}
@@ -184,6 +186,10 @@ class Listing:
 
         for ((firsts, lasts), edges), masks in self.groups.get(shape(net), {}).items():
             if all(mask & blocked for mask in masks):
+                continue
+            if not all(
+                opinion.stand_in_row([cell for cell, _ in (firsts if row.letter == "i" else lasts)]) for row in rows
+            ):
                 continue
             for inputs in permutations(range(len(firsts))):
                 if stand("i", inputs, firsts) and any(
@@ -218,8 +224,12 @@ def thrown_net(chance):
     """A network of few splitters and ends, in which every splitter has an edge on either side."""
     while True:
         inputs, outputs, splitters = chance.randint(1, MOST), chance.randint(1, MOST), chance.randint(0, MOST)
-        starts = [("i", n) for n in range(inputs)] + [("s", n) for n in range(splitters) for _ in range(chance.randint(1, 2))]
-        targets = [("o", n) for n in range(outputs)] + [("s", n) for n in range(splitters) for _ in range(chance.randint(1, 2))]
+        starts = [("i", n) for n in range(inputs)] + [
+            ("s", n) for n in range(splitters) for _ in range(chance.randint(1, 2))
+        ]
+        targets = [("o", n) for n in range(outputs)] + [
+            ("s", n) for n in range(splitters) for _ in range(chance.randint(1, 2))
+        ]
         if len(starts) == len(targets):
             chance.shuffle(targets)
             return network(inputs, outputs, splitters, zip(starts, targets))
@@ -252,29 +262,42 @@ def thrown_pins(chance, net, cells):
             opinion.Pin(end, chance.choice(cells), chance.choice((None, *range(4))), 0) for end in ends]
 
 
+def prefer(chance, net):
+    """Lets some splitters prefer an edge out of them, or into them."""
+    for word, near in (("give", net.outs), ("take", net.ins)):
+        for end in net.ends("s"):
+            if near[end] and chance.random() < 0.5:
+                net.first[word][end[1]] = chance.choice(near[end])
+
+
 def thrown_request(chance, listing):
-    """A network with pins and blocked cells."""
+    """A network, maybe with preferred edges, with pins, rows and blocked cells."""
     cells = list(product(range(listing.width), range(listing.height)))
     net, pins = listed_net(chance, listing) if chance.random() < 0.6 else (thrown_net(chance), [])
     if chance.random() < 0.3 or not pins:
         pins = thrown_pins(chance, net, cells)
+    if chance.random() < 0.4:
+        prefer(chance, net)
+    rows = [opinion.Row(letter, 0) for letter in chance.choice(("", "", "", "i", "o", "io"))]
     free = [cell for cell in cells if cell not in {pin.cell for pin in pins}]
-    return net, pins, chance.sample(free, min(len(free), chance.choice((0, 0, 0, 1, 1, 2))))
+    return net, pins, rows, chance.sample(free, min(len(free), chance.choice((0, 0, 0, 1, 1, 2))))
 
 
-def request_text(net, pins, blocks):
+def request_text(net, pins, rows, blocks):
     lines = net.text().split("\n")[:-1]
     lines += ["side {}{} {}".format(*pin.end, WAYS[pin.dir]) if pin.cell is None else
               "pin {}{} {} {}".format(*pin.end, *pin.cell) + (f" {WAYS[pin.dir]}" if pin.dir is not None else "")
               for pin in pins]
+    lines += ["row inputs" if row.letter == "i" else "row outputs" for row in rows]
     return "\n".join(lines + ["block {} {}".format(*cell) for cell in blocks] + ["end", ""])
 
 
 # ---- Comparing. ----
-def kind_of(pins):
-    """Whether a request has pins on cells, sides, both, or none of them."""
+def kind_of(net, pins, rows):
+    """Whether a request has pins on cells, sides, both, or none of them; rows; and preferred edges."""
     sides = sum(pin.cell is None for pin in pins)
-    return "free" if not pins else "pins" if not sides else "sides" if sides == len(pins) else "pins and sides"
+    kind = "free" if not pins else "pins" if not sides else "sides" if sides == len(pins) else "pins and sides"
+    return kind + " rows" * bool(rows) + " preferring" * any(net.first.values())
 
 
 class Comparing:
@@ -289,12 +312,12 @@ class Comparing:
         self.wrong += 1
         print(f"{what}: layout {' '.join(options)}\n{text}")
 
-    def compare(self, chance, listing, net, pins, blocks):
+    def compare(self, chance, listing, net, pins, rows, blocks):
         """One request: what the program answers, and what is listed."""
         options = ["--grid", f"{listing.width}x{listing.height}"]
-        text = request_text(net, pins, blocks)
-        listed, (status, written) = listing.has(net, pins, blocks), self.run(["layout", *options], text.encode())
-        self.told[f"{kind_of(pins)} {'blocks' if blocks else 'clear'} {status}"] += 1
+        text = request_text(net, pins, rows, blocks)
+        listed, (status, written) = listing.has(net, pins, rows, blocks), self.run(["layout", *options], text.encode())
+        self.told[f"{kind_of(net, pins, rows)} {'blocks' if blocks else 'clear'} {status}"] += 1
         if status != (0 if listed else 1):
             self.fail(f"status {status}, {'some' if listed else 'none'} listed", options, text)
         elif listed:
@@ -305,10 +328,12 @@ class Comparing:
     def found(self, options, text, written, listing):
         """The written blueprint lays the request, and `recover` reads a network of as many parts of it."""
         request = opinion.read_request(text, listing.width, listing.height)
-        parts = opinion.parts_of(opinion.json_value(written.decode("latin-1"), 0)[0], False)
+        parts = opinion.parts_of(opinion.json_value(written.decode("latin-1"), 0)[0], True)
         status, shown = self.run(["recover"], written)
         again = opinion.read_net(shown.decode("latin-1"))[0] if status == 0 else None
-        if not opinion.lays(*request, listing.width, listing.height, 0, parts) or again is None or shape(again) != shape(request[0]):
+        if not opinion.lays(*request, listing.width, listing.height, 0, parts) or again is None or shape(
+            again
+        ) != shape(request[0]):
             self.fail("a layout of another request", options, text)
 
     def refuted(self, chance, options, text, written):
@@ -320,7 +345,9 @@ class Comparing:
             return
         place = chance.choice(places)
         changed = str(int(place[0]) + chance.choice((-2, -1, 1, 2))).encode()
-        status, _ = self.run(["check-layout", *options], text.encode() + written[:place.start()] + changed + written[place.end():])
+        status, _ = self.run(
+            ["check-layout", *options], text.encode() + written[:place.start()] + changed + written[place.end():]
+        )
         self.told[f"changed number {status}"] += 1
 
 

@@ -3,12 +3,12 @@
 
     extending.py [NETWORKS]
 
-It throws so many networks together (2000 where none is told), with priorities and tiers, and loads and rooms, and reckons
-a steady state of them as `simplest.py` does. The state is a model of the formula of the laws, and of that of each
-property that it breaks: a number for each column, and a truth for each variable, such that each clause holds, and each
-row whose variable is true. Rows' variables are then made false by chance where the clauses allow it. Each formula is
-extended by definitions that are thrown together, and the model with it, by what the definitions say: it must be one of
-the extended formula. It prints counts and every model that is lost, and ends with 1 where one is. The generator is
+It throws so many networks together (2000 where none is told), with priorities and tiers, and loads and rooms, and
+reckons a steady state of them as `simplest.py` does. The state is a model of the formula of the laws, and of that of
+each property that it breaks: a number for each column, and a truth for each variable, such that each clause holds, and
+each row whose variable is true. Rows' variables are then made false by chance where the clauses allow it. Each formula
+is extended by definitions that are thrown together, and the model with it, by what the definitions say: it must be one
+of the extended formula. It prints counts and every model that is lost, and ends with 1 where one is. The generator is
 fixed."""
 
 import argparse
@@ -46,7 +46,8 @@ class Model:
         self.truths.update({variable: is_met(row, self.columns) for variable, row in rows.items()})
 
     def deny(self, formula):
-        """Takes each variable of a row to be false that would imply another which is false, as of ends that aren't short."""
+        """Takes each variable of a row to be false that would imply another which is false, as of ends that aren't
+        short."""
         for clause in formula.clauses:
             if len(clause) == 2 and -clause[0] in formula.rows and not self.is_true(clause[1]):
                 self.truths[-clause[0]] = False
@@ -119,7 +120,9 @@ class Extending:
         except opinion.Answer:
             return False
         caps = [[net.edges[e].cap for e in edges] for edges in simplest.ends_of(net)]
-        loads, rooms = ([chance.choice((Fraction(0), Fraction(cap), Fraction(cap, 2))) for cap in some] for some in caps)
+        loads, rooms = (
+            [chance.choice((Fraction(0), Fraction(cap), Fraction(cap, 2))) for cap in some] for some in caps
+        )
         state = [loads, rooms, *simplest.state_of(net, loads, rooms)]
         if not simplest.passes(net, None, *state):
             self.told["without a state"] += 1

@@ -4,10 +4,10 @@
     preferring.py PROGRAM [NETWORKS]
 
 It throws so many networks together (2000 where none is told) in which a splitter prefers an edge at least: every other
-one as network text, the others as blueprints, half of them an example in which splitters prefer sides by chance. Of each
-both must say the same, word for word: the network that `recover` writes, and two states' `flow-check`. What `decide`
-says of it is checked by `check.py`. It prints counts and every difference, and ends with 1 where there is one. The
-generator is fixed: with one program the networks are always the same."""
+one as network text, the others as blueprints, half of them an example in which splitters prefer sides by chance. Of
+each both must say the same, word for word: the network that `recover` writes, and two states' `flow-check`. What
+`decide` says of it is checked by `check.py`. It prints counts and every difference, and ends with 1 where there is one.
+The generator is fixed: with one program the networks are always the same."""
 
 import argparse
 import random

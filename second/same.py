@@ -87,9 +87,9 @@ def caps_at_ends(net):
 
 def check_same(text):
     """Ends with an Answer to two designs and a certificate."""
-    first, _, _, behind = opinion.read_design(text, opinion.Extras.NOTHING, in_basic_belts=True)
+    first, *_, behind = opinion.read_design(text, opinion.Extras.NOTHING, in_basic_belts=True)
     text = text[behind:]
-    second, _, _, behind = opinion.read_design(text, opinion.Extras.NOTHING, in_basic_belts=True)
+    second, *_, behind = opinion.read_design(text, opinion.Extras.NOTHING, in_basic_belts=True)
     need(caps_at_ends(first) == caps_at_ends(second), 47, "Ends")
     lines = opinion.lines_of(text[behind:])
     if lines[0] == "same":

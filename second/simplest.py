@@ -3,13 +3,13 @@
 
     simplest.py [PROGRAM]
 
-For each example's network and property that fails it takes the state that lies beside it, or where a program is named the
-one that `decide` writes now. Each must pass every test of `check.py`. Where some of its loads and rooms are neither 0 nor
-full, no state may be found here that has none such: all choices of 0 and full are tried where at most ten ends may be
-less, else as many as there are windows of neighbouring ends. A choice's state comes of no simulation: each edge is offered
-what its start has and its target takes until nothing changes, in whole numbers, and the flows are those of the equations
-that this shows, in fractions. It prints a line for each state, with by how much the property fails, and ends with 1 where
-one is wrong. It writes nothing."""
+For each example's network and property that fails it takes the state that lies beside it, or where a program is named
+the one that `decide` writes now. Each must pass every test of `check.py`. Where some of its loads and rooms are neither
+0 nor full, no state may be found here that has none such: all choices of 0 and full are tried where at most ten ends
+may be less, else as many as there are windows of neighbouring ends. A choice's state comes of no simulation: each edge
+is offered what its start has and its target takes until nothing changes, in whole numbers, and the flows are those of
+the equations that this shows, in fractions. It prints a line for each state, with by how much the property fails, and
+ends with 1 where one is wrong. It writes nothing."""
 
 import argparse
 import subprocess
@@ -84,7 +84,10 @@ def solved(rows, count):
                 for other, number in line.items():
                     old[other] = old.get(other, 0) + factor * number
         solutions[pivot] = line
-    return [sum(solutions[c].values()) if c in solutions and set(solutions[c]) <= {None} else Fraction(0) for c in range(count)]
+    return [
+        sum(solutions[c].values()) if c in solutions and set(solutions[c]) <= {None} else Fraction(0)
+        for c in range(count)
+    ]
 
 
 def state_of(net, loads, rooms):
@@ -193,13 +196,17 @@ def states(program):
                 continue
             said = beside.read_text("latin-1")
             if program:
-                run = subprocess.run([program, "decide", prop], input=text.encode("latin-1"), stdout=subprocess.PIPE, check=False)
+                run = subprocess.run(
+                    [program, "decide", prop], input=text.encode("latin-1"), stdout=subprocess.PIPE, check=False
+                )
                 said = run.stdout.decode("latin-1")
             yield path.stem, net, prop, opinion.lines_of(said)
 
 
 def main():
-    words = argparse.ArgumentParser(description="Looks whether the states in which examples' properties fail are simple.")
+    words = argparse.ArgumentParser(
+        description="Looks whether the states in which examples' properties fail are simple."
+    )
     words.add_argument("program", nargs="?")
     wrong = count = 0
     for name, net, prop, lines in states(words.parse_args().program):

@@ -1,5 +1,5 @@
-"""Tests of alike.py: a dozen requests under other names have one answer. BELTPROOF_PROGRAM may name another program than
-that of these sources."""
+"""Tests of alike.py: a dozen requests under other names have one answer. BELTPROOF_PROGRAM may name another program
+than that of these sources."""
 
 import os
 import random
@@ -34,7 +34,9 @@ class Names(unittest.TestCase):
             net, pins = alike.thrown_request(chance, number % 2 == 1)
             named, others = alike.named_anew(chance, net, pins)
             self.assertEqual(exhaust.shape(named), exhaust.shape(net))
-            self.assertEqual(sorted((pin.end[0], pin.dir) for pin in others), sorted((pin.end[0], pin.dir) for pin in pins))
+            self.assertEqual(
+                sorted((pin.end[0], pin.dir) for pin in others), sorted((pin.end[0], pin.dir) for pin in pins)
+            )
             self.assertEqual(bool(pins), number % 2 == 1)
 
     def test_pins_go_with_their_ends(self):

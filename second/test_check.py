@@ -23,6 +23,7 @@ import simplest
 
 BELT = "net 1 1 0\nedge i0 o0\nend\n"
 SPLITTER = "net 2 2 1\nedge i0 s0\nedge i1 s0\nedge s0 o0\nedge s0 o1\nend\n"
+TWO = "net 2 2 0\nedge i0 o0\nedge i1 o1\nend\n"
 LOOP = "net 1 3 3\nedge i0 s0\nedge s0 s1\nedge s0 s2\nedge s1 o0\nedge s1 o1\nedge s2 o2\nedge s2 s0\nend\n"
 BUTTERFLY = ("net 4 4 4\nedge i0 s0\nedge i1 s0\nedge i2 s1\nedge i3 s1\nedge s0 s2\nedge s0 s3\n"
              "edge s1 s2\nedge s1 s3\nedge s2 o0\nedge s2 o1\nedge s3 o2\nedge s3 o3\nend\n")
@@ -291,8 +292,8 @@ class Certificates(unittest.TestCase):
             ("unlimited", unlimited.format("", 17, 18).replace("f -12", less + "f -12"), 9, "refused 50 CertLine 3"),
             ("balanced", "yes balanced\nc 1 0 1 1 0 0 0\nr 0 15 0\nend\n", 0, "yes balanced"),
             ("balanced", "yes balanced\nv 1 -1 0\nr 0 15 0\nend\n", 9, "refused 50 CertLine 2"),
-            ("unlimited", unlimited.format("c 1 1 -1 1 0 0 0\nf -3 -18 -23 0 1 1 1\nr 22 0 18 22 20 2 24 0\n", 26, 27), 0,
-             "yes unlimited"),
+            ("unlimited", unlimited.format("c 1 1 -1 1 0 0 0\nf -3 -18 -23 0 1 1 1\nr 22 0 18 22 20 2 24 0\n", 26, 27),
+             0, "yes unlimited"),
             ("unlimited", unlimited.format("v -1 8 0\nr 18 -8 0 18 0\n", 20, 21), 0, "yes unlimited"),
             ("unlimited", unlimited.format("v -1 8 0\nr 18 -8 0 17 0\n", 20, 21), 9, "refused 51 BadStep 3 unit"),
             ("unlimited", "yes unlimited\np 0 0\nend\n", 9, "refused 52 NoVerdict"),
@@ -300,9 +301,12 @@ class Certificates(unittest.TestCase):
         ]
         for prop, text, status, answer in table:
             self.assertEqual(run(f"check {prop}", BELT + text), (status, answer + "\n"), text)
-        wrong = ["v 0", "v 2 1 0", "v 1 18 0", "c 18 0 0 0 0", "c -1 0 0 0 0", "c 1 0 0 0", "c 1 0 0 0 1 4 0", "p 0 1 2 1 1 0",
-                 "p 0 0 0", "p -0 1 1 0", "p 2/4 1 1 0", "p", "p 0", "p 0 1 0", "p 0 1 1/2 0", "c 1", "c 0 0 0 0 0", "c 1/2 0 0 0 0",
-                 "v", "v 1", "v 1/2 0", "v 1 1 0", "p  0 0", "p 0 0 ", " p 0 0", "v " + "9" * 50 + " 0", "p 0 1 " + "9" * 50 + " 0"]
+        wrong = [
+            "v 0", "v 2 1 0", "v 1 18 0", "c 18 0 0 0 0", "c -1 0 0 0 0", "c 1 0 0 0", "c 1 0 0 0 1 4 0",
+            "p 0 1 2 1 1 0", "p 0 0 0", "p -0 1 1 0", "p 2/4 1 1 0", "p", "p 0", "p 0 1 0", "p 0 1 1/2 0", "c 1",
+            "c 0 0 0 0 0", "c 1/2 0 0 0 0", "v", "v 1", "v 1/2 0", "v 1 1 0", "p  0 0", "p 0 0 ", " p 0 0",
+            "v " + "9" * 50 + " 0", "p 0 1 " + "9" * 50 + " 0",
+        ]
         for line in wrong:
             answer = run("check unlimited", BELT + unlimited.format(line + "\n", 17, 18))
             self.assertEqual(answer, (9, "refused 50 CertLine 2\n"), line)
@@ -312,7 +316,9 @@ class Certificates(unittest.TestCase):
         formula, steps = "p cnf 2 3\n1 2 0\n-1 0\n-2 0\n", "none\n{}\nr 0 2 3 1 0\nend\n"
         self.assertEqual(run("none formula", steps.format("v 1 -2 0"), formula=formula), (1, "none\n"))
         for line in ["p 0 0", "c 1 0 0 0 0", "v 1 3 0"]:
-            self.assertEqual(run("none formula", steps.format(line), formula=formula), (9, "refused 50 CertLine 2\n"), line)
+            self.assertEqual(
+                run("none formula", steps.format(line), formula=formula), (9, "refused 50 CertLine 2\n"), line
+            )
 
     def test_dimacs(self):
         formula = "c two variables\np cnf 2 3\n1 2 0\n-1 0\n-2 0\n"
@@ -378,7 +384,9 @@ class Json(unittest.TestCase):
 class Blueprints(unittest.TestCase):
     def test_recovered(self):
         moved = blueprint(*[(name, x + 0.5, y + 0.5, way) for name, x, y, way in TWO_BY_TWO])
-        south = [("splitter", 0, 0, 4, {"output_priority": '"left"'}), *(belt(x, y, 4) for y in (-1, 1) for x in (0, 1))]
+        south = [
+            ("splitter", 0, 0, 4, {"output_priority": '"left"'}), *(belt(x, y, 4) for y in (-1, 1) for x in (0, 1))
+        ]
         left = [(*TWO_BY_TWO[0], {"output_priority": '"left"', "input_priority": '"right"'}), *TWO_BY_TWO[1:]]
         alone = [("splitter", 0, 0, 0, {"output_priority": '"left"'}), belt(0, 1, 0), belt(1, 1, 0), belt(1, -1, 0)]
         two, tiers = "net 2 2 0\nedge i0 o0\nedge i1 o1\nend\n", [
@@ -423,7 +431,7 @@ class Blueprints(unittest.TestCase):
             (blueprint(("splitter", 0, 0, 0, {"input_priority": '"up"'})), "24 BadMember 0 input_priority"),
             (one.replace("281479271677952", "1.5"), "20 NotBlueprint"),
             (one.replace('"entities":[', '"entities":1,"z":['), "20 NotBlueprint"),
-            ('{"blueprint":{"entities":[' + ",".join("1" * 4097) + "]}}", "22 TooMany"),
+            ('{"blueprint":{"entities":[' + ",".join("1" * 16385) + "]}}", "22 TooMany"),
             (blueprint(belt(0, 0, 0), belt(0.5, 1, 0)), "25 OffGrid 1"), (one + none + "{", f"10 Json {len(one)}"),
         ]
         for design, refusal in table:
@@ -436,7 +444,12 @@ class Layouts(unittest.TestCase):
 
     def test_laid(self):
         yes, no = (0, "laid\n"), (1, "not laid\n")
+
+        def prefers(member, hand):
+            return below.replace('"splitter"', f'"splitter", "{member}": "{hand}"', 1)
+
         below = blueprint(("splitter", 0, 1, 0), *(belt(x, y, 0) for y in (0, 2) for x in (0, 1)))
+        beside, apart = blueprint(belt(0, 0, 0), belt(1, 0, 0)), blueprint(belt(0, 0, 0), belt(2, 0, 0))
         one, tunnel = blueprint(belt(0, 0, 2)), blueprint(piece(0, 0, 2, "input"), piece(2, 0, 2, "output"))
         table = [
             ("1x1", BELT, one, yes), ("3x1", PINNED, tunnel, yes), ("4x1", PINNED, tunnel, no),
@@ -452,6 +465,16 @@ class Layouts(unittest.TestCase):
             ("2x3", SPLITTER.replace("end", "pin i0 1 2\nside i1 south\nend"), below, yes),
             ("1x1", BELT.replace("end", "side inputs west\nside outputs east\nend"), one, yes),
             ("1x1", BELT.replace("end", "side i0 west\nside o0 north\nend"), one, no),
+            ("2x3", SPLITTER.replace("end", "row inputs\nrow outputs\nend"), below, yes),
+            ("3x1", TWO.replace("end", "side inputs south\nrow inputs\nend"), apart, no),
+            ("3x1", TWO.replace("end", "side inputs south\nrow outputs\nend"), beside, yes),
+            ("2x3", SPLITTER.replace("end", "give s0 2\nend"), below, no),
+            ("2x3", SPLITTER, prefers("output_priority", "left"), no),
+            ("2x3", SPLITTER.replace("end", "give s0 2\nend"), prefers("output_priority", "left"), yes),
+            ("2x3", SPLITTER.replace("end", "give s0 3\npin o0 0 0\nend"), prefers("output_priority", "left"), no),
+            ("2x3", SPLITTER.replace("end", "give s0 3\npin o0 0 0\nend"), prefers("output_priority", "right"), yes),
+            ("2x3", SPLITTER.replace("end", "take s0 0\npin i1 0 2\nend"), prefers("input_priority", "right"), yes),
+            ("2x3", SPLITTER.replace("end", "take s0 0\npin i1 0 2\nend"), prefers("input_priority", "left"), no),
             ("2x2", SPLITTER, below, no),
             ("5x8", BUTTERFLY, drawn(MAP), yes),
             ("5x8", BUTTERFLY.replace("s0 s3", "s0 s2").replace("s1 s2", "s1 s3"), drawn(MAP), no),
@@ -467,13 +490,17 @@ class Layouts(unittest.TestCase):
             (BELT.replace("end", "pin i0 1 0\nend"), 3, "44 Pin 3"), (BELT.replace("o0", "o0 2"), 3, "45 Cap 0"),
             (BELT.replace("end", "block 1 0\nend"), 3, "46 Block 3"),
             (BELT.replace("end", "pin i0 0 0\npin i0 0 0\nend"), 3, "44 Pin 4"),
-            (BELT.replace("end", "pin o0 0 0\nblock 0 0\nend"), 3, "46 Block 4"), (FIRST, 3, "40 NetLine 5"),
+            (BELT.replace("end", "pin o0 0 0\nblock 0 0\nend"), 3, "46 Block 4"),
             (BELT.replace("end", "block 0 0\npin o0 0 0\nend"), 3, "40 NetLine 4"), (BELT + "x", 3, "40 NetLine 4"),
             (BELT.replace("end", "pin i1 0 0\nend"), 3, "40 NetLine 3"),
             (BELT.replace("end", "side i0 south\nside o0 north\nside o0 north\nend"), 3, "44 Pin 5"),
             (BELT.replace("end", "pin i0 0 0\nside inputs south\nend"), 3, "44 Pin 4"),
             (BELT.replace("end", "side i1 south\nend"), 3, "40 NetLine 3"),
             (BELT.replace("end", "block 0 0\nside i0 south\nend"), 3, "40 NetLine 4"),
+            (BELT.replace("end", "row inputs\nrow outputs\nrow inputs\nend"), 3, "44 Pin 5"),
+            (BELT.replace("end", "row i0\nend"), 3, "40 NetLine 3"),
+            (BELT.replace("end", "block 0 0\nrow inputs\nend"), 3, "40 NetLine 4"),
+            (SPLITTER.replace("end", "row inputs\ngive s0 1\nend"), 3, "40 NetLine 7"),
         ]
         for request, status, refusal in table:
             self.laid("1x1", request, one, (status, f"refused {refusal}\n"))
@@ -500,7 +527,7 @@ class Layouts(unittest.TestCase):
 class Words(unittest.TestCase):
     def test_usage(self):
         for words in ("", "decide", "check", "check Full", "check balanced full", "recover x", "none", "--help",
-                      "laid request", "laid --grid 0x1 request", "laid --grid 17x1 request", "laid --grid 1x1",
+                      "laid request", "laid --grid 0x1 request", "laid --grid 161x1 request", "laid --grid 1x1",
                       "laid --grid 1x1 --tier slow request"):
             self.assertEqual(run(words, BELT), (2, "usage\n"), words)
 

@@ -37,10 +37,13 @@ class Listings(unittest.TestCase):
                 ((*splitter, "side i0 south", "side o0 north", "side o1 south"), False),
                 ((*belt, "side i0 south", "pin o0 1 0 south"), False),
                 ((*belt, "side inputs north", "pin o0 1 2 south"), True),
+                ((*splitter, "side outputs north", "row outputs"), True),
+                ((*splitter, "give s0 1", "row inputs", "row outputs"), True),
+                ((*splitter, "pin o0 0 0", "pin o1 1 2", "row outputs"), False),
                 ((*splitter, "block 0 0", "block 0 1", "block 0 2"), False),
                 (("net 3 3 0", "edge i0 o0", "edge i1 o1", "edge i2 o2"), True)):
-            net, pins, blocks, = request(*lines)
-            self.assertEqual(listing.has(net, pins, [cell for cell, *_ in blocks]), wanted, lines)
+            net, pins, rows, blocks = request(*lines)
+            self.assertEqual(listing.has(net, pins, rows, [cell for cell, *_ in blocks]), wanted, lines)
 
 
 if __name__ == "__main__":

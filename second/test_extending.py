@@ -26,7 +26,9 @@ class Models(unittest.TestCase):
         held = extending.held(120)
         self.assertEqual(held.wrong, 0)
         self.assertTrue(all(held.told[f"definitions {letter}"] > 100 for letter in "pcv"), held.told)
-        self.assertTrue(all(held.told[f"models, {prop}"] for prop in ("balanced", "drawn-evenly", "unlimited")), held.told)
+        self.assertTrue(
+            all(held.told[f"models, {prop}"] for prop in ("balanced", "drawn-evenly", "unlimited")), held.told
+        )
 
     def test_values(self):
         formula, model = fork()

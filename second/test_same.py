@@ -60,18 +60,22 @@ class Sameness(unittest.TestCase):
 
     def test_refused(self):
         fast = (BELT[0], f"{BELT[1]} 2", BELT[2])
-        for lines, refused in (((*BELT, *BELTS), "47 Ends"), ((*BELT, *fast), "47 Ends"), ((*fast, *BELT), "47 Ends"), ((*BELT[:-1], "net"), "40 NetLine 3"),
-                               ((*BELT, "net"), "40 NetLine 1"), ((*BELT, "", *BELTS[:2], "end"), "40 NetLine 3"),
-                               ((*PREFERRING, *SPLITTER), "40 NetLine 6"), ((*SPLITTER, *PREFERRING), "40 NetLine 6"),
-                               ((*BELT[:-1], "pin i0 0 0", "end"), "40 NetLine 3"), ((*BELT, "{}"), "20 NotBlueprint"),
-                               ((*BELT, " {1}"), "10 Json 1"), ((*BELT,), "40 NetLine 1")):
+        table = (
+            ((*BELT, *BELTS), "47 Ends"), ((*BELT, *fast), "47 Ends"), ((*fast, *BELT), "47 Ends"),
+            ((*BELT[:-1], "net"), "40 NetLine 3"), ((*BELT, "net"), "40 NetLine 1"),
+            ((*BELT, "", *BELTS[:2], "end"), "40 NetLine 3"), ((*PREFERRING, *SPLITTER), "40 NetLine 6"),
+            ((*SPLITTER, *PREFERRING), "40 NetLine 6"), ((*BELT[:-1], "pin i0 0 0", "end"), "40 NetLine 3"),
+            ((*BELT, "{}"), "20 NotBlueprint"), ((*BELT, " {1}"), "10 Json 1"), ((*BELT,), "40 NetLine 1"),
+        )
+        for lines, refused in table:
             self.assertEqual(answer(*lines), (3, f"refused {refused}\n"), lines)
         self.assertEqual(answer(*BELT, *BELT, *BELT), (9, "refused 50 CertLine 1\n"))
 
     def test_tiers(self):
         def belts(*tiers):
-            return '{"blueprint":{"entities":[' + ",".join(
-                f'{{"name":"{tier}transport-belt","position":{{"x":0.5,"y":{y}.5}}}}' for y, tier in enumerate(tiers)) + "]}}"
+            belt = '{{"name":"{}transport-belt","position":{{"x":0.5,"y":{}.5}}}}'
+            entities = ",".join(belt.format(tier, y) for y, tier in enumerate(tiers))
+            return '{"blueprint":{"entities":[' + entities + "]}}"
 
         differ = ("differ", "load 2", "room 2", "flow 2", "mark f", "flow 2", "mark f", "end")
         for first, second, told in ((("fast-",), ("fast-", "fast-"), (9, "refused 54 NotBreaking kept 0\n")),

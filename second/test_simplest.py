@@ -26,7 +26,9 @@ class States(unittest.TestCase):
             found, said = simplest.fault(net, prop, lines)
             self.assertIsNone(found, (name, prop, said))
             count += 1
-        self.assertEqual(count, len([*simplest.EXAMPLES.glob("*.not-*")]) - len([*simplest.EXAMPLES.glob("*.not-same")]))
+        self.assertEqual(
+            count, len([*simplest.EXAMPLES.glob("*.not-*")]) - len([*simplest.EXAMPLES.glob("*.not-same")])
+        )
 
     def test_simpler_ones(self):
         half = fault(FORK, "balanced", "load 1/2", "room 1 1", "flow 1/2 1/2 0", "mark f f f")

@@ -42,7 +42,9 @@ class Comparing(unittest.TestCase):
     def test_what_is_told(self):
         yes, no, spent = (0, YES), (1, NO), (4, "spent 0\nend\n")
         for text, prop, answers, count in (
-                (BELT, "unlimited", (yes, yes), 0), (BELT, "unlimited", (yes, spent), 0), (BELT, "unlimited", (spent, spent), 0),
+                (BELT, "unlimited", (yes, yes), 0), (BELT, "unlimited", (yes, spent), 0), (
+                    BELT, "unlimited", (spent, spent), 0
+                ),
                 (BELT, "unlimited", (yes, (1, NO)), 2), (BELT, "unlimited", (yes, (0, YES.replace("11 13", "13"))), 1),
                 (FIRST, "balanced", (no, no), 0), (FIRST, "balanced", (no, (None, "")), 0),
                 (FIRST, "balanced", (no, (0, "yes balanced\nend\n")), 3)):

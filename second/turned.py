@@ -3,11 +3,11 @@
 
     turned.py PROGRAM [NETWORKS]
 
-It throws so many networks together (300 where none is told), with priorities and tiers, and turns each around: its edges
-lead the other way, its inputs are outputs and its outputs inputs, and what splitters gave first they take first. Of each
-the program decides `fair` and `drawn-fairly`; what it says is checked by `check.py`, and must be what it says of the
-other property of the turned network. It prints counts and every difference, and ends with 1 where there is one. The
-generator is fixed."""
+It throws so many networks together (300 where none is told), with priorities and tiers, and turns each around: its
+edges lead the other way, its inputs are outputs and its outputs inputs, and what splitters gave first they take first.
+Of each the program decides `fair` and `drawn-fairly`; what it says is checked by `check.py`, and must be what it says
+of the other property of the turned network. It prints counts and every difference, and ends with 1 where there is one.
+The generator is fixed."""
 
 import argparse
 import random

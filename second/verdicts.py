@@ -3,11 +3,12 @@
 
     verdicts.py PROGRAM OTHER [NETWORKS]
 
-It throws so many networks together (2000 where none is told), of up to eight splitters, with priorities and edges of all
-tiers in some: of ends joined by chance, and of butterflies, alone, in a row, with loops, and with targets exchanged. Of
-each both programs decide a property: one says yes and the other no of none. What either writes is checked by `check.py`,
-and where some loads and rooms of 0 and full give a state that breaks the property, neither says yes. What is given up is
-counted alone. It prints counts and every difference, and ends with 1 where there is one. The generator is fixed."""
+It throws so many networks together (2000 where none is told), of up to eight splitters, with priorities and edges of
+all tiers in some: of ends joined by chance, and of butterflies, alone, in a row, with loops, and with targets
+exchanged. Of each both programs decide a property: one says yes and the other no of none. What either writes is checked
+by `check.py`, and where some loads and rooms of 0 and full give a state that breaks the property, neither says yes.
+What is given up is counted alone. It prints counts and every difference, and ends with 1 where there is one. The
+generator is fixed."""
 
 import argparse
 import random
@@ -64,7 +65,9 @@ def is_broken(chance, net, prop):
     caps = [[net.edges[e].cap for e in edges] for edges in simplest.ends_of(net)]
     full = prop in opinion.FULL_LOADS, prop in opinion.FULL_ROOMS
     for _ in range(1 if all(full) else STATES):
-        loads, rooms = ([Fraction(cap if whole else cap * chance.randrange(2)) for cap in some] for some, whole in zip(caps, full))
+        loads, rooms = (
+            [Fraction(cap if whole else cap * chance.randrange(2)) for cap in some] for some, whole in zip(caps, full)
+        )
         if simplest.passes(net, prop, loads, rooms, *simplest.state_of(net, loads, rooms)):
             return True
     return False
@@ -83,7 +86,9 @@ class Verdicts:
     def decide(self, program, prop, text):
         """What a program answers; None where it takes too long."""
         try:
-            ran = subprocess.run([program, "decide", prop], input=text.encode(), stdout=subprocess.PIPE, timeout=SECONDS, check=False)
+            ran = subprocess.run(
+                [program, "decide", prop], input=text.encode(), stdout=subprocess.PIPE, timeout=SECONDS, check=False
+            )
         except subprocess.TimeoutExpired:
             return None, b""
         return ran.returncode, ran.stdout

@@ -56,7 +56,8 @@ for words, names in CASES:
             wrong.append((number, ended[0], len(ended[1])))
     bad += len(wrong)
     print(
-        f"{case}: {number - 1} growths of memory: status 8 where {lacked} of them were refused, the answer where {answered}, "
+        f"{case}: {number - 1} growths of memory: status 8 where {lacked} of them were refused, the "
+        f"answer where {answered}, "
         f"something else where {len(wrong)}{f': number, status and bytes {wrong[:5]}' if wrong else ''}"
     )
     if ended != [status, answer]:

@@ -25,9 +25,9 @@ from opinion.definitions import define
 from opinion.designs import read_design
 from opinion.formula import FlowFormula, Formula
 from opinion.json_text import json_value
-from opinion.layouts import are_alike, lays, read_request
+from opinion.layouts import are_alike, lays, read_request, stand_in_row
 from opinion.lines import lines_of, nothing_after
-from opinion.networks import WAYS, Edge, Extras, Net, Pin, read_net
+from opinion.networks import WAYS, Edge, Extras, Net, Pin, Row, read_net
 from opinion.numbers import fraction_of, plus
 from opinion.parts import BELT, ENTRANCE, EXIT, SIDES, SPLITTER, STEPS, Part, moved, parts_of
 from opinion.properties import FAIR, FULL_LOADS, FULL_ROOMS, PROPERTIES

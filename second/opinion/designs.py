@@ -19,8 +19,8 @@ def read_design(text, extras=Extras.PRIORITIES, alone=False, in_basic_belts=Fals
     is_blueprint = text[start:start + 1] == "{"
     if is_blueprint:
         root, behind = json_value(text, start)
-        parts = parts_of(root, extras is Extras.PRIORITIES)
-        read = Read(recover(parts, in_basic_belts)[0], [], [], behind)
+        parts = parts_of(root, extras is not Extras.NOTHING)
+        read = Read.of(recover(parts, in_basic_belts)[0], behind)
     else:
         read = read_net(text, extras)
     rest = past_blanks(text, read.behind)
@@ -37,5 +37,5 @@ def own_tier(text):
     start = past_blanks(text, 0)
     if text[start:start + 1] != "{":
         return 0
-    tiers = {part.tier for part in parts_of(json_value(text, start)[0], False)}
+    tiers = {part.tier for part in parts_of(json_value(text, start)[0], True)}
     return tiers.pop() if len(tiers) == 1 else 0

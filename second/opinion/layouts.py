@@ -1,40 +1,43 @@
 """Placement: requests for layouts, and whether a blueprint lays one.
 
-A request is a network text with pins, sides and blocked cells, and a rectangle of cells.
+A request is a network text with priorities, pins, sides, rows and blocked cells, and a rectangle
+of cells.
 """
 
 from collections import Counter
 
 from opinion.answers import need
 from opinion.designs import read_design
-from opinion.networks import Extras
+from opinion.networks import Extras, Row
 from opinion.parts import cells_of, moved
 from opinion.recovery import recover
 
-MOST = 128  # edges, and splitters, of a request
+MOST_EDGES, MOST_SPLITTERS = 1024, 512  # of a request
 
 
 def read_request(text, width, height):
-    """The network of a request that may be laid out in a rectangle, its pins and blocks.
+    """The network of a request that may be laid out in a rectangle, its pins, rows and blocks.
 
-    All its edges have the cap 1. A pin lies in the rectangle, and no end has two pins or sides. A
-    block lies there too, once, and where no pin is.
+    All its edges have the cap 1. A pin lies in the rectangle, no end has two pins or sides, and no
+    letter two rows. A block lies there too, once, and where no pin is.
     """
-    net, pins, blocks, _ = read_design(text, Extras.PINS, True)
-    need(max(len(net.edges), net.counts["s"]) <= MOST, 41, "TooLarge")
+    net, pins, rows, blocks, _ = read_design(text, Extras.PINS, True)
+    need(len(net.edges) <= MOST_EDGES and net.counts["s"] <= MOST_SPLITTERS, 41, "TooLarge")
     for number, edge in enumerate(net.edges):
         need(edge.cap == 1, 45, "Cap", number)
-    pinned = set()
-    for pin in pins:
-        can_be = pin.cell is None or is_inside(pin.cell, width, height)
-        need(can_be and pin.end not in pinned, 44, "Pin", pin.line)
-        pinned.add(pin.end)
+    named = set()
+    for wish in sorted([*pins, *rows], key=lambda wish: wish.line):
+        is_row = isinstance(wish, Row)
+        name = wish.letter if is_row else wish.end
+        can_be = is_row or wish.cell is None or is_inside(wish.cell, width, height)
+        need(can_be and name not in named, 44, "Pin", wish.line)
+        named.add(name)
     taken = {pin.cell for pin in pins if pin.cell is not None}
     for block in blocks:
         is_free = is_inside(block.cell, width, height) and block.cell not in taken
         need(is_free, 46, "Block", block.line)
         taken.add(block.cell)
-    return net, pins, blocks
+    return net, pins, rows, blocks
 
 
 def is_inside(cell, width, height):
@@ -42,11 +45,12 @@ def is_inside(cell, width, height):
     return 0 <= cell[0] < width and 0 <= cell[1] < height
 
 
-def lays(net, pins, blocks, width, height, tier, parts):
+def lays(net, pins, rows, blocks, width, height, tier, parts):
     """Whether parts lay a request.
 
     They lie inside the rectangle, off the blocks, and are of the tier. All ends are at the
-    border, those with a pin or a side there, and the network is the request's.
+    border, those with a pin or a side there, those of a row side by side, and the network is the
+    request's, with what its splitters prefer.
     """
     shown, firsts, lasts = recover(parts)
     wanted, found = names_of_pinned(net, shown, pins, firsts, lasts)
@@ -61,7 +65,20 @@ def lays(net, pins, blocks, width, height, tier, parts):
         )
         and not any(is_inside(moved(p.cell, p.dir, -1), width, height) for p in firsts)
         and not any(is_inside(moved(p.cell, p.dir), width, height) for p in lasts)
+        and all(
+            stand_in_row([part.cell for part in (firsts if row.letter == "i" else lasts)])
+            for row in rows
+        )
         and fit((net, shown), wanted, found, free)
+    )
+
+
+def stand_in_row(cells):
+    """Whether cells are consecutive ones of one row or one column, in any order."""
+    columns, lines = (sorted(cell[axis] for cell in cells) for axis in (0, 1))
+    return any(
+        same[0] == same[-1] and other == list(range(other[0], other[0] + len(other)))
+        for same, other in ((lines, columns), (columns, lines))
     )
 
 
@@ -137,16 +154,25 @@ def finer_colours(net, colours, names):
     """The colour of each end, by its own and those near it; `names` has those that were met."""
     finer = {}
     for end, colour in colours.items():
-        after = sorted(colours[net.edges[edge].target] for edge in net.outs[end])
-        before = sorted(colours[net.edges[edge].start] for edge in net.ins[end])
+        near = (net.outs[end], "target"), (net.ins[end], "start")
+        after, before = (
+            sorted((colours[getattr(net.edges[n], far)], net.is_first(n)) for n in numbers)
+            for numbers, far in near
+        )
         finer[end] = names.setdefault((colour, tuple(after), tuple(before)), len(names))
     return finer
 
 
 def have_same_edges(nets, colours):
-    """Whether two networks have the same edges, where each colour is one end's and names it."""
+    """Whether two networks have the same edges, and the same of them come first.
+
+    Each colour is one end's, and names it.
+    """
     one, two = (
-        sorted((colour[edge.start], colour[edge.target]) for edge in net.edges)
+        sorted(
+            (colour[edge.start], colour[edge.target], net.is_first(number))
+            for number, edge in enumerate(net.edges)
+        )
         for net, colour in zip(nets, colours)
     )
     return one == two

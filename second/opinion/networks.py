@@ -23,6 +23,7 @@ EDGE_LINE = re.compile(f"edge ([is]){SHORT} ([so]){SHORT}(?: ([1-4]))?")
 PRIORITY_LINE = re.compile(f"(give|take) s{SHORT} {SHORT}")
 PIN_LINE = re.compile(f"pin ([io]){SHORT} {LONG} {LONG}(?: ({'|'.join(WAYS)}))?")
 SIDE_LINE = re.compile(f"side (?:([io]){SHORT}|(inputs|outputs)) ({'|'.join(WAYS)})")
+ROW_LINE = re.compile("row (inputs|outputs)")
 BLOCK_LINE = re.compile(f"block {LONG} {LONG}")
 
 
@@ -31,7 +32,7 @@ class Extras(Enum):
 
     NOTHING = 0
     PRIORITIES = 1  # of a design
-    PINS = 2  # sides and blocked cells: of a request for a layout
+    PINS = 2  # and priorities, sides, rows and blocked cells: of a request for a layout
 
 
 class Edge(NamedTuple):
@@ -52,6 +53,13 @@ class Pin(NamedTuple):
     end: tuple
     cell: tuple
     dir: int
+    line: int
+
+
+class Row(NamedTuple):
+    """That all ends of a letter stand side by side, and its line."""
+
+    letter: str
     line: int
 
 
@@ -103,6 +111,14 @@ class Net:
             self.ins[end] for end in self.ends("o")
         )
 
+    def is_first(self, edge):
+        """Whether an edge comes first where it leaves a splitter, and where it enters one."""
+        ends = ("give", self.edges[edge].start), ("take", self.edges[edge].target)
+        return tuple(
+            letter == "s" and self.first[word].get(number) == edge
+            for word, (letter, number) in ends
+        )
+
     def beside(self):
         """The edges that a splitter weighs against the one beside them, as tuples.
 
@@ -132,22 +148,28 @@ class Net:
 
 
 class Read(NamedTuple):
-    """What was read of a text: a network, pins and blocks of a request, and the place behind."""
+    """A network, what a request asks of its ends and of cells, and the place behind its text."""
 
     net: Net
     pins: list
+    rows: list
     blocks: list
     behind: int
+
+    @classmethod
+    def of(cls, net, behind=0):
+        """A network of which nothing else is asked."""
+        return cls(net, [], [], [], behind)
 
 
 def read_net(text, extras=Extras.PRIORITIES):
     """Reads a network text up to its line `end`.
 
-    Lines stand in order: `net`, edges, then priorities or pins, then blocks. Before `end` each
-    input and each output has its edge, and there is one of each at least.
+    Lines stand in order: `net`, edges, priorities, then pins, sides and rows, then blocks. Before
+    `end` each input and each output has its edge, and there is one of each at least.
     """
     lines = lines_of(text)
-    read = Read(read_net_line(lines[0]), [], [], 0)
+    read = Read.of(read_net_line(lines[0]))
     net, latest, behind = read.net, 0, len(lines[0]) + 1
     for number, line in enumerate(lines[1:], 2):
         behind += len(line) + 1
@@ -174,10 +196,11 @@ def read_net_line(line):
 def sort_of(line, extras):
     """The turn of a line behind `net` in their order, what takes it, and its match or None."""
     sorts = [(0, take_edge, EDGE_LINE)]
-    if extras is Extras.PRIORITIES:
+    if extras is not Extras.NOTHING:
         sorts += [(1, take_priority, PRIORITY_LINE)]
     if extras is Extras.PINS:
-        sorts += [(1, take_pin, PIN_LINE), (1, take_side, SIDE_LINE), (2, take_block, BLOCK_LINE)]
+        sorts += [(2, take_pin, PIN_LINE), (2, take_side, SIDE_LINE), (2, take_row, ROW_LINE)]
+        sorts += [(3, take_block, BLOCK_LINE)]
     for turn, take, form in sorts:
         match = form.fullmatch(line)
         if match:
@@ -219,6 +242,11 @@ def take_side(read, match, number):
     ends = read.net.ends(kind) if kind else [(match[1], int(match[2]))]
     need(all(end[1] < read.net.counts[end[0]] for end in ends), 40, "NetLine", number)
     read.pins.extend(Pin(end, None, WAYS.index(match[4]), number) for end in ends)
+
+
+def take_row(read, match, number):
+    """`row inputs`, `row outputs`: all of them stand side by side."""
+    read.rows.append(Row(match[1][0], number))
 
 
 def take_block(read, match, number):

@@ -5,7 +5,7 @@ from typing import NamedTuple
 from opinion.answers import need
 from opinion.json_text import halves
 
-MOST_ENTITIES = 4096
+MOST_ENTITIES = 16384
 FARTHEST = 1 << 20  # of twice a coordinate, with either sign
 TIERS = ("basic", "fast", "express", "turbo")
 STEPS = ((0, -1), (1, 0), (0, 1), (-1, 0))  # of north, east, south and west

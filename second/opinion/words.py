@@ -15,7 +15,8 @@ from opinion.properties import PROPERTIES
 from opinion.states import read_state, tests
 
 DESIGN_BYTES, ALL_BYTES = 1 << 24, 1 << 30  # of a design alone, and with what is behind it
-GRID = re.compile("([1-9]|1[0-6])x([1-9]|1[0-6])")
+ACROSS = "([1-9][0-9]?|1[0-5][0-9]|160)"
+GRID = re.compile(f"{ACROSS}x{ACROSS}")
 
 
 def run(words, read, read_file):
@@ -100,7 +101,7 @@ def recovered(text):
 
 def checked(prop, text):
     """`check`: that a certificate shows the property, or that it fails in a state."""
-    net, _, _, behind = read_design(text)
+    net, *_, behind = read_design(text)
     lines = lines_of(text[behind:])
     if lines[0] == f"yes {prop}":
         check_steps(FlowFormula(net, prop), lines[0], lines)
@@ -111,7 +112,7 @@ def checked(prop, text):
 
 def flow_checked(prop, text):
     """`flow-check`: that the property fails in a state."""
-    net, _, _, behind = read_design(text)
+    net, *_, behind = read_design(text)
     check_state(net, prop, lines_of(text[behind:]))
     return Answer(0, "breaks", prop)
 
@@ -138,7 +139,7 @@ def laid(request, rectangle, tier, blueprint):
     tier = own_tier(request) if tier is None else tier
     try:
         root, behind = json_value(blueprint, 0)
-        is_laid = lays(*wanted, *rectangle, tier, parts_of(root, False))
+        is_laid = lays(*wanted, *rectangle, tier, parts_of(root, True))
         rest = past_blanks(blueprint, behind)
         need(rest == len(blueprint), 10, "Json", rest)
     except Answer as refused:

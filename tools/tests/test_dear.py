@@ -39,7 +39,12 @@ class Owners(unittest.TestCase):
 
 class Costs(unittest.TestCase):
     stamps = [dear.Stamp(*it) for it in [(0, 0, 0), (1, 2, 10), (2, 5, 10), (3, 5.5, 30), (4, 7, 30)]]
-    modules = [(2.9, "Rattle-bt_x-proofs.g"), (1, "Rattle-bt_x-proofs.f"), (2, "Rattle-bt_x-proofs.f.Lts"), (2, "Rattle-bt_x-proofs.f.Tie")]
+    modules = [
+        (2.9, "Rattle-bt_x-proofs.g"),
+        (1, "Rattle-bt_x-proofs.f"),
+        (2, "Rattle-bt_x-proofs.f.Lts"),
+        (2, "Rattle-bt_x-proofs.f.Tie"),
+    ]
 
     def test_each_module_has_what_was_spent_since_the_one_before(self):
         costs = dear.costs_of(self.stamps, self.modules, "bt_x")

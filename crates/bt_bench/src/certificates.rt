@@ -24,7 +24,7 @@ pub fn refutes<S: Source>(alloc: Global, name: &str, source: &mut S, limit: usiz
     requires { limit < 2 ^ 62 }
 {
     match formula_named(alloc, name) {
-        Some(mut formula) => check_log(alloc, &mut formula, &[], source, limit).is_ok(),
+        Some(formula) => check_log(alloc, formula, &[], source, limit).is_ok(),
         None => false,
     }
 }

@@ -18,7 +18,7 @@ pub fn text_written(alloc: Global, text: &[u8], rounds: u64) -> Option<Vec<u8>> 
     let parts = parts_read(alloc, text)?;
     let mut written = Vec::new(alloc);
     for _ in 0..rounds {
-        match text_of(alloc, &parts) {
+        match text_of(alloc, &parts, &[]) {
             Ok(text) => written = text,
             Err(_) => return None,
         }

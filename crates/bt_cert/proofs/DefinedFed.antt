@@ -11,7 +11,7 @@ use Rattle.bt_cnf.specs.Formulas.{FormulaParts, IsFormula}
 use Rattle.bt_extend.specs.Extending.{extended}
 use Rattle.bt_extend.specs.declared.definition.Definition.{Definition}
 use Rattle.bt_cert.specs.Certificates.{AreStepsRead, AreDefined, IsCertRead}
-use Rattle.bt_cert.specs.Readings.{AnswersBy, ChecksBy, IsCheckedBy, ExtendsBy, IsExtendedAfter}
+use Rattle.bt_cert.specs.Readings.{AnswersBy, ChecksBy, IsCheckedBy}
 use Rattle.bt_cert.specs.inner.Defining.{DefiningParts, GoesOn, HasDefined, DefinesOn, ReachesSteps, TakesLastLine, ReadsToSteps, ReadsToEnd}
 use Rattle.bt_cert.specs.declared.defining.TheConstants.{MOST_DEFINITIONS}
 use Rattle.bt_cert.specs.declared.fault.CertFault.{CertFault}
@@ -155,56 +155,6 @@ module _ {S : Type 0} (left : S → Option (List ℕ)) (faults : S → ℕ) (fir
     checked = checked_behind told h.count h.checked;
     count = let later : faults second ≤ faults third = h.count in omega (arith, earlier, later);
   }
-
-  -- the formula that the whole text extends is the one with these definitions
-  extends_behind : (told : Result (Unit {0}) CertFault)
-      → AnswersBy (AreStepsRead (FIRST_LINE + new.count) after) new.part (limit - taken) (passage left faults second third) told
-      → ExtendsBy f head (passage left faults first third) after
-  extends_behind told h = record {
-    bytes = reached.bytes ++ h.0;
-    all = (Consumes-trans (left first) (left second) (left third) reached.bytes h.0 reached.consumed h.1.0, h.1.1);
-    definitions = steps.definitions;
-    rest = new.part ++ h.0;
-    defined = defined_behind h.0;
-    formula = steps.formula;
-  }
-
-  pub extended_behind : (told : Result (Unit {0}) CertFault)
-      → IsCheckedBy (AreStepsRead (FIRST_LINE + new.count) after) new.part (limit - taken) (passage left faults second third) told
-      → IsExtendedAfter f head (passage left faults first third) after told
-  extended_behind (Ok done) h = extends_behind (Ok done) h
-  extended_behind (Err (CertLine n)) h = extends_behind (Err (CertLine n)) h
-  extended_behind (Err (BadStep n cause)) h = extends_behind (Err (BadStep n cause)) h
-  extended_behind (Err NoVerdict) h = extends_behind (Err NoVerdict) h
-  extended_behind (Err (CertWide n row column)) h = extends_behind (Err (CertWide n row column)) h
-  extended_behind (Err ReadFault) h = tt
-  extended_behind (Err TooLong) h = tt
-  extended_behind (Err Memory) h = tt
-
--- what an extended formula is after any answer
-extended_at : (f : FormulaParts) (head : List ℕ) (source : Passage) (now : FormulaParts) (told : Result (Unit {0}) CertFault) → ExtendsBy f head source now → IsExtendedAfter f head source now told
-extended_at f head source now (Ok done) h = h
-extended_at f head source now (Err (CertLine n)) h = h
-extended_at f head source now (Err (BadStep n cause)) h = h
-extended_at f head source now (Err NoVerdict) h = h
-extended_at f head source now (Err (CertWide n row column)) h = h
-extended_at f head source now (Err ReadFault) h = tt
-extended_at f head source now (Err TooLong) h = tt
-extended_at f head source now (Err Memory) h = tt
-
--- what the formula is where the source ended within the definitions
-pub ended_extended : (f : FormulaParts) (head : List ℕ) (limit : ℕ) (source : Passage) (before : FormulaParts) (old : DefiningParts) (after : FormulaParts) (new : DefiningParts)
-    (told : Result (Unit {0}) CertFault) → HasDefined f head before old → ReadsToEnd limit source before old after new → IsExtendedAfter f head source after told
-ended_extended f head limit source before old after new told read reached =
-    let all = reached.reads f head read in
-    extended_at f head source after told (record {
-      bytes = reached.bytes;
-      all = reached.all;
-      definitions = all.definitions;
-      rest = new.part;
-      defined = all.defined;
-      formula = all.formula;
-    })
 
 no_fault : (f : FormulaParts) (text : List ℕ) → IsCertRead f text (Err ReadFault) → ⊥
 no_fault f text h = h.read

@@ -117,8 +117,7 @@ pub record EndsOpen (f : FormulaParts) (text : List ℕ) : Type 0 where
   pub open_end : EndsEmpty (log_of steps) → ⊥
 
 -- the right answer to a text of steps, whose first line has this number: it spells a log that refutes the formula; or
--- this
--- comes first in it for which it doesn't
+-- this comes first in it for which it doesn't
 abbrev pub AreStepsRead : ℕ → FormulaParts → List ℕ → Result (Unit {0}) CertFault → Type 0
 AreStepsRead first f text (Ok done) = SpellsRefutation f text
 AreStepsRead first f text (Err (CertLine line)) = StopsAtLine first f text line ⊎ GoesOnAtLine first f text line
@@ -137,8 +136,7 @@ IsOfVariable (Cases var first second) = ⊥
 IsOfVariable (Disjunction lits) = Unit {0}
 
 -- the definition may stand in a certificate where this is the formula so far: it may be written and may extend the
--- formula,
--- and where the formula has no rows, it is of a variable
+-- formula, and where the formula has no rows, it is of a variable
 pub record MayStand (f : FormulaParts) (d : Definition) : Type 0 where
   pub written : MayBeWritten d
   pub defines : IsDefinition f d
@@ -160,8 +158,7 @@ AreDefined most f text (d ∷ ds) rest =
     (0 < most) × (after : List ℕ) × ComesFirst f text d after × AreDefined (most - 1) (with_definition f d) after ds rest
 
 -- the right answer to a text: definitions come first, and then the right answer to steps over the formula that they
--- extend,
--- whose lines go on behind those of the definitions
+-- extend, whose lines go on behind those of the definitions
 pub record IsCertRead (f : FormulaParts) (text : List ℕ) (answer : Result (Unit {0}) CertFault) : Type 0 where
   pub definitions : List Definition
   pub rest : List ℕ

@@ -1,13 +1,10 @@
 -- What reading a certificate from a source tells.
-use Rattle.std.specs.Prelude.{◌≡◌, ℕ, ◌+◌, ◌≤◌, List, ◌++◌, length, Result, Ok, Err}
+use Rattle.std.specs.Prelude.{ℕ, ◌+◌, ◌≤◌, List, ◌++◌, length, Result, Ok, Err}
 use Rattle.bt_answers.specs.Answers.{Answers}
 use Rattle.bt_io.specs.Bytes.{IsAllOf, Takes, TakesAtMost}
 use Rattle.bt_io.specs.Passages.{Passage, HasFault}
 use Rattle.bt_cnf.specs.Formulas.{FormulaParts}
-use Rattle.bt_extend.specs.Extending.{extended}
-use Rattle.bt_extend.specs.declared.definition.Definition.{Definition}
-use Rattle.bt_cert.specs.Certificates.{AreDefined, IsCertRead}
-use Rattle.bt_cert.specs.declared.defining.TheConstants.{MOST_DEFINITIONS}
+use Rattle.bt_cert.specs.Certificates.{IsCertRead}
 use Rattle.bt_cert.specs.declared.fault.CertFault.{CertFault}
 use Rattle.bt_cert.specs.declared.fault.CertFault.TheVariants.{CertLine, BadStep, NoVerdict, CertWide, ReadFault, TooLong, Memory}
 
@@ -43,23 +40,3 @@ IsLogChecked f = IsCheckedBy (IsCertRead f)
 
 abbrev pub ChecksLog : FormulaParts → List ℕ → ℕ → Passage → Result (Unit {0}) CertFault → Type 0
 ChecksLog f = ChecksBy (IsCertRead f)
-
--- these definitions come first in a head and all that a source had left, and this is the formula that they extend
-pub record ExtendsBy (f : FormulaParts) (head : List ℕ) (source : Passage) (now : FormulaParts) : Type 0 where
-  pub bytes : List ℕ
-  pub all : IsAllOf source bytes
-  pub definitions : List Definition
-  pub rest : List ℕ
-  pub defined : AreDefined MOST_DEFINITIONS f (head ++ bytes) definitions rest
-  pub formula : now ≡ extended f definitions
-
--- what a formula that was lent has become by what was told: where the whole text was read, what its definitions extend
-abbrev pub IsExtendedAfter : FormulaParts → List ℕ → Passage → FormulaParts → Result (Unit {0}) CertFault → Type 0
-IsExtendedAfter f head source now (Ok done) = ExtendsBy f head source now
-IsExtendedAfter f head source now (Err (CertLine line)) = ExtendsBy f head source now
-IsExtendedAfter f head source now (Err (BadStep line cause)) = ExtendsBy f head source now
-IsExtendedAfter f head source now (Err NoVerdict) = ExtendsBy f head source now
-IsExtendedAfter f head source now (Err (CertWide line row column)) = ExtendsBy f head source now
-IsExtendedAfter f head source now (Err ReadFault) = Unit {0}
-IsExtendedAfter f head source now (Err TooLong) = Unit {0}
-IsExtendedAfter f head source now (Err Memory) = Unit {0}

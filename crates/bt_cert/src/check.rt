@@ -3,7 +3,7 @@ ghost use Rattle.std.specs.Prelude.{◌+◌, ◌<◌, ◌≤◌, ◌^◌};
 ghost use Rattle.bt_answers.specs.Answers.{UnlessMemory};
 ghost use Rattle.bt_io.specs.Passages.{passage};
 ghost use Rattle.bt_cert.specs.Certificates.{AreStepsRead};
-ghost use Rattle.bt_cert.specs.Readings.{ChecksBy, ChecksLog, IsExtendedAfter};
+ghost use Rattle.bt_cert.specs.Readings.{ChecksBy, ChecksLog};
 ghost use Rattle.bt_cert.specs.declared.fault.CertFault.TheVariants.{Memory};
 ghost use Rattle.bt_cert.specs.inner.Feeding.{ReadsRest};
 
@@ -19,14 +19,28 @@ const BLOCK: usize = 65536;
 
 /// Checks that the steps of a text refute the formula that its definitions extend. The text is `head` and
 /// what is left of the source, of which at most `limit` bytes are read: lines of definitions, at most
-/// 1048576, step lines, the line `end`, and blanks. Its first line has the number 2. The formula is
-/// extended in place: after an answer to the whole text it is the one that the text's definitions extend, and
-/// after any other it may have been extended in part.
+/// 1048576, step lines, the line `end`, and blanks. Its first line has the number 2. The formula is taken, since
+/// the definitions extend it in place.
 ///
 /// `ReadFault` comes only where the source's count of faults rose, and `TooLong` exactly where one byte
 /// past the limit was taken. Both come before any other fault. It holds the clauses of the steps so far,
 /// and one line.
 pub fn check_log<S: Source>(
+    alloc: Global,
+    mut formula: Formula,
+    head: &[u8],
+    source: &mut S,
+    limit: usize,
+) -> Result<(), CertFault>
+    requires { limit < 2 ^ 62 }
+    ensures checked { ChecksLog formula head.now limit
+        (passage S.left S.faults source.old source.new) result }
+{
+    check_text(alloc, &mut formula, head, source, limit)
+}
+
+/// Checks that the steps of a text refute a formula, which is left extended as far as definitions were read.
+fn check_text<S: Source>(
     alloc: Global,
     formula: &mut Formula,
     head: &[u8],
@@ -34,10 +48,8 @@ pub fn check_log<S: Source>(
     limit: usize,
 ) -> Result<(), CertFault>
     requires { limit < 2 ^ 62 }
-    ensures checked { ChecksLog formula.old head.now limit
+    ensures { ChecksLog formula.old head.now limit
         (passage S.left S.faults source.old source.new) result }
-    ensures formula { IsExtendedAfter formula.old head.now
-        (passage S.left S.faults source.old source.new) formula.new result }
 {
     let mut defining = Defining::new(alloc, formula);
     defining.take(alloc, formula, head)?;

@@ -3,6 +3,8 @@ ghost use Rattle.std.specs.Prelude.{◌≡◌, ◌<◌, ◌≤◌, ◌^◌, ◌�
 ghost use Rattle.bt_text.specs.Lines.{Lacks};
 ghost use Rattle.bt_io.specs.Passages.{passage};
 ghost use Rattle.bt_cnf.specs.Formulas.{IsFormula};
+ghost use Rattle.bt_extend.specs.Definitions.{IsDefinition};
+ghost use Rattle.bt_extend.specs.Extending.{with_definition};
 ghost use Rattle.bt_cert.specs.inner.Defining.{DefinesLine, DefinesOn, GoesOn, HasDefined, MaySo, TakesLine};
 ghost use Rattle.bt_cert.specs.inner.Defining.{ReadsDefinitions, TakesLastLine};
 ghost use Rattle.bt_cert.specs.Certificates.{IsOfVariable};
@@ -14,6 +16,7 @@ use bt_io::Source;
 use bt_text::split_once;
 use std::alloc::{AllocError, Global};
 use std::marker::Model;
+use std::mem::replace;
 
 /// The most definitions of a certificate.
 pub const MOST_DEFINITIONS: usize = 1_048_576;
@@ -203,8 +206,23 @@ fn define(alloc: Global, formula: &mut Formula, line: &[u8]) -> Result<bool, All
     if !may_stand(formula, &definition) {
         return Ok(false);
     }
-    extend(alloc, formula, &definition)?;
+    extend_in_place(alloc, formula, &definition)?;
     Ok(true)
+}
+
+/// Extends the formula by a definition. Where memory runs out, an empty formula is left.
+fn extend_in_place(
+    alloc: Global,
+    formula: &mut Formula,
+    definition: &Definition,
+) -> Result<(), AllocError>
+    requires { IsDefinition formula.old definition.now }
+    ensures { OnOk result (formula.new ≡ with_definition formula.old definition.now) }
+{
+    // The empty formula stands in for the one that `extend` takes, and has no memory of its own.
+    let whole = replace(formula, Formula::new(alloc, 0)?);
+    *formula = extend(alloc, whole, definition)?;
+    Ok(())
 }
 
 /// Whether a definition that may be written may stand where this is the formula so far: where that has no

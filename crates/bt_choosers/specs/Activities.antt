@@ -1,6 +1,5 @@
 -- How active variables are by the clauses that a chooser was told: the program's own rule, said as it goes. It steers a
--- search
--- and nothing rests on it: what a search answers is right whatever its choosers pick.
+-- search and nothing rests on it: what a search answers is right whatever its choosers pick.
 use Rattle.std.specs.Prelude.{ℕ, ◌+◌, ◌/◌, ◌==◌, Bool, false, List, [], ◌∷◌, min, nat_lt, fold, if◌then◌else◌}
 use Rattle.bt_cnf.specs.declared.literal.Lit.{Lit}
 use Rattle.bt_choosers.specs.declared.active.TheConstants.{FIRST_BUMP, MOST_BUMP, MOST_SCORE}

@@ -38,8 +38,7 @@ module _ (f : FormulaParts) (is : IsFormula f) where
   wide_nowhere (Learnt lits hints) fits = tt
 
 -- what is printed of definitions of a formula that has rows, few variables and few clauses, and of a log that refutes
--- what they
--- extend, and whose sums fit, is a certificate
+-- what they extend, and whose sums fit, is a certificate
 printed : (f : FormulaParts) (definitions : List Definition) (steps : List Step) → IsFormula f → (f.atoms ≡ [] → ⊥) → f.vars < 2 ^ 22 → length f.clauses < 2 ^ 22
     → AreDefinitions f definitions → length definitions ≤ MOST_DEFINITIONS → IsRefutation (extended f definitions) steps → length steps < 10 ^ 17
     → IsCertificate f (definitions_text definitions ++ log_text steps)

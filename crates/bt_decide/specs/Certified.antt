@@ -14,8 +14,7 @@ use Rattle.bt_theory.specs.Outcomes.{IsRefutation}
 use Rattle.bt_decide.specs.Verdicts.{AreMade, splitters_of_both}
 
 -- what is printed of definitions that are made for a flow formula, and of a log that refutes the formula as they extend
--- it, and
--- whose sums fit, is a certificate, where it has fewer than 10 ^ 17 steps
+-- it, and whose sums fit, is a certificate, where it has fewer than 10 ^ 17 steps
 abbrev pub YesIsCertificate : Type 0
 YesIsCertificate = (n : Network) (p : Property) (definitions : List Definition) (steps : List Step) → IsNetwork n → AreMade n.splitters (flow_formula n p) definitions
     → IsRefutation (extended (flow_formula n p) definitions) steps → length steps < 10 ^ 17 → IsCertificate (flow_formula n p) (definitions_text definitions ++ log_text steps)

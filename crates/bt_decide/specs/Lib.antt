@@ -1,3 +1,4 @@
 pub mod Verdicts
+pub mod Building
 pub mod Certified
 pub mod inner

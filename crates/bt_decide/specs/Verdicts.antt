@@ -24,8 +24,7 @@ use Rattle.bt_decide.specs.declared.verdict.SameVerdict.{SameVerdict}
 use Rattle.bt_decide.specs.declared.verdict.SameVerdict.TheVariants as of_same
 
 -- the definitions are made for a formula of so many splitters: where there are none, nothing is defined; there are no
--- more than
--- a certificate may have; and each may extend the formula with those before it
+-- more than a certificate may have; and each may extend the formula with those before it
 pub record AreMade (splitters : ℕ) (f : FormulaParts) (definitions : List Definition) : Type 0 where
   pub none : splitters ≡ 0 → definitions ≡ []
   pub few : length definitions ≤ MOST_DEFINITIONS
@@ -50,16 +49,15 @@ abbrev pub IsDifference : Network → Network → Pair → Type 0
 IsDifference a b pair = IsTrueOfBoth a b pair.first pair.second (ShowsDifference a b) × AreLowest pair.first × AreLowest pair.second
 
 -- what is right to say: the network has the property, and the log refutes its flow formula as the definitions extend
--- it; or the
--- state, whose fractions are in lowest terms, breaks the property; or deciding the flow formula is rightly given up
+-- it; or the state, whose fractions are in lowest terms, breaks the property; or deciding the flow formula is rightly
+-- given up
 abbrev pub IsVerdict : Network → Property → Limits → Verdict → Type 0
 IsVerdict n p limits (Yes definitions log) = Holds n p × IsRefutedBy n.splitters (flow_formula n p) limits definitions.items log
 IsVerdict n p limits (No state) = IsBreaking n p state
 IsVerdict n p limits (GaveUp definitions cause) = IsGivenUpBy n.splitters (flow_formula n p) limits definitions.items cause
 
 -- the same of two networks: they behave the same, and the log refutes their formula as the definitions extend it; or
--- the pair of
--- states shows a difference; or deciding the formula is rightly given up
+-- the pair of states shows a difference; or deciding the formula is rightly given up
 abbrev pub IsSameVerdict : Network → Network → Limits → SameVerdict → Type 0
 IsSameVerdict a b limits (of_same.Yes definitions log) =
     AreSame a b × IsRefutedBy (splitters_of_both a b) (same_formula a b) limits definitions.items log

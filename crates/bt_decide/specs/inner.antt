@@ -1,2 +1,3 @@
 -- Definitions that private functions alone cite.
 pub mod Outcomes
+pub mod Wished

@@ -1,9 +1,11 @@
 //! Decisions: whether every steady state of a network has a property, and whether two networks behave the same, with the
-//! evidence.
+//! evidence; and networks for wishes, each of which is decided.
 #![tactic(auto)]
 
 mod arguing;
+mod building;
 mod deciding;
+mod granting;
 mod guessing;
 mod law;
 mod same;
@@ -11,6 +13,7 @@ mod verdict;
 
 pub use bt_cnf::Limits;
 pub use bt_theory::GaveUp;
+pub use building::build;
 pub use deciding::decide;
 pub use law::{same_is_certificate, yes_is_certificate};
 pub use same::decide_same;

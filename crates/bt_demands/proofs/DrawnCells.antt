@@ -15,14 +15,14 @@ use Rattle.bt_facts.proofs.Geometry.{from_cells}
 use Rattle.bt_facts.proofs.Keeping.{In, in_at, from_filter}
 
 module _ (r : LayoutRequest) (is : IsRequest r) where
-  small : (a : ℤ) (n : ℕ) → n ≤ 16 → pos 0 ≤ℤ a → a <ℤ pos n → unsigned_abs a ≤ 16
+  small : (a : ℤ) (n : ℕ) → n ≤ 160 → pos 0 ≤ℤ a → a <ℤ pos n → unsigned_abs a ≤ 160
   small (pos m) n few h lt = omega (arith, ints)
   small (negsuc m) n few h lt = absurd (omega (arith, ints))
 
-  small_x : (c : Cell) → IsInside r.rect c → unsigned_abs c.x ≤ 16
+  small_x : (c : Cell) → IsInside r.rect c → unsigned_abs c.x ≤ 160
   small_x c h = small c.x r.rect.width is.grid.few_across h.0 h.1
 
-  small_y : (c : Cell) → IsInside r.rect c → unsigned_abs c.y ≤ 16
+  small_y : (c : Cell) → IsInside r.rect c → unsigned_abs c.y ≤ 160
   small_y c h = small c.y r.rect.height is.grid.few_down h.2 h.3
 
   pub inside_near : (c : Cell) → IsInside r.rect c → IsNear c
@@ -51,6 +51,7 @@ module _ (r : LayoutRequest) (is : IsRequest r) where
   demand_near : (d : Demand) → IsPinnedInside r.rect d → IsDemandedNear d
   demand_near (demand.Pin pin) h = let x = small_x (pinned pin) h in let y = small_y (pinned pin) h in (omega (arith, x), omega (arith, y))
   demand_near (demand.Side side) h = tt
+  demand_near (demand.Row row) h = tt
 
   pub demands_near : AllByRecursion IsDemandedNear r.demands
   demands_near = each_of_all (IsPinnedInside r.rect) IsDemandedNear r.demands demand_near is.pins_inside

@@ -1,3 +1,4 @@
 pub mod Sharing
 pub mod Fitting
 pub mod DrawnCells
+pub mod RowCells

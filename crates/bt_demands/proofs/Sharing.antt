@@ -15,7 +15,7 @@ use Rattle.bt_net.specs.declared.network.Start.TheVariants as from
 use Rattle.bt_net.specs.declared.network.Target.{Target}
 use Rattle.bt_net.specs.declared.network.Target.TheVariants as to
 use Rattle.bt_model.proofs.Sorted.{pairs_tail}
-use Rattle.bt_model.specs.Requests.{Names, ShareEnd, ends_of}
+use Rattle.bt_model.specs.Requests.{Names, NameOneEnd}
 use Rattle.bt_facts.specs.declared.fact.Class.{Class}
 use Rattle.bt_facts.specs.declared.fact.Class.TheVariants.{Shared, Input}
 use Rattle.bt_demands.specs.Classes.{is_pinned, same_end, names, side_by, side_of, class_between, same_dir, same_way, ways, shared_into}
@@ -123,13 +123,13 @@ told_names false ends e to from = by (names ends e) refl
 
 -- the two name no end both
 abbrev pub NameApart : Demand → Demand → Type 0
-NameApart one other = ShareEnd (ends_of one) (ends_of other) → ⊥
+NameApart one other = NameOneEnd one other → ⊥
 
-pub head_apart : (x : Demand) (xs : List Demand) → AllPairs NameApart (x ∷ xs) → (y : Demand) → In xs y → ShareEnd (ends_of x) (ends_of y) → ⊥
+pub head_apart : (x : Demand) (xs : List Demand) → AllPairs NameApart (x ∷ xs) → (y : Demand) → In xs y → NameOneEnd x y → ⊥
 head_apart x xs all y there share =
     let place = place_of xs y there in
     let lt = place.1 in
-    all 0 (suc place.0) y (omega arith) (omega (arith, lt)) (subst (λ z. ShareEnd (ends_of x) (ends_of z)) (sym (place.2 y)) share)
+    all 0 (suc place.0) y (omega arith) (omega (arith, lt)) (subst (λ z. NameOneEnd x z) (sym (place.2 y)) share)
 
 -- ---- the side of an end
 
@@ -137,6 +137,7 @@ head_apart x xs all y there share =
 pub side_from : (demands : List Demand) (e : End) (dir : Dir) → side_of demands e ≡ Some dir → (side : Side) × In demands (demand.Side side) × Names side.ends e × (side.dir ≡ dir)
 side_from [] e dir h = absurd (cc)
 side_from (demand.Pin pin ∷ demands) e dir h = let found = side_from demands e dir h in (found.0, inr found.1, found.2, found.3)
+side_from (demand.Row row ∷ demands) e dir h = let found = side_from demands e dir h in (found.0, inr found.1, found.2, found.3)
 side_from (demand.Side side ∷ demands) e dir h = by (names side.ends e) refl h (side_from demands e dir) where
   by : (b : Bool) → names side.ends e ≡ b → cond b (Some side.dir) (side_of demands e) ≡ Some dir
       → (side_of demands e ≡ Some dir → (s : Side) × In demands (demand.Side s) × Names s.ends e × (s.dir ≡ dir))
@@ -152,16 +153,19 @@ side_is (d ∷ demands) apart side e (inl same) named =
     subst (λ x. side_by x e (side_of demands e) ≡ Some side.dir) same (ap (λ b. cond b (Some side.dir) (side_of demands e)) (names_true side.ends e named))
 side_is (demand.Pin pin ∷ demands) apart side e (inr there) named =
     side_is demands (pairs_tail NameApart (demand.Pin pin) demands apart) side e there named
+side_is (demand.Row row ∷ demands) apart side e (inr there) named =
+    side_is demands (pairs_tail NameApart (demand.Row row) demands apart) side e there named
 side_is (demand.Side s ∷ demands) apart side e (inr there) named =
     by (names s.ends e) refl (side_is demands (pairs_tail NameApart (demand.Side s) demands apart) side e there named)
   where
     by : (b : Bool) → names s.ends e ≡ b → side_of demands e ≡ Some side.dir → side_of (demand.Side s ∷ demands) e ≡ Some side.dir
-    by true t rest = absurd (head_apart (demand.Side s) demands apart (demand.Side side) there (e, true_names s.ends e t, named))
+    by true t rest = absurd (head_apart (demand.Side s) demands apart (demand.Side side) there (refl, (e, true_names s.ends e t, named)))
     by false t rest = ap (λ b. cond b (Some s.dir) (side_of demands e)) t ∙ rest
 
 -- a line that tells no side, or tells it
 pub side_found : (d : Demand) (e : End) (dir : Dir) (others : Option Dir) → side_by d e None ≡ Some dir → side_by d e others ≡ Some dir
 side_found (demand.Pin pin) e dir others h = absurd (cc)
+side_found (demand.Row row) e dir others h = absurd (cc)
 side_found (demand.Side side) e dir others h = by (names side.ends e) h where
   by : (b : Bool) → cond b (Some side.dir) None ≡ Some dir → cond b (Some side.dir) others ≡ Some dir
   by true h = h
@@ -169,6 +173,7 @@ side_found (demand.Side side) e dir others h = by (names side.ends e) h where
 
 pub side_missed : (d : Demand) (e : End) (others : Option Dir) → side_by d e None ≡ None → side_by d e others ≡ others
 side_missed (demand.Pin pin) e others h = refl
+side_missed (demand.Row row) e others h = refl
 side_missed (demand.Side side) e others h = by (names side.ends e) h where
   by : (b : Bool) → cond b (Some side.dir) None ≡ None → cond b (Some side.dir) others ≡ others
   by true h = absurd (cc)

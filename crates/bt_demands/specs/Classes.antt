@@ -28,6 +28,7 @@ is_end_input i (end.Output o) = false
 abbrev pub pins_input : ℕ → Demand → Bool
 pins_input i (demand.Pin pin) = is_end_input i pin.end
 pins_input i (demand.Side side) = false
+pins_input i (demand.Row row) = false
 
 -- this input is pinned
 abbrev pub is_pinned : List Demand → ℕ → Bool
@@ -51,6 +52,7 @@ names Outputs (end.Output o) = true
 abbrev pub side_by : Demand → End → Option Dir → Option Dir
 side_by (demand.Pin pin) e others = others
 side_by (demand.Side side) e others = if names side.ends e then Some side.dir else others
+side_by (demand.Row row) e others = others
 
 -- the side at which the end is to stand
 abbrev pub side_of : List Demand → End → Option Dir
@@ -58,8 +60,7 @@ side_of [] e = None
 side_of (d ∷ demands) e = side_by d e (side_of demands e)
 
 -- the class of an edge from the one to the other: that of the splitter which it leaves; where its input isn't pinned,
--- that of
--- the splitter into which it goes and of the side at which its input is to stand; and else one of its own
+-- that of the splitter into which it goes and of the side at which its input is to stand; and else one of its own
 abbrev pub class_between : List Demand → Start → Target → Class
 class_between demands (from.Split s) target = Split s
 class_between demands (from.Input i) (to.Split t) = if is_pinned demands i then Input i else Shared t (side_of demands (end.Input i))

@@ -1,5 +1,7 @@
 pub mod Classes
 pub mod Counting
+pub mod Enders
+pub mod Rows
 pub mod Pinning
 pub mod Starts
 pub mod Ends

@@ -1,4 +1,4 @@
--- Rules of pins and sides, and of blocks.
+-- Rules of pins, sides and rows, and of blocks.
 use Rattle.std.specs.List.{range_with_len, flat_map, filter}
 use Rattle.std.specs.Prelude.{ℕ, ◌==◌, Bool, true, false, not, ◌&&◌, List, [], ◌∷◌, ◌++◌, map, Option, Some, None, if◌then◌else◌}
 use Rattle.bt_parts.specs.declared.part.Cell.{Cell}
@@ -24,9 +24,11 @@ use Rattle.bt_facts.specs.declared.fact.Fact.TheVariants.{Kind, Carries, Begins,
 use Rattle.bt_facts.specs.declared.fact.Shape.{Shape}
 use Rattle.bt_facts.specs.declared.fact.Shape.TheVariants as shape
 use Rattle.bt_demands.specs.Classes.{class_of}
+use Rattle.bt_demands.specs.Rows.{row_rules}
+use Rattle.bt_demands.specs.Enders.{enders}
 use Rattle.bt_facts.specs.Facts.{holds}
 use Rattle.bt_facts.specs.Rules.{Rule, rule, some_of, not_all}
-use Rattle.bt_facts.specs.Spots.{dirs, others_than, border_of, where_outside}
+use Rattle.bt_facts.specs.Spots.{others_than, border_of, where_outside}
 
 -- the edge is that of this end
 abbrev pub is_edge_of : End → Edge → Bool
@@ -36,11 +38,6 @@ is_edge_of (Output o) edge = is_output o edge
 -- the cell of a pin has the class of the edge of its end
 abbrev pub pin_class_rules : LayoutRequest → Pin → List Rule
 pin_class_rules r pin = map (λ edge. some_of (Carries (pinned pin) (class_of r.demands edge) ∷ [])) (filter (is_edge_of pin.end) r.net.edges)
-
--- the belts and exits on the cell in front of which the rectangle ends
-abbrev pub enders : Rect → Cell → List Fact
-enders rect c = flat_map
-    (λ dir. where_outside rect (step dir c) (holds c shape.Belt dir ∷ holds c shape.Exit dir ∷ [])) dirs
 
 -- an input begins on the cell, or an output ends there
 abbrev pub end_facts : Rect → Cell → End → List Fact
@@ -114,6 +111,7 @@ pins_other o (Output u) = not (u == o)
 abbrev pub unpinned_rules : ℕ → Demand → List Rule
 unpinned_rules o (demand.Pin pin) = if pins_other o pin.end then not_all (Stops (pinned pin) o ∷ []) ∷ [] else []
 unpinned_rules o (demand.Side side) = []
+unpinned_rules o (demand.Row row) = []
 
 -- an output stops on some cell of the border, across this side, where no other output does
 abbrev pub output_rules : LayoutRequest → Dir → ℕ → List Rule
@@ -139,6 +137,7 @@ side_rules r side = flat_map (side_end_rules r side.dir) (ends_named r side.ends
 abbrev pub demand_rules : LayoutRequest → Demand → List Rule
 demand_rules r (demand.Pin pin) = pin_rules r pin
 demand_rules r (demand.Side side) = side_rules r side
+demand_rules r (demand.Row row) = row_rules r row
 
 -- a blocked cell holds nothing
 abbrev pub block_rule : Block → Rule

@@ -20,8 +20,7 @@ pub record IsGate (r : LayoutRequest) (gate : Gate) : Type 0 where
   pub leaving : gate.leaving.items ≡ filter (leaves gate.splitter) r.net.edges
 
 -- the plan of a request: its classes, those of inputs and those that must stay within the rectangle, the way of each
--- class and
--- the gate of each splitter
+-- class and the gate of each splitter
 pub record IsPlan (r : LayoutRequest) (plan : Plan) : Type 0 where
   pub is_request : IsRequest r
   pub classes : plan.classes.items ≡ classes_of r

@@ -19,6 +19,7 @@ has_outputs Outputs = true
 abbrev pub sides_outputs : Demand → Bool
 sides_outputs (demand.Pin pin) = false
 sides_outputs (demand.Side side) = has_outputs side.ends
+sides_outputs (demand.Row row) = false
 
 -- the number of outputs, where some are to stand at a side
 abbrev pub stopping : LayoutRequest → ℕ

@@ -26,7 +26,7 @@ fn pins_input(input: u32, demand: Demand) -> bool
 {
     match demand {
         Demand::Pin(pin) => is_end_input(input, pin.end),
-        Demand::Side(_) => false,
+        Demand::Side(_) | Demand::Row(_) => false,
     }
 }
 
@@ -54,7 +54,7 @@ fn side_by(demand: Demand, end: End) -> Option<Dir>
     ensures { result ≡ classes.side_by demand end None }
 {
     match demand {
-        Demand::Pin(_) => None,
+        Demand::Pin(_) | Demand::Row(_) => None,
         Demand::Side(side) => {
             if is_named(side.ends, end) {
                 Some(side.dir)

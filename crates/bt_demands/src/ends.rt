@@ -11,7 +11,7 @@ use bt_model::Request;
 use bt_parts::Cell;
 use std::alloc::{AllocError, Global};
 
-/// Adds the rules of inputs, pins, sides and blocks.
+/// Adds the rules of inputs, pins, sides, rows and blocks.
 pub fn add_ends(
     alloc: Global,
     draft: &mut Draft,
@@ -24,7 +24,7 @@ pub fn add_ends(
     let border = border_of(alloc, request.rect(), cells)?;
     let demands = request.demands();
     add_inputs(alloc, draft, request, &border)?;
-    add_demands(alloc, draft, request, &border, demands)?;
+    add_demands(alloc, draft, request, &border, cells, demands)?;
     add_clashes(draft, demands)?;
     add_blocks(draft, request.blocks())
 }

@@ -6,6 +6,7 @@ mod counting;
 mod ends;
 mod pinning;
 mod plan;
+mod rowing;
 mod siding;
 mod starts;
 
@@ -13,4 +14,5 @@ pub use classes::{class_of, enters, goes_to, leaves, same_class};
 pub use counting::{add_counts, has_room};
 pub use ends::add_ends;
 pub use plan::{Gate, Plan, Way};
+pub use rowing::lining;
 pub use siding::stopping;

@@ -3,6 +3,7 @@ ghost use Rattle.std.specs.Prelude.{◌≡◌, ◌<◌, ◌^◌, ◌++◌, ◌�
 ghost use Rattle.std.specs.List.{AllByRecursion};
 ghost use Rattle.bt_demands.specs.Classes.{class_of as class_of_edge};
 ghost use Rattle.bt_facts.specs.Facts as told;
+ghost use Rattle.bt_demands.specs.Enders.{enders as all_enders};
 ghost use Rattle.bt_demands.specs.Pinning as pinning;
 ghost use Rattle.bt_facts.specs.Rules.{some_of, not_all};
 ghost use Rattle.bt_facts.specs.Spots.{dirs, others_than as others_of};
@@ -78,9 +79,9 @@ pub fn push_enders(
 }
 
 /// The belts and exits on the cell in front of which the rectangle ends.
-fn enders(alloc: Global, rect: Rect, cell: Cell) -> Result<Vec<Fact>, AllocError>
+pub fn enders(alloc: Global, rect: Rect, cell: Cell) -> Result<Vec<Fact>, AllocError>
     requires { IsNear cell }
-    ensures { IfOk result (λ facts. facts.items ≡ pinning.enders rect cell) }
+    ensures { IfOk result (λ facts. facts.items ≡ all_enders rect cell) }
 {
     let mut facts = Vec::new(alloc);
     for dir in DIRS {

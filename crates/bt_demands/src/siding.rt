@@ -3,7 +3,7 @@ ghost use Rattle.std.specs.Prelude.{◌≡◌, ◌++◌, ◌∷◌, [], map, fla
 ghost use Rattle.std.specs.List.{All, AllByRecursion, list_any, range_with_len};
 ghost use Rattle.bt_demands.specs.Pinning as pinning;
 ghost use Rattle.bt_facts.specs.Rules.{rule, some_of, not_all};
-ghost use Rattle.bt_facts.specs.Spots.{border_of, others_than as others_of};
+ghost use Rattle.bt_facts.specs.Spots.{border_of, cells_of, others_than as others_of};
 ghost use Rattle.bt_demands.specs.Stopping as stops;
 ghost use Rattle.bt_facts.specs.Near.{IsNear};
 ghost use Rattle.bt_demands.specs.inner.Near.{IsPinnedNear, IsDemandedNear};
@@ -12,6 +12,7 @@ ghost use Rattle.bt_facts.specs.declared.fact.Fact.TheVariants as fact;
 
 use crate::classes::class_of;
 use crate::pinning::{add_pin, is_edge_of, push_enders};
+use crate::rowing::add_row;
 use bt_facts::{Class, Draft, Fact, Shape, cell_at, holds, others_than, stops_on};
 use bt_model::Request;
 use bt_net::{Demand, Edge, End, Ends, Pin, Side};
@@ -355,17 +356,20 @@ fn add_demand(
     draft: &mut Draft,
     request: &Request,
     border: &[Cell],
+    cells: &[Cell],
     demand: Demand,
 ) -> Result<(), AllocError>
     requires border { border.now ≡ border_of request.now.rect }
     requires near { AllByRecursion IsDemandedNear request.now.demands }
-    requires cells { All IsNear border.now }
+    requires near_border { All IsNear border.now }
+    requires cells { cells.now ≡ cells_of request.now.rect }
     requires demand { IsDemandedNear demand }
     ensures { OnOk result (draft.new ≡ draft.old ++ pinning.demand_rules request.now demand) }
 {
     match demand {
         Demand::Pin(pin) => add_pin(alloc, draft, request, &pin),
         Demand::Side(side) => add_side(alloc, draft, request, border, side),
+        Demand::Row(row) => add_row(alloc, draft, request, cells, row),
     }
 }
 
@@ -375,17 +379,19 @@ pub fn add_demands(
     draft: &mut Draft,
     request: &Request,
     border: &[Cell],
+    cells: &[Cell],
     demands: &[Demand],
 ) -> Result<(), AllocError>
     requires border { border.now ≡ border_of request.now.rect }
     requires near { AllByRecursion IsDemandedNear request.now.demands }
-    requires cells { All IsNear border.now }
+    requires near_border { All IsNear border.now }
+    requires cells { cells.now ≡ cells_of request.now.rect }
     requires demands { AllByRecursion IsDemandedNear demands.now }
     ensures { OnOk result (draft.new ≡ draft.old
         ++ flat_map (pinning.demand_rules request.now) demands.now) }
 {
     for demand in demands {
-        add_demand(alloc, draft, request, border, *demand)?;
+        add_demand(alloc, draft, request, border, cells, *demand)?;
     }
     Ok(())
 }
@@ -405,7 +411,7 @@ fn sides_outputs(demand: Demand) -> bool
     ensures { result ≡ stops.sides_outputs demand }
 {
     match demand {
-        Demand::Pin(_) => false,
+        Demand::Pin(_) | Demand::Row(_) => false,
         Demand::Side(side) => has_outputs(side.ends),
     }
 }

@@ -29,12 +29,11 @@ use Rattle.bt_net.specs.declared.network.Admitted.TheVariants as admitted
 use Rattle.bt_net.specs.Network.{Network}
 use Rattle.bt_net.specs.Refusals.{IsHeader}
 use Rattle.bt_net.specs.PinRefusals.{RefusesAll}
-use Rattle.bt_net.specs.PriorityRefusals.{Refuses}
 use Rattle.bt_designs.specs.declared.design.Laid.{Laid}
 use Rattle.bt_designs.specs.declared.fault.DesignFault.{DesignFault}
 use Rattle.bt_designs.specs.declared.fault.DesignFault.TheVariants as design
 use Rattle.bt_designs.specs.declared.refusal.Refusal.TheVariants as refusal
-use Rattle.bt_designs.specs.Designs.{IsJsonText, IsPlacedNet, IsLayoutNet, IsTieredLayout, IsTieredBlueprint, IsPlacedWith, IsLayoutWith, IsPreferringNet, IsJsonOf, IsToldOfLayout, IsDesign, IsBareDesign, in_basic_belts}
+use Rattle.bt_designs.specs.Designs.{IsJsonText, IsPlacedNet, IsLayoutNet, IsTieredLayout, IsTieredBlueprint, IsPlacedWith, IsLayoutWith, IsPreferringNet, IsTieredWith, IsTieredPreferring, IsJsonOf, IsToldOf, IsDesign, IsBareDesign, in_basic_belts}
 use Rattle.bt_designs.specs.Refusals.{json_told, entity_told, grid_told, layout_told, net_told}
 use Rattle.bt_designs.specs.Requested.{PinnedNet, pinned_laid, pinned_net, IsPinned}
 use Rattle.bt_designs.specs.Steps.{stopped, went_on}
@@ -165,6 +164,14 @@ preferring_none : (value : Json) (fault : DesignFault) → IsPreferringNet value
 preferring_none value fault (stopped f h e) = told_none fault (entity_told f) (entity_none f) e
 preferring_none value fault (went_on read h k) = laid_with_none read fault k
 
+tiered_with_none : (read : List Part × List Priority) (fault : DesignFault) → IsTieredWith read (Err fault) → NoOffset fault
+tiered_with_none read fault (stopped f h e) = subst NoOffset (sym (same_fault_of fault f e)) (laid_with_none read f h)
+tiered_with_none read fault (went_on net h k) = absurd (not_both (record { net = net; tier = k.0 }) fault (sym k.2))
+
+preferring_layout_none : (value : Json) (fault : DesignFault) → IsTieredPreferring value (Err fault) → NoOffset fault
+preferring_layout_none value fault (stopped f h e) = told_none fault (entity_told f) (entity_none f) e
+preferring_layout_none value fault (went_on read h k) = tiered_with_none read fault k
+
 -- ---- JSON text
 
 json_moved : (n : ℕ) (f : JsonFault) → moved_told n (json_told f) ≡ json_told (moved_fault n f)
@@ -218,16 +225,16 @@ module _ {X : Type 0} (IsOf : Json → Result X DesignFault → Type 0) (none : 
   json_fault_within bytes fault (went_on read h k) = seen_within (length bytes) read.1 read.0 fault k.0 k.1 k.2
 
 -- what is told of the layout that comes of JSON text behind blanks
-module _ {Y : Type 0} (told : Laid → Y) (bytes : List ℕ) where
-  pub told_behind : (blanks : List ℕ) (answer : Result (Y × ℕ) DesignFault) → All IsBlank blanks → IsToldOfLayout told bytes answer → IsToldOfLayout told (blanks ++ bytes) (moved (length blanks) answer)
+module _ {Y : Type 0} (IsOf : Json → Result Laid DesignFault → Type 0) (none : (value : Json) (fault : DesignFault) → IsOf value (Err fault) → NoOffset fault) (told : Laid → Y) (bytes : List ℕ) where
+  pub told_behind : (blanks : List ℕ) (answer : Result (Y × ℕ) DesignFault) → All IsBlank blanks → IsToldOf IsOf told bytes answer → IsToldOf IsOf told (blanks ++ bytes) (moved (length blanks) answer)
   told_behind blanks answer are (stopped fault k e) =
-      stopped (moved_told (length blanks) fault) (json_behind IsTieredBlueprint blueprint_none blanks bytes (Err fault) are k) (ap (moved (length blanks)) e)
+      stopped (moved_told (length blanks) fault) (json_behind IsOf none blanks bytes (Err fault) are k) (ap (moved (length blanks)) e)
   told_behind blanks answer are (went_on found k e) =
-      went_on (found.0, length blanks + found.1) (json_behind IsTieredBlueprint blueprint_none blanks bytes (Ok found) are k) (ap (moved (length blanks)) e)
+      went_on (found.0, length blanks + found.1) (json_behind IsOf none blanks bytes (Ok found) are k) (ap (moved (length blanks)) e)
 
   -- the offset of its refusal is within the text
-  pub told_fault_within : (fault : DesignFault) → IsToldOfLayout told bytes (Err fault) → IsFaultWithin (length bytes) fault
-  told_fault_within fault (stopped g h e) = subst (IsFaultWithin (length bytes)) (sym (same_fault_of fault g e)) (json_fault_within IsTieredBlueprint blueprint_none bytes g h)
+  pub told_fault_within : (fault : DesignFault) → IsToldOf IsOf told bytes (Err fault) → IsFaultWithin (length bytes) fault
+  told_fault_within fault (stopped g h e) = subst (IsFaultWithin (length bytes)) (sym (same_fault_of fault g e)) (json_fault_within IsOf none bytes g h)
   told_fault_within fault (went_on found h e) = absurd (not_both (told found.0, found.1) fault (sym e))
 
 -- ---- network text
@@ -253,12 +260,6 @@ all_refused may (b ∷ blanks) bytes are some =
     let first = first_line_of (b ∷ (blanks ++ bytes)) in
     (first.0, first.1, first.2, inl (refl, no_header b (blanks ++ bytes) first.0 first.1 (All-head IsBlank b blanks are) first.2))
 
-plain_refused : (blanks bytes : List ℕ) → All IsBlank blanks → 0 < length blanks → Refuses (blanks ++ bytes) (net.NetLine 1)
-plain_refused [] bytes are some = absurd (omega (arith, some))
-plain_refused (b ∷ blanks) bytes are some =
-    let first = first_line_of (b ∷ (blanks ++ bytes)) in
-    (first.0, first.1, first.2, inl (refl, no_header b (blanks ++ bytes) first.0 first.1 (All-head IsBlank b blanks are) first.2))
-
 -- ---- designs
 
 module _ (blanks bytes : List ℕ) (are : All IsBlank blanks) where
@@ -267,11 +268,11 @@ module _ (blanks bytes : List ℕ) (are : All IsBlank blanks) where
   design_behind answer is (inr h) = absurd (h.0 is)
 
   pub bare_behind : (answer : Result (Network × ℕ) DesignFault) → IsJsonText bytes → IsBareDesign bytes answer → IsBareDesign (blanks ++ bytes) (moved (length blanks) answer)
-  bare_behind answer is (inl h) = inl (json_behind_blanks blanks bytes are is, told_behind in_basic_belts bytes blanks answer are h.1)
+  bare_behind answer is (inl h) = inl (json_behind_blanks blanks bytes are is, told_behind IsTieredBlueprint blueprint_none in_basic_belts bytes blanks answer are h.1)
   bare_behind answer is (inr h) = absurd (h.0 is)
 
   pub pinned_behind : (answer : Result (PinnedNet × ℕ) DesignFault) → IsJsonText bytes → IsPinned bytes answer → IsPinned (blanks ++ bytes) (moved (length blanks) answer)
-  pinned_behind answer is (inl h) = inl (json_behind_blanks blanks bytes are is, told_behind pinned_laid bytes blanks answer are h.1)
+  pinned_behind answer is (inl h) = inl (json_behind_blanks blanks bytes are is, told_behind IsTieredPreferring preferring_layout_none pinned_laid bytes blanks answer are h.1)
   pinned_behind answer is (inr h) = absurd (h.0 is)
 
   module _ (some : 0 < length blanks) (other : IsJsonText bytes → ⊥) where
@@ -279,7 +280,7 @@ module _ (blanks bytes : List ℕ) (are : All IsBlank blanks) where
     not_json is = other (json_before_blanks blanks bytes are is)
 
     pub design_indented : IsDesign (blanks ++ bytes) (Err (design.Refused (refusal.NetLine 1)))
-    design_indented = inr (not_json, stopped (net.NetLine 1) (plain_refused blanks bytes are some) refl)
+    design_indented = inr (not_json, stopped (net.NetLine 1) (all_refused admitted.Priorities blanks bytes are some) refl)
 
     pub bare_indented : IsBareDesign (blanks ++ bytes) (Err (design.Refused (refusal.NetLine 1)))
     bare_indented = inr (not_json, stopped (net.NetLine 1) (all_refused admitted.Nothing blanks bytes are some) refl)
@@ -298,11 +299,11 @@ module _ (bytes : List ℕ) (fault : DesignFault) where
   design_fault_within (inr (none, went_on read h e)) = absurd (not_both (read.net, read.used) fault (sym e))
 
   pub bare_fault_within : IsBareDesign bytes (Err fault) → IsFaultWithin (length bytes) fault
-  bare_fault_within (inl h) = told_fault_within in_basic_belts bytes fault h.1
+  bare_fault_within (inl h) = told_fault_within IsTieredBlueprint blueprint_none in_basic_belts bytes fault h.1
   bare_fault_within (inr (none, stopped f h e)) = net_within f e
   bare_fault_within (inr (none, went_on read h e)) = absurd (not_both (read.net, read.used) fault (sym e))
 
   pub pinned_fault_within : IsPinned bytes (Err fault) → IsFaultWithin (length bytes) fault
-  pinned_fault_within (inl h) = told_fault_within pinned_laid bytes fault h.1
+  pinned_fault_within (inl h) = told_fault_within IsTieredPreferring preferring_layout_none pinned_laid bytes fault h.1
   pinned_fault_within (inr (none, stopped f h e)) = net_within f e
   pinned_fault_within (inr (none, went_on read h e)) = absurd (not_both (pinned_net read.net read.demands read.blocks, read.used) fault (sym e))

@@ -21,13 +21,14 @@ use Rattle.bt_net.specs.Network.{Network}
 use Rattle.bt_net.specs.NetText.{header}
 use Rattle.bt_net.specs.Readings.{Reading, IsPlainRead}
 use Rattle.bt_net.specs.Longer.{with_line_feed, StaysRefused}
-use Rattle.bt_net.proofs.Longer.{plain_stays, plain_stays_refused}
+use Rattle.bt_net.specs.declared.network.Admitted.TheVariants.{Priorities}
+use Rattle.bt_net.proofs.Longer.{reading_stays, stays_refused}
 use Rattle.bt_designs.specs.declared.design.Laid.{Laid}
 use Rattle.bt_designs.specs.declared.fault.DesignFault.{DesignFault}
 use Rattle.bt_designs.specs.declared.fault.DesignFault.TheVariants.{Refused}
 use Rattle.bt_designs.specs.declared.refusal.Refusal.TheVariants.{NetLine}
 use Rattle.bt_designs.specs.declared.refusal.Refusal.TheVariants as refusal
-use Rattle.bt_designs.specs.Designs.{IsJsonText, IsJsonOf, IsPreferringNet, IsTieredBlueprint, IsTextDesign, IsDesign, IsToldOfLayout}
+use Rattle.bt_designs.specs.Designs.{IsJsonText, IsJsonOf, IsPreferringNet, IsTextDesign, IsDesign, IsToldOf}
 use Rattle.bt_designs.specs.Longer.{DesignStays, IsOtherText, IsSettled, RefusalStays}
 use Rattle.bt_designs.specs.Refusals.{json_told, net_told}
 use Rattle.bt_designs.specs.Steps.{InTurn, stopped, went_on}
@@ -155,10 +156,10 @@ module _ (bytes : List ℕ) (n : Network) (used : ℕ) where
 
   text_stays : IsTextDesign bytes (Ok (n, used)) → Stays
   text_stays (stopped fault h e) = absurd (not_both (n, used) (net_told fault) e)
-  text_stays (went_on read h e) = by (plain_stays bytes read h)
+  text_stays (went_on read h e) = by (reading_stays Priorities bytes read h)
     where
       other : IsOtherText bytes
-      other = net_first bytes (drop read.used bytes) read.net (h.begins.edge_lines ++ (h.begins.priority_lines ++ codes "end" ∷ [])) h.begins.begins
+      other = net_first bytes (drop read.used bytes) read.net (h.begins.edge_lines ++ (h.begins.priority_lines ++ (h.begins.demand_lines ++ (h.begins.block_lines ++ codes "end" ∷ [])))) h.begins.begins
 
       same : ◌≡◌ {A = Network × ℕ} (n, used) (read.net, read.used)
       same = same_value (n, used) (read.net, read.used) e
@@ -200,26 +201,26 @@ pub json_settled : {A : Type 0} (bytes : List ℕ) (fault : DesignFault) → fau
 json_settled bytes fault other why e same = other (same_fault_of fault (json_told why) e ∙ ap json_told same)
 
 -- what is told of the layout that comes of JSON text
-module _ {Y : Type 0} (told : Laid → Y) (bytes : List ℕ) where
+module _ {Y : Type 0} (IsOf : Json → Result Laid DesignFault → Type 0) (told : Laid → Y) (bytes : List ℕ) where
   -- it stands at the front of longer bytes
-  pub told_stays : (more : List ℕ) (y : Y) (used : ℕ) → IsJsonText bytes → IsToldOfLayout told bytes (Ok (y, used)) → IsToldOfLayout told (bytes ++ more) (Ok (y, used))
+  pub told_stays : (more : List ℕ) (y : Y) (used : ℕ) → IsJsonText bytes → IsToldOf IsOf told bytes (Ok (y, used)) → IsToldOf IsOf told (bytes ++ more) (Ok (y, used))
   told_stays more y used is (stopped fault h e) = absurd (not_both (y, used) fault e)
   told_stays more y used is (went_on found h e) =
-      went_on found (json_of_stays IsTieredBlueprint bytes more (Ok found) is (λ fault other. absurd (not_both found _ other)) h) e
+      went_on found (json_of_stays IsOf bytes more (Ok found) is (λ fault other. absurd (not_both found _ other)) h) e
 
   -- ends within the bytes
-  pub told_within : (y : Y) (used : ℕ) → IsToldOfLayout told bytes (Ok (y, used)) → used ≤ length bytes
+  pub told_within : (y : Y) (used : ℕ) → IsToldOf IsOf told bytes (Ok (y, used)) → used ≤ length bytes
   told_within y used (stopped fault h e) = absurd (not_both (y, used) fault e)
   told_within y used (went_on found h e) =
-      let same : used ≡ found.1 = ap (λ (x : Y × ℕ). x.1) (same_value (y, used) (told found.0, found.1) e) in omega (arith, same, json_within IsTieredBlueprint bytes found.0 found.1 h)
+      let same : used ≡ found.1 = ap (λ (x : Y × ℕ). x.1) (same_value (y, used) (told found.0, found.1) e) in omega (arith, same, json_within IsOf bytes found.0 found.1 h)
 
   -- and is refused alike there
-  pub told_refused : (more : List ℕ) (fault : DesignFault) → IsJsonText bytes → fault ≢ Refused (refusal.Json (length bytes)) → IsToldOfLayout told bytes (Err fault)
-      → IsToldOfLayout told (bytes ++ more) (Err fault)
+  pub told_refused : (more : List ℕ) (fault : DesignFault) → IsJsonText bytes → fault ≢ Refused (refusal.Json (length bytes)) → IsToldOf IsOf told bytes (Err fault)
+      → IsToldOf IsOf told (bytes ++ more) (Err fault)
   told_refused more fault is other (went_on found h e) = absurd (not_both (told found.0, found.1) fault (sym e))
   told_refused more fault is other (stopped why h e) =
       let same : why ≡ fault = sym (same_fault_of {A = Y × ℕ} fault why e) in
-      stopped why (json_of_stays IsTieredBlueprint bytes more (Err why) is (json_settled bytes why (subst (λ f. f ≢ Refused (refusal.Json (length bytes))) (sym same) other)) h) e
+      stopped why (json_of_stays IsOf bytes more (Err why) is (json_settled bytes why (subst (λ f. f ≢ Refused (refusal.Json (length bytes))) (sym same) other)) h) e
 
 -- other text is no JSON text
 pub not_json : (bytes : List ℕ) → IsOtherText bytes → IsJsonText bytes → ⊥
@@ -231,7 +232,7 @@ module _ (bytes more : List ℕ) (fault : DesignFault) where
   refusal_stays_of (inl (is, other)) (inr (none, h)) = absurd (none is)
   refusal_stays_of (inr (text, (lines, e), other)) (inl (is, h)) = absurd (not_json bytes text is)
   refusal_stays_of (inr (text, (lines, e), other)) (inr (none, h)) =
-      inr (other_text_stays bytes more text, read_refused IsPlainRead plain_stays_refused (λ read. (read.net, read.used)) bytes more lines fault e other h)
+      inr (other_text_stays bytes more text, read_refused IsPlainRead (stays_refused Priorities) (λ read. (read.net, read.used)) bytes more lines fault e other h)
 
 -- a settled refusal is that of all longer bytes
 pub refusal_stays : RefusalStays

@@ -6,6 +6,8 @@ use Rattle.bt_net.specs.Readings.{IsNetRead}
 use Rattle.bt_net.specs.Longer.{with_line_feed}
 use Rattle.bt_net.proofs.Longer.{reading_stays, stays_refused}
 use Rattle.bt_designs.specs.declared.fault.DesignFault.{DesignFault}
+use Rattle.bt_designs.specs.declared.refusal.Refusal.TheVariants as refusal
+use Rattle.bt_designs.specs.Designs.{IsTieredPreferring}
 use Rattle.bt_designs.specs.Longer.{IsSettled}
 use Rattle.bt_designs.specs.Refusals.{net_told}
 use Rattle.bt_designs.specs.Requested.{PinnedNet, pinned_laid, pinned_net, IsPinnedText, IsPinned}
@@ -26,10 +28,10 @@ module _ (bytes : List ℕ) (n : PinnedNet) (used : ℕ) where
     where
       by : ((more : List ℕ) → IsNetRead All (bytes ++ more) (Ok read)) ⊎ ((read.used ≡ length bytes) × ((more : List ℕ) → IsNetRead All (bytes ++ 10 ∷ more) (Ok (with_line_feed read)))) → PinnedStays
       by (inl stays) =
-          let other = net_first bytes (drop read.used bytes) read.net (h.begins.edge_lines ++ (h.begins.demand_lines ++ (h.begins.block_lines ++ codes "end" ∷ []))) h.begins.begins in
+          let other = net_first bytes (drop read.used bytes) read.net (h.begins.edge_lines ++ (h.begins.priority_lines ++ (h.begins.demand_lines ++ (h.begins.block_lines ++ codes "end" ∷ [])))) h.begins.begins in
           inl (λ more. inr (other_text_stays bytes more other, went_on read (stays more) e))
       by (inr (all, fed)) =
-          let other = net_first bytes (drop read.used bytes) read.net (h.begins.edge_lines ++ (h.begins.demand_lines ++ (h.begins.block_lines ++ codes "end" ∷ []))) h.begins.begins in
+          let other = net_first bytes (drop read.used bytes) read.net (h.begins.edge_lines ++ (h.begins.priority_lines ++ (h.begins.demand_lines ++ (h.begins.block_lines ++ codes "end" ∷ [])))) h.begins.begins in
           let same = same_value (n, used) (pinned_net read.net read.demands read.blocks, read.used) e in
           inr (
             place_of n (pinned_net read.net read.demands read.blocks) used read.used e ∙ all,
@@ -38,7 +40,7 @@ module _ (bytes : List ℕ) (n : PinnedNet) (used : ℕ) where
 
   -- it stands at the front of longer ones
   pub pinned_stays : IsPinned bytes (Ok (n, used)) → PinnedStays
-  pinned_stays (inl (is, h)) = inl (λ more. inl (json_text_stays bytes more is, told_stays pinned_laid bytes more n used is h))
+  pinned_stays (inl (is, h)) = inl (λ more. inl (json_text_stays bytes more is, told_stays IsTieredPreferring pinned_laid bytes more n used is h))
   pinned_stays (inr (none, h)) = pinned_text_stays h
 
   pinned_text_within : IsPinnedText All bytes (Ok (n, used)) → used ≤ length bytes
@@ -48,7 +50,7 @@ module _ (bytes : List ℕ) (n : PinnedNet) (used : ℕ) where
 
   -- it ends within the bytes
   pub pinned_within : IsPinned bytes (Ok (n, used)) → used ≤ length bytes
-  pinned_within (inl h) = told_within pinned_laid bytes n used h.1
+  pinned_within (inl h) = told_within IsTieredPreferring pinned_laid bytes n used h.1
   pinned_within (inr h) = pinned_text_within h.1
 
 -- a network with pins, sides and blocks that ends before the bytes do is that of the bytes and whatever follows
@@ -62,7 +64,7 @@ pinned_goes_on bytes more found h few = by (pinned_stays bytes found.0 found.1 h
 -- a settled refusal is that of all longer bytes
 module _ (bytes more : List ℕ) (fault : DesignFault) where
   pub pinned_refusal_stays : IsSettled bytes fault → IsPinned bytes (Err fault) → IsPinned (bytes ++ more) (Err fault)
-  pinned_refusal_stays (inl (is, other)) (inl (json, h)) = inl (json_text_stays bytes more is, told_refused pinned_laid bytes more fault is other h)
+  pinned_refusal_stays (inl (is, other)) (inl (json, h)) = inl (json_text_stays bytes more is, told_refused IsTieredPreferring pinned_laid bytes more fault is other h)
   pinned_refusal_stays (inl (is, other)) (inr (none, h)) = absurd (none is)
   pinned_refusal_stays (inr (text, (lines, e), other)) (inl (is, h)) = absurd (not_json bytes text is)
   pinned_refusal_stays (inr (text, (lines, e), other)) (inr (none, h)) =

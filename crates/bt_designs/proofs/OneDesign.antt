@@ -7,9 +7,8 @@ use Rattle.bt_json.proofs.OneRead.{one_read}
 use Rattle.bt_entities.specs.Answers.{IsPartsOf, IsPrioritisedOf}
 use Rattle.bt_entities.proofs.OneAnswer.{one_parts, one_reading}
 use Rattle.bt_net.specs.Network.{Network, IsNetwork}
-use Rattle.bt_net.specs.declared.network.Admitted.TheVariants.{Nothing}
+use Rattle.bt_net.specs.declared.network.Admitted.TheVariants.{Nothing, Priorities}
 use Rattle.bt_net.specs.Readings.{IsNetRead, IsPlainRead}
-use Rattle.bt_net.proofs.OnePlain.{one_plain}
 use Rattle.bt_net.proofs.OneReading.{one_read as one_net_read}
 use Rattle.bt_hands.specs.declared.hand.Priority.{Priority}
 use Rattle.bt_parts.specs.declared.part.Part.{Part}
@@ -20,7 +19,7 @@ use Rattle.bt_recover.specs.Recovered.{IsRecovered}
 use Rattle.bt_recover.specs.Preferred.{IsRecoveredWith}
 use Rattle.bt_recover.proofs.OneRecovery.{one_recovery}
 use Rattle.bt_recover.proofs.PreferLemmas.{one_recovery_with}
-use Rattle.bt_designs.specs.Designs.{HaveTier, IsTierOf, IsPlacedNet, IsLayoutNet, IsTieredLayout, IsTieredBlueprint, IsPlacedWith, IsLayoutWith, IsPreferringNet, IsJsonOf, IsJsonDesign, IsJsonLayout, IsToldOfLayout, IsTextDesign, IsDesign, IsBareText, IsBareDesign, in_basic_belts}
+use Rattle.bt_designs.specs.Designs.{HaveTier, IsTierOf, IsPlacedNet, IsLayoutNet, IsTieredLayout, IsTieredBlueprint, IsPlacedWith, IsLayoutWith, IsPreferringNet, IsTieredWith, IsTieredPreferring, IsJsonOf, IsJsonDesign, IsToldOf, IsToldOfLayout, IsTextDesign, IsDesign, IsBareText, IsBareDesign, in_basic_belts}
 use Rattle.bt_designs.specs.declared.design.Laid.{Laid}
 use Rattle.bt_designs.specs.declared.fault.DesignFault.{DesignFault}
 use Rattle.bt_designs.specs.Refusals.{json_told, entity_told, grid_told, layout_told, net_told}
@@ -60,6 +59,13 @@ one_layout_with read = one_in_turn (IsPlaced read.0) _ _ (one_placed read.0) (on
 one_preferring_net : (value : Json) → HasOneAnswer (IsPreferringNet value)
 one_preferring_net value = one_in_turn (IsPrioritisedOf value) _ _ (one_reading value) one_layout_with
 
+one_tiered_with : (read : List Part × List Priority) → HasOneAnswer (IsTieredWith read)
+one_tiered_with read = one_in_turn (IsLayoutWith read) Err _ (one_layout_with read)
+    (λ net a b h k. h.2 ∙ ap (λ tier. Ok (record { net = net; tier = tier })) (one_tier read.0 h.0 k.0 h.1 k.1) ∙ sym k.2)
+
+one_preferring_layout : (value : Json) → HasOneAnswer (IsTieredPreferring value)
+one_preferring_layout value = one_in_turn (IsPrioritisedOf value) _ _ (one_reading value) one_tiered_with
+
 -- two right answers to JSON text are equal
 one_json_of : {X : Type 0} (IsOf : Json → Result X DesignFault → Type 0) → ((value : Json) → HasOneAnswer (IsOf value)) → (bytes : List ℕ) → HasOneAnswer (IsJsonOf IsOf bytes)
 one_json_of {X} IsOf one bytes = one_in_turn (IsRead bytes) _ _ (one_read bytes)
@@ -68,15 +74,18 @@ one_json_of {X} IsOf one bytes = one_in_turn (IsRead bytes) _ _ (one_read bytes)
 pub one_json_design : (bytes : List ℕ) → HasOneAnswer (IsJsonDesign bytes)
 one_json_design bytes = one_json_of IsPreferringNet one_preferring_net bytes
 
-one_json_layout : (bytes : List ℕ) → HasOneAnswer (IsJsonLayout bytes)
-one_json_layout bytes = one_json_of IsTieredBlueprint one_blueprint bytes
+one_told_of : {Y : Type 0} (IsOf : Json → Result Laid DesignFault → Type 0) → ((value : Json) → HasOneAnswer (IsOf value)) → (told : Laid → Y) (bytes : List ℕ) → HasOneAnswer (IsToldOf IsOf told bytes)
+one_told_of IsOf one told bytes = one_in_turn (IsJsonOf IsOf bytes) Err _ (one_json_of IsOf one bytes) (λ found a b h k. h ∙ sym k)
 
 pub one_told_of_layout : {Y : Type 0} (told : Laid → Y) (bytes : List ℕ) → HasOneAnswer (IsToldOfLayout told bytes)
-one_told_of_layout told bytes = one_in_turn (IsJsonLayout bytes) Err _ (one_json_layout bytes) (λ found a b h k. h ∙ sym k)
+one_told_of_layout told bytes = one_told_of IsTieredBlueprint one_blueprint told bytes
+
+pub one_told_of_preferring : {Y : Type 0} (told : Laid → Y) (bytes : List ℕ) → HasOneAnswer (IsToldOf IsTieredPreferring told bytes)
+one_told_of_preferring told bytes = one_told_of IsTieredPreferring one_preferring_layout told bytes
 
 -- two right answers to network text are equal
 pub one_text_design : (bytes : List ℕ) → HasOneAnswer (IsTextDesign bytes)
-one_text_design bytes = one_in_turn (IsPlainRead bytes) _ _ (one_plain bytes) (λ read a b h k. h ∙ sym k)
+one_text_design bytes = one_in_turn (IsPlainRead bytes) _ _ (one_net_read Priorities bytes) (λ read a b h k. h ∙ sym k)
 
 -- two right answers to the bytes of a design are equal
 pub one_design : (bytes : List ℕ) → HasOneAnswer (IsDesign bytes)

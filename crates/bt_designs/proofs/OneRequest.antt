@@ -17,15 +17,15 @@ use Rattle.bt_designs.proofs.OwnSides.{one_own_sides}
 use Rattle.bt_designs.specs.Requested.{PinnedNet, asked_for, pinned_laid, IsPinnedText, IsPinned, IsRequestFor, IsLoneRequest, IsFrontRequest, IsSidedRequest}
 use Rattle.bt_designs.specs.Steps.{stopped, went_on}
 use Rattle.bt_designs.proofs.InTurns.{one_in_turn, same_value, not_both}
-use Rattle.bt_designs.proofs.OneDesign.{one_told_of_layout, seen_ok}
+use Rattle.bt_designs.proofs.OneDesign.{one_told_of_preferring, seen_ok}
 use Rattle.bt_designs.proofs.StandingAlone.{one_alone}
 
 one_pinned_text : (may : Admitted) (bytes : List ℕ) → HasOneAnswer (IsPinnedText may bytes)
 one_pinned_text may bytes = one_in_turn (IsNetRead may bytes) _ _ (one_read may bytes) (λ read a b h k. h ∙ sym k)
 
--- two right answers to the bytes of a design with pins, sides and blocks are equal
+-- two right answers to the bytes of a design with pins, sides, rows and blocks are equal
 one_pinned : (bytes : List ℕ) → HasOneAnswer (IsPinned bytes)
-one_pinned bytes a b (inl h) (inl k) = one_told_of_layout pinned_laid bytes a b h.1 k.1
+one_pinned bytes a b (inl h) (inl k) = one_told_of_preferring pinned_laid bytes a b h.1 k.1
 one_pinned bytes a b (inl h) (inr k) = absurd (k.0 h.0)
 one_pinned bytes a b (inr h) (inl k) = absurd (h.0 k.0)
 one_pinned bytes a b (inr h) (inr k) = one_pinned_text All bytes a b h.1 k.1

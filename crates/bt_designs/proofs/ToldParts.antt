@@ -14,7 +14,7 @@ use Rattle.bt_designs.specs.declared.fault.DesignFault.TheVariants as design
 use Rattle.bt_designs.specs.declared.held.Held.{Held}
 use Rattle.bt_designs.specs.declared.refusal.Refusal.{Refusal}
 use Rattle.bt_designs.specs.declared.refusal.Refusal.TheVariants as refusal
-use Rattle.bt_designs.specs.Designs.{IsJsonText, IsDesign, IsBareDesign, in_basic_belts}
+use Rattle.bt_designs.specs.Designs.{IsJsonText, IsDesign, IsBareDesign, IsTieredBlueprint, in_basic_belts}
 use Rattle.bt_designs.specs.Longer.{IsOtherText, IsSettled}
 use Rattle.bt_designs.specs.Requested.{IsPinned}
 use Rattle.bt_designs.specs.Told.{MayFollow, LastsBehind, IsAtHand, TellsFront}
@@ -223,7 +223,7 @@ pinned_last = record {
 
 -- a settled refusal of a bare design is that of all longer bytes
 bare_stays : (bytes more : List ℕ) (fault : DesignFault) → IsSettled bytes fault → IsBareDesign bytes (Err fault) → IsBareDesign (bytes ++ more) (Err fault)
-bare_stays bytes more fault (inl (is, other)) (inl h) = inl (json_text_stays bytes more is, told_refused in_basic_belts bytes more fault is other h.1)
+bare_stays bytes more fault (inl (is, other)) (inl h) = inl (json_text_stays bytes more is, told_refused IsTieredBlueprint in_basic_belts bytes more fault is other h.1)
 bare_stays bytes more fault (inl (is, other)) (inr h) = absurd (h.0 is)
 bare_stays bytes more fault (inr (text, (lines, e), other)) (inl h) = absurd (not_json bytes text h.0)
 bare_stays bytes more fault (inr (text, (lines, e), other)) (inr h) =

@@ -3,66 +3,56 @@ use Rattle.std.proofs.Common.{◌≡◌, ◌⊎◌, ℕ, zero, suc, ◌+◌, ◌
 use Rattle.std.specs.Prelude.{codes, slice_index}
 use Rattle.std.proofs.lemmas.List.{append_assoc, length-drop, take-append-drop, drop-append-le}
 use Rattle.bt_text.specs.Blanks.{IsBlank, SkipsBlanks}
-use Rattle.bt_net.specs.declared.network.Admitted.TheVariants.{All}
+use Rattle.bt_net.specs.declared.network.Admitted.TheVariants.{Nothing}
+use Rattle.bt_net.specs.Longer.{with_line_feed}
+use Rattle.bt_net.specs.Readings.{IsNetRead}
+use Rattle.bt_net.proofs.Longer.{reading_stays}
 use Rattle.bt_net.specs.Network.{Network, IsNetwork}
-use Rattle.bt_designs.proofs.BareReadings.{nothing_read, bare_is_read, read_is_bare}
 use Rattle.bt_same.specs.Sameness.{HaveEqualEnds}
 use Rattle.bt_designs.specs.Alone.{IsAlone}
-use Rattle.bt_designs.specs.Designs.{IsBareText, IsBareDesign, in_basic_belts, sped}
+use Rattle.bt_designs.specs.Designs.{IsTieredBlueprint, IsBareText, IsBareDesign, in_basic_belts}
+use Rattle.bt_designs.specs.Longer.{IsOtherText}
 use Rattle.bt_designs.specs.Refusals.{net_told}
-use Rattle.bt_designs.specs.Requested.{PinnedNet, pinned_laid, pinned_net, IsPinned, IsPinnedText}
 use Rattle.bt_designs.specs.Steps.{stopped, went_on}
 use Rattle.bt_designs.specs.TwoDesigns.{HaveSameEnds, IsTwoNets, IsFrontNets}
 use Rattle.bt_designs.proofs.BareNets.{bare_network, paired}
 use Rattle.bt_designs.proofs.Followed.{StandsAlone, IsFollowed, is_followed, stands_alone}
 use Rattle.bt_designs.proofs.InTurns.{same_value, not_both}
-use Rattle.bt_designs.proofs.LongerDesigns.{json_text_stays, net_first, told_stays, told_within}
-use Rattle.bt_designs.proofs.LongerRequests.{PinnedStays, pinned_stays, pinned_within}
+use Rattle.bt_designs.proofs.LongerDesigns.{json_text_stays, net_first, other_text_stays, told_stays, told_within}
 
--- ---- the text of a bare design is one that asks for nothing
-
-module _ (bytes : List ℕ) (n : Network) (used : ℕ) where
-  to_pinned : IsBareText bytes (Ok (n, used)) → IsPinnedText All bytes (Ok (pinned_net n [] [], used))
-  to_pinned (stopped fault h e) = absurd (not_both (n, used) (net_told fault) e)
-  to_pinned (went_on read h e) =
-      let same = same_value (n, used) (read.net, read.used) e in
-      let bare = nothing_read bytes read h in
-      let demands = sym bare.0 in
-      let blocks = sym bare.1 in
-      went_on read (bare_is_read bytes read h) (λ i. Ok (pinned_net (same i).0 (demands i) (blocks i), (same i).1))
-
-  from_pinned : IsPinned bytes (Ok (pinned_net n [] [], used)) → IsBareDesign bytes (Ok (n, used))
-  from_pinned (inl (is, stopped fault h e)) = absurd (not_both (pinned_net n [] [], used) fault e)
-  from_pinned (inl (is, went_on found h e)) =
-      let same = same_value (pinned_net n [] [], used) (pinned_laid found.0, found.1) e in
-      let net = ap (λ (x : PinnedNet × ℕ). x.0.net) same in
-      let tier = ap (λ (x : PinnedNet × ℕ). x.0.tier) same in
-      let end = ap (λ (x : PinnedNet × ℕ). x.1) same in
-      inl (is, went_on found h (λ i. Ok (sped (net i) (tier i), end i)))
-  from_pinned (inr (none, stopped fault h e)) = absurd (not_both (pinned_net n [] [], used) _ e)
-  from_pinned (inr (none, went_on read h e)) =
-      let same = same_value (pinned_net n [] [], used) (pinned_net read.net read.demands read.blocks, read.used) e in
-      inr (
-        none,
-        went_on read
-            (read_is_bare bytes read h (ap (λ (x : PinnedNet × ℕ). x.0.demands) (sym same)) (ap (λ (x : PinnedNet × ℕ). x.0.blocks) (sym same)))
-            (ap (λ (x : PinnedNet × ℕ). Ok (x.0.net, x.1)) same),
-      )
+-- ---- the text of a bare design
 
 abbrev BareStays : List ℕ → Network → ℕ → Type 0
 BareStays bytes n used = ((more : List ℕ) → IsBareDesign (bytes ++ more) (Ok (n, used))) ⊎ ((used ≡ length bytes) × ((more : List ℕ) → IsBareDesign (bytes ++ 10 ∷ more) (Ok (n, used + 1))))
 
+module _ (bytes : List ℕ) (n : Network) (used : ℕ) where
+  bare_text_within : IsBareText bytes (Ok (n, used)) → used ≤ length bytes
+  bare_text_within (stopped fault h e) = absurd (not_both (n, used) (net_told fault) e)
+  bare_text_within (went_on read h e) =
+      let same = ap (λ (x : Network × ℕ). x.1) (same_value (n, used) (read.net, read.used) e) in omega (arith, same, h.used)
+
+  bare_text_stays : IsBareText bytes (Ok (n, used)) → BareStays bytes n used
+  bare_text_stays (stopped fault h e) = absurd (not_both (n, used) (net_told fault) e)
+  bare_text_stays (went_on read h e) = by (reading_stays Nothing bytes read h)
+    where
+      other : IsOtherText bytes
+      other = net_first bytes (drop read.used bytes) read.net (h.begins.edge_lines ++ (h.begins.priority_lines ++ (h.begins.demand_lines ++ (h.begins.block_lines ++ codes "end" ∷ [])))) h.begins.begins
+
+      same : ◌≡◌ {A = Network × ℕ} (n, used) (read.net, read.used)
+      same = same_value (n, used) (read.net, read.used) e
+
+      by : ((more : List ℕ) → IsNetRead Nothing (bytes ++ more) (Ok read)) ⊎ ((read.used ≡ length bytes) × ((more : List ℕ) → IsNetRead Nothing (bytes ++ 10 ∷ more) (Ok (with_line_feed read)))) → BareStays bytes n used
+      by (inl stays) = inl (λ more. inr (other_text_stays bytes more other, went_on read (stays more) e))
+      by (inr (all, fed)) =
+          inr (ap (λ (x : Network × ℕ). x.1) same ∙ all, λ more. inr (other_text_stays bytes (10 ∷ more) other, went_on (with_line_feed read) (fed more) (ap (λ (x : Network × ℕ). Ok (x.0, x.1 + 1)) same)))
+
 bare_within : (bytes : List ℕ) (n : Network) (used : ℕ) → IsBareDesign bytes (Ok (n, used)) → used ≤ length bytes
-bare_within bytes n used (inl h) = told_within in_basic_belts bytes n used h.1
-bare_within bytes n used (inr (none, h)) = pinned_within bytes (pinned_net n [] []) used (inr (none, to_pinned bytes n used h))
+bare_within bytes n used (inl h) = told_within IsTieredBlueprint in_basic_belts bytes n used h.1
+bare_within bytes n used (inr h) = bare_text_within bytes n used h.1
 
 bare_stays : (bytes : List ℕ) (n : Network) (used : ℕ) → IsBareDesign bytes (Ok (n, used)) → BareStays bytes n used
-bare_stays bytes n used (inl (is, h)) = inl (λ more. inl (json_text_stays bytes more is, told_stays in_basic_belts bytes more n used is h))
-bare_stays bytes n used (inr (none, h)) = by (pinned_stays bytes (pinned_net n [] []) used (inr (none, to_pinned bytes n used h)))
-  where
-    by : PinnedStays bytes (pinned_net n [] []) used → BareStays bytes n used
-    by (inl stays) = inl (λ more. from_pinned (bytes ++ more) n used (stays more))
-    by (inr (all, fed)) = inr (all, λ more. from_pinned (bytes ++ 10 ∷ more) n (used + 1) (fed more))
+bare_stays bytes n used (inl (is, h)) = inl (λ more. inl (json_text_stays bytes more is, told_stays IsTieredBlueprint in_basic_belts bytes more n used is h))
+bare_stays bytes n used (inr (none, h)) = bare_text_stays bytes n used h
 
 pub bare_goes_on : (bytes : List ℕ) (n : Network) (used : ℕ) → IsBareDesign bytes (Ok (n, used)) → (more : List ℕ) → used < length bytes → IsBareDesign (bytes ++ more) (Ok (n, used))
 bare_goes_on bytes n used h more few = by (bare_stays bytes n used h)
@@ -76,7 +66,7 @@ never_empty : (n : Network) (used : ℕ) → IsBareDesign [] (Ok (n, used)) → 
 never_empty n used (inl ((rest, s), h)) = omega (arith, ap length s.text_is, length-append s.blanks (123 ∷ rest))
 never_empty n used (inr (none, stopped fault h e)) = not_both (n, used) (net_told fault) e
 never_empty n used (inr (none, went_on read h e)) =
-    let other = net_first [] (drop read.used []) read.net (h.begins.edge_lines ++ (h.begins.demand_lines ++ (h.begins.block_lines ++ codes "end" ∷ []))) h.begins.begins in
+    let other = net_first [] (drop read.used []) read.net (h.begins.edge_lines ++ (h.begins.priority_lines ++ (h.begins.demand_lines ++ (h.begins.block_lines ++ codes "end" ∷ [])))) h.begins.begins in
     omega (arith, ap length other.2.text_is, length-append other.2.blanks (other.0 ∷ other.1))
 
 -- what stands behind a front

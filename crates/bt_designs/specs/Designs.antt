@@ -66,6 +66,16 @@ IsLayoutWith read = InTurn (IsPlaced read.0) (λ fault. Err (grid_told fault)) (
 abbrev pub IsPreferringNet : Json → Result Network DesignFault → Type 0
 IsPreferringNet value = InTurn (IsPrioritisedOf value) (λ fault. Err (entity_told fault)) IsLayoutWith
 
+-- what comes of parts and their priorities: the network of their layout and their tier, where they have one; or the
+-- first refusal
+abbrev pub IsTieredWith : List Part × List Priority → Result Laid DesignFault → Type 0
+IsTieredWith read = InTurn (IsLayoutWith read) Err (λ net answer. (tier : Option Tier) × IsTierOf read.0 tier × (answer ≡ Ok (record { net = net; tier = tier })))
+
+-- what comes of a JSON value that is to be a request: the layout of the parts of which it is a blueprint, with their
+-- priorities, or the first refusal
+abbrev pub IsTieredPreferring : Json → Result Laid DesignFault → Type 0
+IsTieredPreferring value = InTurn (IsPrioritisedOf value) (λ fault. Err (entity_told fault)) IsTieredWith
+
 -- what comes of JSON text: what comes of the value at its front and the place after it, or the first refusal
 abbrev pub IsJsonOf : {X : Type 0} → (Json → Result X DesignFault → Type 0) → List ℕ → Result (X × ℕ) DesignFault → Type 0
 IsJsonOf {X} IsOf bytes = InTurn (IsRead bytes) (λ fault. Err (json_told fault)) (λ read answer.
@@ -75,13 +85,21 @@ IsJsonOf {X} IsOf bytes = InTurn (IsRead bytes) (λ fault. Err (json_told fault)
 abbrev pub IsJsonDesign : List ℕ → Result (Network × ℕ) DesignFault → Type 0
 IsJsonDesign bytes = IsJsonOf IsPreferringNet bytes
 
+-- what comes of the JSON text of a request: a layout, in which splitters may prefer sides
+abbrev pub IsJsonPreferring : List ℕ → Result (Laid × ℕ) DesignFault → Type 0
+IsJsonPreferring bytes = IsJsonOf IsTieredPreferring bytes
+
 -- what comes of the JSON text of a layout, in which no splitter prefers a side
 abbrev pub IsJsonLayout : List ℕ → Result (Laid × ℕ) DesignFault → Type 0
 IsJsonLayout bytes = IsJsonOf IsTieredBlueprint bytes
 
 -- what is told of the layout that comes of JSON text, and the place after it; or the first refusal
+abbrev pub IsToldOf : {Y : Type 0} → (Json → Result Laid DesignFault → Type 0) → (Laid → Y) → List ℕ → Result (Y × ℕ) DesignFault → Type 0
+IsToldOf {Y} IsOf told bytes = InTurn (IsJsonOf IsOf bytes) Err (λ found answer. answer ≡ Ok (told found.0, found.1))
+
+-- the same of a layout in which no splitter prefers a side
 abbrev pub IsToldOfLayout : {Y : Type 0} → (Laid → Y) → List ℕ → Result (Y × ℕ) DesignFault → Type 0
-IsToldOfLayout {Y} told bytes = InTurn (IsJsonLayout bytes) Err (λ found answer. answer ≡ Ok (told found.0, found.1))
+IsToldOfLayout {Y} told bytes = IsToldOf IsTieredBlueprint told bytes
 
 -- what comes of network text: the network at its front and the place after it, or the first refusal
 abbrev pub IsTextDesign : List ℕ → Result (Network × ℕ) DesignFault → Type 0
@@ -115,7 +133,7 @@ in_basic_belts laid = sped laid.net laid.tier
 abbrev pub IsBareText : List ℕ → Result (Network × ℕ) DesignFault → Type 0
 IsBareText bytes = InTurn (IsNetRead Nothing bytes) (λ fault. Err (net_told fault)) (λ read answer. answer ≡ Ok (read.net, read.used))
 
--- what comes of bytes at whose front a design without priorities is to stand, whose text names neither pins, sides nor
--- blocks: its network, that of JSON text in basic belts
+-- what comes of bytes at whose front a design without priorities is to stand, behind the edges of whose text nothing
+-- stands: its network, that of JSON text in basic belts
 abbrev pub IsBareDesign : List ℕ → Result (Network × ℕ) DesignFault → Type 0
 IsBareDesign bytes answer = (IsJsonText bytes × IsToldOfLayout in_basic_belts bytes answer) ⊎ ((IsJsonText bytes → ⊥) × IsBareText bytes answer)

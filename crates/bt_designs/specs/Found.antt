@@ -9,7 +9,7 @@ use Rattle.bt_designs.specs.Requested.{PinnedNet}
 abbrev pub net_and_used : read.Design → Network × ℕ
 net_and_used design = (design.net, design.used)
 
--- a design's network, with its pins, its sides, its blocks and its tier
+-- a design's network, with its pins, sides and rows, its blocks and its tier
 abbrev pub pinned_of : PinnedDesign → PinnedNet
 pinned_of design = record { net = design.net; demands = design.demands.items; blocks = design.blocks.items; tier = design.tier }
 

@@ -2,7 +2,8 @@
 use Rattle.std.specs.Prelude.{ℕ, List, Option, Result, Ok, Err}
 use Rattle.bt_json.specs.Json.{Json}
 use Rattle.bt_json.specs.Answers.{IsRead}
-use Rattle.bt_entities.specs.Answers.{IsPartsOf}
+use Rattle.bt_entities.specs.Answers.{IsPrioritisedOf}
+use Rattle.bt_hands.specs.declared.hand.Priority.{Priority}
 use Rattle.bt_parts.specs.declared.part.Part.{Part}
 use Rattle.bt_parts.specs.declared.part.Rect.{Rect}
 use Rattle.bt_parts.specs.declared.part.Tier.{Tier}
@@ -17,7 +18,7 @@ use Rattle.bt_designs.specs.Steps.{InTurn}
 -- the JSON value at the front of the bytes is a blueprint, whose ends are to stand at these sides, across which they
 -- look
 abbrev pub AreOwnSides : List ℕ → List Demand → Type 0
-AreOwnSides bytes stays = (read : Json × ℕ) × IsRead bytes (Ok read) × (parts : List Part) × IsPartsOf read.0 (Ok parts) × AreEndSides parts (Ok stays)
+AreOwnSides bytes stays = (read : Json × ℕ) × IsRead bytes (Ok read) × (found : List Part × List Priority) × IsPrioritisedOf read.0 (Ok found) × AreEndSides found.0 (Ok stays)
 
 -- what comes of a network without pins, sides and blocks: the request for it in the rectangle with these sides
 abbrev pub IsKeptFor : Rect → Option Tier → List ℕ → PinnedNet → Result LayoutRequest DesignFault → Type 0

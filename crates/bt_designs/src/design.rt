@@ -12,6 +12,7 @@ ghost use Rattle.bt_designs.specs.Found.{net_and_used};
 ghost use Rattle.bt_designs.specs.Designs.{IsJsonText, IsPlacedNet, IsLayoutNet, IsTieredLayout, IsTieredBlueprint, IsTierOf};
 ghost use Rattle.bt_designs.specs.Designs.{IsPlacedWith, IsLayoutWith, IsPreferringNet, IsTextDesign, IsDesign};
 ghost use Rattle.bt_designs.specs.Designs.{IsBareText, IsBareDesign, IsJsonDesign, IsJsonLayout, IsToldOfLayout};
+ghost use Rattle.bt_designs.specs.Designs.{IsJsonPreferring, IsTieredPreferring, IsTieredWith};
 ghost use Rattle.bt_designs.specs.Designs.{in_basic_belts, with_cap, with_caps};
 
 use crate::fault::DesignFault;
@@ -72,7 +73,7 @@ pub fn read_text(alloc: Global, bytes: &[u8]) -> Result<Design, DesignFault>
     ensures design { UnlessMemory DesignFault.Memory (IsTextDesign bytes.now) (seen net_and_used result) }
     ensures within { IfOk result (λ design. design.used ≤ length bytes.now) }
 {
-    match bt_net::read_plain(alloc, bytes) {
+    match bt_net::read(alloc, Admitted::Priorities, bytes) {
         Ok(read) => Ok(Design {
             net: read.net,
             used: read.used,
@@ -81,8 +82,8 @@ pub fn read_text(alloc: Global, bytes: &[u8]) -> Result<Design, DesignFault>
     }
 }
 
-/// The bare design at the front of the bytes: no splitter of it prefers a side or an edge, and its text names neither
-/// pins, sides nor blocks. The network of JSON text is told in basic belts.
+/// The bare design at the front of the bytes: no splitter of it prefers a side or an edge, and nothing stands
+/// behind the edges of its text. The network of JSON text is told in basic belts.
 pub fn read_bare(alloc: Global, bytes: &[u8]) -> Result<Design, DesignFault>
     ensures design { UnlessMemory DesignFault.Memory (IsBareDesign bytes.now) (seen net_and_used result) }
     ensures within { IfOk result (λ design. design.used ≤ length bytes.now) }
@@ -168,6 +169,45 @@ pub fn read_json_layout(alloc: Global, bytes: &[u8]) -> Result<(Laid, usize), De
             Err(fault) => Err(fault),
         },
         Err(fault) => Err(fault.into()),
+    }
+}
+
+/// The layout whose JSON text stands at the front of the bytes, in which splitters may prefer sides, and how many bytes
+/// it has.
+pub fn read_json_preferring(alloc: Global, bytes: &[u8]) -> Result<(Laid, usize), DesignFault>
+    ensures layout { UnlessMemory DesignFault.Memory (IsJsonPreferring bytes.now) result }
+    ensures within { IfOk result (λ found. found.1 ≤ length bytes.now) }
+{
+    match bt_json::read(alloc, bytes) {
+        Ok((tree, used)) => match laid_of_design(alloc, tree) {
+            Ok(laid) => Ok((laid, used)),
+            Err(fault) => Err(fault),
+        },
+        Err(fault) => Err(fault.into()),
+    }
+}
+
+/// The layout of a blueprint whose splitters may prefer sides.
+fn laid_of_design(alloc: Global, tree: Tree) -> Result<Laid, DesignFault>
+    ensures { UnlessMemory DesignFault.Memory (IsTieredPreferring (json_of tree)) result }
+{
+    let read = parts_and_priorities(alloc, &tree);
+    drop(tree);
+    match read {
+        Ok(read) => laid_with(alloc, read),
+        Err(fault) => Err(fault.into()),
+    }
+}
+
+/// The network of a layout with priorities, and the tier of its parts.
+fn laid_with(alloc: Global, read: Prioritised) -> Result<Laid, DesignFault>
+    requires { AreInRange read.parts.items }
+    ensures { UnlessMemory DesignFault.Memory (IsTieredWith (parts_and_priorities_in read)) result }
+{
+    let tier = tier_of(&read.parts);
+    match net_of_prioritised(alloc, read) {
+        Ok(net) => Ok(Laid { net, tier }),
+        Err(fault) => Err(fault),
     }
 }
 

@@ -9,7 +9,7 @@ ghost use Rattle.bt_designs.specs.Found.{pinned_of};
 
 use crate::fault::DesignFault;
 use crate::request::{PinnedDesign, read_lone_pinned, request_for};
-use bt_entities::parts_of;
+use bt_entities::parts_and_priorities;
 use bt_grid::Grid;
 use bt_model::Request;
 use bt_net::Demand;
@@ -65,10 +65,10 @@ fn own_sides(alloc: Global, bytes: &[u8]) -> Result<Vec<Demand>, AllocError>
     let Ok((tree, _)) = bt_json::read(alloc, bytes) else {
         return Err(AllocError);
     };
-    let parts = parts_of(alloc, &tree);
+    let read = parts_and_priorities(alloc, &tree);
     drop(tree);
-    match parts {
-        Ok(parts) => sides_of_parts(alloc, parts),
+    match read {
+        Ok(read) => sides_of_parts(alloc, read.parts),
         Err(_) => Err(AllocError),
     }
 }

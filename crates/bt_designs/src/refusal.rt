@@ -40,7 +40,7 @@ pub enum Refusal {
     /// it, after the network text of a design.
     NetLine(usize),
     /// The network has more inputs, outputs, splitters or edges than `bt_net::MOST_OF_EACH`, or that of a
-    /// request more edges or splitters than `bt_model::MOST_REQUESTED`.
+    /// request more edges than `bt_model::MOST_EDGES` or more splitters than `bt_model::MOST_SPLITTERS`.
     TooLarge,
     /// The network has no input or no output.
     NoEnds,

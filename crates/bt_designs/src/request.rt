@@ -1,5 +1,5 @@
-//! The request at the front of an input: a design, whose network text may also name pins, sides and blocks, with
-//! the rectangle and the tier of the command.
+//! The request at the front of an input: a design, whose network text may also name pins, sides, rows and blocks,
+//! with the rectangle and the tier of the command.
 ghost use Rattle.std.specs.Prelude.{◌≡◌, ◌≤◌, IfOk, length};
 ghost use Rattle.bt_answers.specs.Answers.{UnlessMemory, seen};
 ghost use Rattle.bt_model.specs.Requests.{IsGrid};
@@ -9,14 +9,14 @@ ghost use Rattle.bt_designs.specs.Requested.{IsPinned, IsPinnedJson, IsPinnedTex
 ghost use Rattle.bt_designs.specs.Requested.{IsLoneRequest, IsRequestFor, IsSidedRequest, tier_for};
 
 use crate::alone::refused_behind;
-use crate::design::{Laid, is_json, read_json_layout};
+use crate::design::{Laid, is_json, read_json_preferring};
 use crate::fault::DesignFault;
 use bt_model::Request;
 use bt_net::{Admitted, Block, Demand, Net};
 use bt_parts::{Rect, Tier};
 use std::alloc::Global;
 
-/// A design's network with its pins, its sides, its blocks and its tier, and how many bytes the design has.
+/// A design's network with its pins, sides and rows, its blocks and its tier, and how many bytes the design has.
 #[derive(Drop)]
 pub struct PinnedDesign {
     pub net: Net,
@@ -73,7 +73,7 @@ fn tier_for(asked: Option<Tier>, own: Option<Tier>) -> Tier
     asked.unwrap_or(own.unwrap_or(Tier::Basic))
 }
 
-/// The design that the bytes are, with its pins, its sides and its blocks, and blanks behind it.
+/// The design that the bytes are, with its pins, sides and rows and its blocks, and blanks behind it.
 pub fn read_lone_pinned(alloc: Global, bytes: &[u8]) -> Result<PinnedDesign, DesignFault>
     ensures { UnlessMemory DesignFault.Memory (IsAlone IsPinned bytes.now) (seen pinned_of result) }
 {
@@ -86,7 +86,7 @@ pub fn read_lone_pinned(alloc: Global, bytes: &[u8]) -> Result<PinnedDesign, Des
     }
 }
 
-/// The design at the front of the bytes, with its pins, its sides and its blocks.
+/// The design at the front of the bytes, with its pins, sides and rows and its blocks.
 pub fn read_pinned(alloc: Global, bytes: &[u8]) -> Result<PinnedDesign, DesignFault>
     ensures design { UnlessMemory DesignFault.Memory (IsPinned bytes.now) (seen pinned_and_used result) }
     ensures within { IfOk result (λ design. design.used ≤ length bytes.now) }
@@ -98,7 +98,7 @@ pub fn read_pinned(alloc: Global, bytes: &[u8]) -> Result<PinnedDesign, DesignFa
     }
 }
 
-/// The request for the network whose text the bytes are, with its sides, and blanks behind it.
+/// The request for the network whose text the bytes are, with its sides and rows, and blanks behind it.
 pub fn read_sided_request(
     alloc: Global,
     rect: Rect,
@@ -114,7 +114,8 @@ pub fn read_sided_request(
     }
 }
 
-/// The design whose network text the bytes are, behind whose edges sides alone may stand, and blanks behind it.
+/// The design whose network text the bytes are, behind whose edges priorities, sides and rows alone may stand, and
+/// blanks behind it.
 fn read_lone_sided(alloc: Global, bytes: &[u8]) -> Result<PinnedDesign, DesignFault>
     ensures { UnlessMemory DesignFault.Memory (IsAlone (IsPinnedText Admitted.Sides) bytes.now)
         (seen pinned_of result) }
@@ -150,12 +151,12 @@ fn read_pinned_text(
     }
 }
 
-/// The design whose JSON text stands at the front of the bytes, which names no pins, no sides and no blocks.
+/// The design whose JSON text stands at the front of the bytes, which names no pins, sides, rows and blocks.
 fn read_pinned_json(alloc: Global, bytes: &[u8]) -> Result<PinnedDesign, DesignFault>
     ensures design { UnlessMemory DesignFault.Memory (IsPinnedJson bytes.now) (seen pinned_and_used result) }
     ensures within { IfOk result (λ design. design.used ≤ length bytes.now) }
 {
-    match read_json_layout(alloc, bytes) {
+    match read_json_preferring(alloc, bytes) {
         Ok((Laid { net, tier }, used)) => {
             let demands = Vec::new(alloc);
             let blocks = Vec::new(alloc);

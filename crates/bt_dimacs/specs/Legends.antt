@@ -34,7 +34,8 @@ place_blocks s =
     block s.belts s.begins (codes "belt cell") ∷
     block s.begins s.starts (codes "begins cell") ∷
     block s.starts s.stops (codes "starts cell input") ∷
-    block s.stops s.pairs (codes "stops cell output") ∷
+    block s.stops s.lies (codes "stops cell output") ∷
+    block s.lies s.pairs (codes "lies cell row") ∷
     block s.pairs s.tunnels (codes "pair cell direction distance") ∷
     block s.tunnels s.goings (codes "tunnel cell direction") ∷
     block s.goings s.columns (codes "goes cell direction") ∷

@@ -22,7 +22,7 @@ pub struct Block {
 }
 
 /// The blocks of a placement formula.
-pub fn place_blocks(starts: Starts) -> [Block; 17]
+pub fn place_blocks(starts: Starts) -> [Block; 18]
     ensures { map block_told result ≡ place_blocks starts }
 {
     [
@@ -53,8 +53,13 @@ pub fn place_blocks(starts: Starts) -> [Block; 17]
         },
         Block {
             from: starts.stops,
-            end: starts.pairs,
+            end: starts.lies,
             meaning: "stops cell output",
+        },
+        Block {
+            from: starts.lies,
+            end: starts.pairs,
+            meaning: "lies cell row",
         },
         Block {
             from: starts.pairs,

@@ -66,8 +66,7 @@ abbrev pub IsBadMember : ℕ → Json → Member → Type 0
 IsBadMember major v member = IsFirst (IsWrong major v) tested_members member
 
 -- no cell is the entity's on the grid of entity 0: a coordinate is no multiple of a half or too great, or the halves
--- don't
--- agree with entity 0's, or entity 0 stands on no grid
+-- don't agree with entity 0's, or entity 0 stands on no grid
 abbrev pub IsOffGrid : ℕ → Json → Json → Type 0
 IsOffGrid major first v = (cell : Cell) → ¬ IsInCell major first v cell
 

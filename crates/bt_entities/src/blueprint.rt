@@ -24,7 +24,7 @@ use bt_parts::Part;
 use std::alloc::Global;
 
 /// The most entities of a blueprint that is read.
-pub const MOST_ENTITIES: usize = 4096;
+pub const MOST_ENTITIES: usize = 16384;
 
 /// The parts of a blueprint, and the priorities of each: one that is no splitter has none.
 #[derive(Drop)]

@@ -5,5 +5,5 @@ use crate::blueprint::MOST_ENTITIES;
 
 /// The most entities of a blueprint, as a number.
 pub fn limits_are()
-    ensures { MOST_ENTITIES ≡ 4096 }
+    ensures { MOST_ENTITIES ≡ 16384 }
 {}

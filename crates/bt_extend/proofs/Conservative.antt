@@ -58,8 +58,7 @@ later_true assignment l lits some = (suc some.0, some.1, (let inside = some.2 in
 -- ---- comparisons
 
 -- with a comparison the values stay, the variables of the formula stay, and where the form reaches its number, the
--- first of the
--- two new variables is true
+-- first of the two new variables is true
 record Compared (f : FormulaParts) (form : FormParts) (assignment : ℕ → Bool) (values : ℕ → Ratio) : Type 0 where
   other : ℕ → Bool
   same : (var : ℕ) → var < f.vars → other var ≡ assignment var

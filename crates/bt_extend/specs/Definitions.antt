@@ -16,8 +16,7 @@ abbrev pub AreSortedBelow : ℕ → List NamedLit → Type 0
 AreSortedBelow vars lits = (lits ≢ []) × AscendBelow 0 vars (map (λ l. l.var) lits)
 
 -- the definition may extend the formula: its forms are over the formula's columns, and its literals are of the
--- formula's
--- variables; a column that is defined by cases is one that a row may name
+-- formula's variables; a column that is defined by cases is one that a row may name
 abbrev pub IsDefinition : FormulaParts → Definition → Type 0
 IsDefinition f (Comparison form) = IsFormOver (columns_of f) form
 IsDefinition f (Cases var first second) =

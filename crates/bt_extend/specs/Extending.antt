@@ -25,8 +25,7 @@ abbrev pub opposite_of : NamedLit → Lit
 opposite_of l = record { var = l.var; positive = not l.positive }
 
 -- with a comparison: two more variables, whose atoms say that the form's terms reach its number and that they don't,
--- and the
--- clause of both
+-- and the clause of both
 abbrev pub with_comparison : FormulaParts → FormParts → FormulaParts
 with_comparison f form = record {
   vars = f.vars + 2;
@@ -39,8 +38,7 @@ abbrev pub with_column : FormulaParts → ℕ → FormParts → FormulaParts
 with_column f column form = with_comparison (with_comparison f (column_less column form)) (less_column column form)
 
 -- with one more column, which is the first form, number included, where the variable is true, and else the second: of
--- the
--- comparisons with both, eight more variables, the variable chooses which hold
+-- the comparisons with both, eight more variables, the variable chooses which hold
 abbrev pub with_cases : FormulaParts → ℕ → FormParts → FormParts → FormulaParts
 with_cases f var first second =
     let compared = with_column (with_column f (columns_of f) first) (columns_of f) second in
@@ -78,8 +76,7 @@ BeginsWithNone f [] = Unit {0}
 BeginsWithNone f (d ∷ ds) = IsDefinition f d → ⊥
 
 -- of the definitions that were given these were taken: all in front of the first that may not extend the formula with
--- those
--- before it
+-- those before it
 pub record AreTaken (f : FormulaParts) (given taken : List Definition) : Type 0 where
   pub are : AreDefinitions f taken
   pub rest : List Definition

@@ -26,8 +26,7 @@ pub record GoesOn (f further : FormulaParts) (assignment : ℕ → Bool) (values
   pub meets : Meets further other others
 
 -- what meets a formula goes on to meet the formula that definitions extend: whatever they say, there is a value for
--- each
--- column and a truth for each variable that they define
+-- each column and a truth for each variable that they define
 abbrev pub MeetingGoesOn : Type 0
 MeetingGoesOn = (f : FormulaParts) (ds : List Definition) (assignment : ℕ → Bool) (values : ℕ → Ratio) → IsFormula f → AreDefinitions f ds
     → AreValues values → Meets f assignment values → GoesOn f (extended f ds) assignment values

@@ -1,4 +1,4 @@
-//! Extending a formula by a definition, in place.
+//! Extending a formula by a definition.
 ghost use Rattle.std.specs.Prelude.{◌≡◌, ◌<◌, ◌≤◌, ◌-◌, ◌^◌, ◌∷◌, map, IfOk, OnOk};
 ghost use Rattle.bt_frac.specs.Rows.{HaveColumns};
 ghost use Rattle.bt_cnf.specs.Formulas.{LitsBelow};
@@ -16,8 +16,21 @@ use bt_cnf::{Formula, Lit, Var};
 use bt_frac::{Frac, Relation, Row};
 use std::alloc::{AllocError, Global};
 
-/// Extends a formula by a definition. Where memory runs out, the formula may have been extended in part.
+/// The formula that a definition extends.
 pub fn extend(
+    alloc: Global,
+    mut formula: Formula,
+    definition: &Definition,
+) -> Result<Formula, AllocError>
+    requires { IsDefinition formula definition.now }
+    ensures { IfOk result (λ extended. extended ≡ with_definition formula definition.now) }
+{
+    add_definition(alloc, &mut formula, definition)?;
+    Ok(formula)
+}
+
+/// Adds what a definition says. Where memory runs out, a part of it may have been added.
+pub fn add_definition(
     alloc: Global,
     formula: &mut Formula,
     definition: &Definition,

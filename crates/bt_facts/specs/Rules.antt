@@ -35,8 +35,7 @@ abbrev pub equals_one : Fact → List Fact → List Rule
 equals_one fact facts = rule (fact ∷ []) facts ∷ map (λ one. rule (one ∷ []) (fact ∷ [])) facts
 
 -- where it is this half of which the fact tells, and these hold, one of those does: the lesser one where the fact
--- holds, else
--- the greater one
+-- holds, else the greater one
 abbrev pub rule_by : Half → Fact → List Fact → List Fact → Rule
 rule_by Lesser by_lesser given one_of = rule (by_lesser ∷ given) one_of
 rule_by Greater by_lesser given one_of = rule given (by_lesser ∷ one_of)

@@ -42,6 +42,19 @@ pub enum Class {
     Input(usize),
 }
 
+/// Ends of one kind in a row that runs one way.
+#[derive(Clone, Copy)]
+pub enum Line {
+    /// Inputs, from a cell on to the east.
+    InputsEast,
+    /// Inputs, from a cell on to the south.
+    InputsSouth,
+    /// Outputs, from a cell on to the east.
+    OutputsEast,
+    /// Outputs, from a cell on to the south.
+    OutputsSouth,
+}
+
 /// What may be so. Splitters and inputs are those of the request's network, by their numbers.
 #[derive(Clone, Copy)]
 pub enum Fact {
@@ -60,6 +73,8 @@ pub enum Fact {
     Starts(Cell, usize),
     /// The last part of this output, which is to stand at a side, stands on the cell.
     Stops(Cell, usize),
+    /// All ends of a kind, which are to stand in a row, stand on consecutive cells from this one on.
+    Lies(Cell, Line),
     /// The entrance on the cell, turned this way, pairs with the exit so far ahead, from 1.
     Pair(Cell, Dir, usize),
     /// An underground pair of this direction runs from the cell to the next one.

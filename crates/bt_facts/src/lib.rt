@@ -14,7 +14,7 @@ pub use adding::{
 };
 pub use cells::{border_of, cells_of};
 pub use draft::{Draft, Drafted, RuleFact};
-pub use fact::{Class, Content, Fact, Half, Shape};
+pub use fact::{Class, Content, Fact, Half, Line, Shape};
 pub use facts::{
     carries, carries_split, columns, goes_into, holds, owners, push_goes_into, push_tunnels, rows,
     starts_on, stops_on, turned,

@@ -48,7 +48,7 @@ pub fn ahead(dir: Dir, cell: Cell) -> Cell
 /// The cell so far ahead.
 pub fn far(dir: Dir, cell: Cell, distance: usize) -> Cell
     requires near { IsNear cell }
-    requires few { distance < 64 }
+    requires few { distance < 4096 }
     ensures { result ≡ steps distance dir cell }
 {
     cell.ahead(dir, distance as u32)

@@ -59,8 +59,7 @@ abbrev pub each_implies : ℕ → ℕ → List (List Lit)
 each_implies first count = map (λ k. implies (first + k) (first + count + k)) (range_with_len 0 count)
 
 -- where the first of the rows of so many ends has this variable: one end is said to be below the level, each that is
--- said
--- so is short, and one end reaches the level
+-- said so is short, and one end reaches the level
 abbrev pub level_clauses : ℕ → ℕ → List (List Lit)
 level_clauses first count = some_of first count ∷ (each_implies first count ++ some_of (first + 2 * count) count ∷ [])
 

@@ -1,7 +1,6 @@
--- The numbering of claims: a row that is mentioned is a variable of its own, in the order of mention, and the
--- first row of a pair has one variable wherever it is named. It counts as the program does; what the formula is for
--- doesn't
--- rest on how it counts: a state meets it exactly where it breaks the property (the laws of `bt_fenc`).
+-- The numbering of claims: a row that is mentioned is a variable of its own, in the order of mention, and the first row
+-- of a pair has one variable wherever it is named. It counts as the program does; what the formula is for doesn't rest
+-- on how it counts: a state meets it exactly where it breaks the property (the laws of `bt_fenc`).
 use Rattle.std.specs.Prelude.{◌≡◌, ℕ, ◌+◌, ◌<◌, true, List, [], ◌∷◌, ◌++◌, length, flat_map}
 use Rattle.std.specs.List.{AllByRecursion}
 use Rattle.bt_frac.specs.Rows.{RowParts}

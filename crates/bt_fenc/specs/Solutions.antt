@@ -27,8 +27,7 @@ MeetingBreaks = (n : Network) (p : Property) (assignment : ℕ → Bool) (values
     → Meets (flow_formula n p) assignment values → HasValues n s assignment values → Breaks n p s
 
 -- where an assignment with values meets the formula of a network's steady states, each state with these marks and
--- values
--- is admissible and steady
+-- values is admissible and steady
 abbrev pub MeetingIsSteady : Type 0
 MeetingIsSteady = (n : Network) (assignment : ℕ → Bool) (values : ℕ → Ratio) (s : Flows) → IsNetwork n → AreValues values
     → Meets (steady_formula n) assignment values → HasValues n s assignment values → IsAdmissible n s × IsSteady n s

@@ -1,6 +1,5 @@
 -- The lines of a state's text: that no line feed is in them, that they are of their forms, and that each has one list;
--- and texts
--- that begin with lines.
+-- and texts that begin with lines.
 use Rattle.std.proofs.Common.{◌≡◌, ◌≢◌, ℕ, Bool, List, [], ◌∷◌, ◌++◌, length, map, refl, sym, ◌∙◌, ap, inl, inr, arith, append_assoc, append-nil, codes}
 use Rattle.std.specs.Bool.{⊤}
 use Rattle.std.specs.List.{All, flat_map}

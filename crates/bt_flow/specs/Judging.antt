@@ -57,8 +57,7 @@ IsSteadyAnswer n t (Ok j) = IsTrueOf n t (JudgesSteady n j) × ((p : Property) �
 IsSteadyAnswer n t (Err w) = (p : Property) → IsWideSum n p t FIRST_LAW LAST_LAW w
 
 -- the judgement is that of the tests of loads and rooms and of the nine laws: they pass, and the state is admissible
--- and
--- steady; or this test is the first that fails, at this place. `unlimited` asks nothing of loads and rooms.
+-- and steady; or this test is the first that fails, at this place. `unlimited` asks nothing of loads and rooms.
 abbrev pub JudgesState : Network → Judgement → Flows → Type 0
 JudgesState n Passes s = IsAdmissible n s × IsSteady n s
 JudgesState n (Fails t a) s = FailsFirst n Unlimited s 0 LAST_LAW t a

@@ -1,6 +1,5 @@
 -- Counts of all numbers of a range: the list is parted by halves of the range, down to one number each, so that it
--- isn't
--- gone through once for each number.
+-- isn't gone through once for each number.
 use Rattle.std.proofs.Common.{◌≡◌, ℕ, zero, suc, ◌+◌, ◌<◌, ◌≤◌, Bool, true, false, List, [], ◌∷◌, cond, refl, ◌∙◌, ap, sym, subst, ⊎_elim, arith}
 use Rattle.std.specs.Prelude.{nat_lt, nat_le, ◌&&◌}
 use Rattle.std.specs.List.{count_by, filter}

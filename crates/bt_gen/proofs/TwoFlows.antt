@@ -72,7 +72,7 @@ module _ (p : Edge → Bool) where
   counted_two (x ∷ es) (suc a) (suc b) e f s t u v l =
       more_two (p x) (count_by p es) (count_by p (x ∷ es)) (count_more x es) (counted_two es a b e f s t u v (omega (arith, l)))
 
-  one : (es : List Edge) (fs : List ℤ) (a : ℕ) (e : Edge) → slice_get es a ≡ Some e → p e ≡ true → count_by p es ≤ 1 → length fs ≡ length es
+  pub one : (es : List Edge) (fs : List ℤ) (a : ℕ) (e : Edge) → slice_get es a ≡ Some e → p e ≡ true → count_by p es ≤ 1 → length fs ≡ length es
       → sum_where p es fs ≡ get_or fs a (pos 0)
   one [] fs a e s t c l = absurd cc
   one (x ∷ es) [] a e s t c l = absurd (omega (arith, l))

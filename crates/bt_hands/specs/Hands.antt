@@ -1,11 +1,12 @@
 -- The halves of a splitter on the two hands of one who looks in its direction.
-use Rattle.std.specs.Prelude.{◌≡◌, Option, Some, None}
+use Rattle.std.specs.Prelude.{◌≡◌, ℕ, List, slice_index_or, Option, Some, None}
 use Rattle.bt_parts.specs.declared.part.Cell.{Cell}
 use Rattle.bt_parts.specs.declared.part.Dir.{Dir}
 use Rattle.bt_parts.specs.declared.part.Dir.TheVariants.{North, East, South, West}
 use Rattle.bt_parts.specs.declared.part.Part.{Part}
 use Rattle.bt_parts.specs.Cells.{beside}
 use Rattle.bt_hands.specs.declared.hand.Hand.{Hand}
+use Rattle.bt_hands.specs.declared.hand.Priority.{Priority}
 use Rattle.bt_hands.specs.declared.hand.Hand.TheVariants.{Left, Right}
 
 -- the direction to the left of this one
@@ -31,3 +32,11 @@ half_on Right West cell = cell
 abbrev pub IsPreferred : Option Hand → Part → Cell → Type 0
 IsPreferred None splitter half = ⊥
 IsPreferred (Some hand) splitter half = half ≡ half_on hand splitter.dir splitter.cell
+
+-- no side is preferred
+abbrev pub no_priority : Priority
+no_priority = record { give = None; take = None }
+
+-- the priority of the part with this index: none, where there are fewer priorities
+abbrev pub priority_of : List Priority → ℕ → Priority
+priority_of priorities i = slice_index_or priorities i no_priority

@@ -13,9 +13,10 @@ use Rattle.bt_cert.proofs.Narrow.{steps_written}
 use Rattle.bt_cert.proofs.Printed.{printed_is_certificate}
 use Rattle.bt_model.specs.Requests.{LayoutRequest}
 use Rattle.bt_place.specs.PlaceFormula.{place_formula}
+use Rattle.bt_place.proofs.Sizing.{few_of_request}
 use Rattle.bt_layout.specs.Laws.{NowhereIsCertificate}
 use Rattle.bt_layout.proofs.Formulas.{place_is_formula}
-use Rattle.bt_layout.proofs.Sizes.{clauses_few, variables_few}
+use Rattle.bt_layout.proofs.Sizes.{clauses_few}
 
 nothing_first : {X : Type 0} (front : List X) (here : X) (rest : List X) → [] ≡ front ++ here ∷ rest → ⊥
 nothing_first [] here rest e = cc
@@ -40,7 +41,7 @@ module _ (r : LayoutRequest) where
 pub nowhere_is_certificate : NowhereIsCertificate
 nowhere_is_certificate r steps is refutes few =
     let f = place_formula r in
-    let vars = variables_few r is in
+    let vars = few_of_request r is in
     let clauses = clauses_few r is in
     printed_is_certificate f steps refutes.refutes
     (steps_written f (place_is_formula r is) (omega (arith, vars)) f.clauses steps (omega (arith, clauses, few)) refutes.refutes.valid)

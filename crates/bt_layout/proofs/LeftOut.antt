@@ -11,10 +11,9 @@ use Rattle.bt_model.specs.Requests.{LayoutRequest}
 use Rattle.bt_place.specs.PlaceFormula.{place_formula}
 use Rattle.bt_trim.proofs.Left.{is_short}
 use Rattle.bt_theory.proofs.Trimmed.{trimmed_refutation}
-use Rattle.bt_layout.specs.Layouts.{IsLayout}
+use Rattle.bt_layout.specs.inner.Ends.{EndsWith, IsOver, IsSought, IsTrimmedTo}
 use Rattle.bt_layout.specs.declared.outcome.Layout.{Layout}
 use Rattle.bt_layout.specs.declared.outcome.Layout.TheVariants as layout
-use Rattle.bt_layout.specs.inner.Ends.{EndsWith, IsOver, IsTrimmedTo}
 use Rattle.bt_layout.specs.inner.Progressing.{HasLog}
 
 -- the log of a search is over the clauses of its formula
@@ -24,7 +23,7 @@ is_over r learnt f old new waiting left answer log is begins gives e =
     ap (λ (l : LogParts). l.first) e ∙ ap (λ (g : FormulaParts). length g.clauses) (gives.goes_on.formula ∙ ap (λ (s : SolverParts). s.formula) begins ∙ is)
 
 -- what is told is right
-pub nowhere_layout : (r : LayoutRequest) (learnt : ℕ) (log : LogParts) (told : Layout) → IsOver r log → EndsWith r learnt log.steps Refuted → IsTrimmedTo log told → IsLayout r learnt told
+pub nowhere_layout : (r : LayoutRequest) (learnt : ℕ) (log : LogParts) (told : Layout) → IsOver r log → EndsWith r learnt log.steps Refuted → IsTrimmedTo log told → IsSought r learnt told
 nowhere_layout r learnt log (layout.Found parts) over ends trimmed = absurd trimmed
 nowhere_layout r learnt log (layout.Spent left) over ends trimmed = absurd trimmed
 nowhere_layout r learnt log (layout.Nowhere left) over ends trimmed =

@@ -1,3 +1,4 @@
+mod Ascending
 pub mod Few
 pub mod LeftOut
 pub mod Formulas
@@ -17,3 +18,6 @@ mod Smaller
 mod Skipping
 pub mod Narrow
 mod Ending
+mod Bare
+mod Copied
+mod Laid

@@ -7,14 +7,12 @@ use Rattle.std.proofs.lemmas.List.{map-append, take_all, take_more}
 use Rattle.std.proofs.lemmas.List.Elements.{All-nil, All-push}
 use Rattle.bt_parts.specs.declared.part.Rect.{Rect}
 use Rattle.bt_parts.specs.Cells.{IsInside}
-use Rattle.bt_net.specs.NetText.{alone}
 use Rattle.bt_net.specs.declared.network.Demand.{Demand}
 use Rattle.bt_net.specs.declared.network.Demand.TheVariants as demand
 use Rattle.bt_net.specs.Network.{Network}
-use Rattle.bt_net.proofs.Preference.{plain_alone}
 use Rattle.bt_log.specs.declared.log.Log.{Log}
 use Rattle.bt_model.specs.Requests.{LayoutRequest, IsRequest, IsPinnedInside, blocked}
-use Rattle.bt_layout.specs.Layouts.{IsLayout}
+use Rattle.bt_layout.specs.inner.Ends.{IsSought}
 use Rattle.bt_layout.specs.declared.outcome.Layout.TheVariants as layout
 use Rattle.bt_layout.specs.declared.outcome.RuledOut.{RuledOut}
 use Rattle.bt_layout.specs.Grids.{AreGridsFrom, IsWithin}
@@ -25,12 +23,12 @@ use Rattle.bt_layout.specs.inner.Passing.{ArePassed}
 inside : (grid : Rect) (d : Demand) → NamesNoCell d → IsPinnedInside grid d
 inside grid (demand.Pin pin) h = absurd h
 inside grid (demand.Side side) h = tt
+inside grid (demand.Row row) h = tt
 
 -- a request that names no cells is asked of each grid within its own as of that
 pub asked_on : (r : LayoutRequest) (grid : Rect) → IsRequest r → NamesNoCells r → IsWithin r.rect grid → IsRequest (request_on r grid)
 asked_on r grid is none within = record {
   net = is.net;
-  plain = is.plain;
   grid = record {
     some_width = within.some_width;
     few_across = let a = within.few_across in let b = is.grid.few_across in omega (arith, a, b);
@@ -48,12 +46,6 @@ asked_on r grid is none within = record {
   blocks_unpinned = is.blocks_unpinned;
 }
 
--- a copy of its network without its priorities is asked for as the network is, which has none
-pub asked_again : (r : LayoutRequest) (copy : Network) (grid : Rect) (made : LayoutRequest) → IsRequest (request_on r grid) → copy ≡ alone r.net
-    → made ≡ request_on (record r { net = alone copy }) grid → made ≡ request_on r grid
-asked_again r copy grid made is same asked =
-    let once : alone copy ≡ alone r.net = ap alone same in asked ∙ ap (λ n. request_on (record r { net = n }) grid) (once ∙ plain_alone r.net is.plain)
-
 module _ (r : LayoutRequest) (learnt : ℕ) (grids : List Rect) where
   pub none_passed : (earlier : List RuledOut) → earlier ≡ [] → ArePassed r learnt grids 0 earlier
   none_passed earlier e = subst (ArePassed r learnt grids 0) (sym e) (record { first = refl; ruled_out = All-nil _ })
@@ -61,7 +53,7 @@ module _ (r : LayoutRequest) (learnt : ℕ) (grids : List Rect) where
   module _ (place : ℕ) (earlier : List RuledOut) (are : ArePassed r learnt grids place earlier) (grid : Rect) (within : place < length grids)
       (at : grid ≡ get_or grids place grid) where
     -- one grid more is ruled out
-    pub one_passed : (log : Log) → IsLayout (request_on r grid) learnt (layout.Nowhere log)
+    pub one_passed : (log : Log) → IsSought (request_on r grid) learnt (layout.Nowhere log)
         → ArePassed r learnt grids (place + 1) (earlier ++ record { grid = grid; log = log } ∷ [])
     one_passed log is =
         let one : RuledOut = record { grid = grid; log = log } in

@@ -1,7 +1,9 @@
 -- Small grids on which parts that show a network are looked for.
-use Rattle.std.proofs.Common.{◌≡◌, ℕ, ◌<◌, inl, inr, List, [], ◌∷◌, ◌++◌, length, get_or, None, Some, refl, sym, subst, ◌∙◌, ap, arith}
-use Rattle.std.specs.Prelude.{All, AllPairs, Contains, Option, Vec, option_map, slice_get, take}
+use Rattle.std.proofs.Common.{◌≡◌, ℕ, ◌<◌, ◌≤◌, inl, inr, ⊎_elim, List, [], ◌∷◌, ◌++◌, length, get_or, None, Some, refl, sym, subst, ◌∙◌, ap, arith}
+use Rattle.std.specs.Prelude.{All, AllPairs, Contains, MatchOption, Option, Vec, option_map, slice_get, take}
 use Rattle.std.specs.declared.alloc.Global.{Global}
+use Rattle.std.proofs.lemmas.Bool.{cases_lt}
+use Rattle.std.proofs.lemmas.Nat.{mul-le}
 use Rattle.std.proofs.lemmas.List.{get_or-take, get_or_default, length-take, map-append}
 use Rattle.std.proofs.lemmas.List.Elements.{All-nil, All-push, Contains-append_left, Contains-push, Contains-push_cases}
 use Rattle.std.proofs.lemmas.Option.{get_or_from_slice_get, slice_get-map, slice_get_within}
@@ -12,17 +14,30 @@ use Rattle.bt_model.specs.Requests.{LayoutRequest}
 use Rattle.bt_layout.specs.declared.outcome.Small.TheVariants.{Found, Spent}
 use Rattle.bt_layout.specs.declared.outcome.Early.TheVariants as early
 use Rattle.bt_layout.specs.Early.{AreRefuted, IsEarly, IsLaid}
-use Rattle.bt_layout.specs.Grids.{AreGrids, ComesBefore}
-use Rattle.bt_layout.specs.Small.{HasFewer, IsSmall, MayBeAsked}
+use Rattle.bt_layout.specs.Grids.{AreGrids, ComesBefore, area_of}
+use Rattle.bt_layout.specs.Small.{HasFewer, IsBeyond, IsSmall, MayBeAsked}
 use Rattle.bt_layout.specs.Smallest.{request_on}
 use Rattle.bt_layout.specs.inner.Progressing.{AskEach, AskSmall}
+use Rattle.bt_layout.proofs.Written.{laid_within}
+
+-- what is said of an answer where there is one, and something else where there is none
+pub said_or : {X : Type 0} (answer : Option X) (N : Type 0) (S : X → Type 0) → N → MatchOption answer (Unit {0}) S → MatchOption answer N S
+said_or None N S none said = none
+said_or (Some x) N S none said = said
 
 -- a place of a request that is laid is one of the list
-pub laid_within : (requests : List LayoutRequest) (place : ℕ) (parts : Vec Part Global) → IsLaid requests place parts → place < length requests
-laid_within requests place parts is = slice_get_within requests place is.request is.at_place
+pub laid_inside : (requests : List LayoutRequest) (place : ℕ) (parts : Vec Part Global) → IsLaid requests place parts → place < length requests
+laid_inside requests place parts is = slice_get_within requests place is.request is.at_place
 
 module _ (r : LayoutRequest) (cells : Option ℕ) where
-  module _ (requests : List LayoutRequest) (asks : AskEach r cells requests) where
+  -- a grid that may be asked has few cells, where none are beyond
+  few_cells : (cells : Option ℕ) (grid : Rect) → (IsBeyond r cells → ⊥) → MayBeAsked r cells grid → area_of grid ≤ 1024
+  few_cells None grid few may =
+      let area = mul-le grid.width grid.height r.rect.width r.rect.height may.0.few_across may.0.few_down in
+      ⊎_elim (λ lt. omega (arith, lt)) (λ gt. absurd (few (inr (inr (omega (arith, gt, area)))))) (cases_lt (area_of grid) 1025)
+  few_cells (Some n) grid few may = ⊎_elim (λ lt. omega (arith, lt)) (λ gt. let less = may.1 in absurd (few (inr (inr (omega (arith, gt, less)))))) (cases_lt (area_of grid) 1025)
+
+  module _ (requests : List LayoutRequest) (asks : AskEach r cells requests) (few : IsBeyond r cells → ⊥) where
     -- the grid of a request that is one of the list
     grid_at : (place : ℕ) (request : LayoutRequest) → slice_get requests place ≡ Some request
         → (grid : Rect) × (slice_get asks.grids place ≡ Some grid) × MayBeAsked r cells grid × (request ≡ request_on r grid)
@@ -43,15 +58,17 @@ module _ (r : LayoutRequest) (cells : Option ℕ) where
     laid_small learnt place parts request grid is at rect =
         let asked = grid_at place is.request is.at_place in
         let one : request ≡ is.request = at ∙ get_or_from_slice_get requests place is.request request is.at_place in
-        let same : asked.0 ≡ grid = sym (ap (λ (x : LayoutRequest). x.rect) asked.3) ∙ sym (ap (λ (x : LayoutRequest). x.rect) one) ∙ sym rect in (
-          subst (MayBeAsked r cells) same asked.2,
-          subst (λ g. Lays parts.items (request_on r g)) same (subst (λ x. Lays parts.items x) asked.3 is.lays),
-          is.in_order,
-        )
+        let same : asked.0 ≡ grid = sym (ap (λ (x : LayoutRequest). x.rect) asked.3) ∙ sym (ap (λ (x : LayoutRequest). x.rect) one) ∙ sym rect in
+        let may = subst (MayBeAsked r cells) same asked.2 in
+        let lays = subst (λ g. Lays parts.items (request_on r g)) same (subst (λ x. Lays parts.items x) asked.3 is.lays) in
+        let fit = laid_within (request_on r grid) parts.items lays in
+        let area = few_cells cells grid few may in
+        (may, lays, is.in_order, omega (arith, fit, area))
 
     -- and so is that none was found
     pub spent_small : (learnt steps : ℕ) → IsEarly requests learnt (early.Spent steps) → IsSmall r cells learnt (Spent steps)
     spent_small learnt steps is = (
+      few,
       is.few,
       λ less. record { grids = asks.grids; all = asks.all; refuted = subst (λ rs. AreRefuted rs steps) asks.are (is.none less) },
     )

@@ -12,7 +12,7 @@ use Rattle.bt_layout.specs.declared.progress.Laid.{Laid}
 use Rattle.bt_layout.specs.declared.progress.Progress.{Progress}
 use Rattle.bt_layout.specs.declared.searching.Searched.{Searched}
 use Rattle.bt_layout.specs.Early.{AreRefuted, IsEarly, IsLaid, IsRefuted}
-use Rattle.bt_layout.specs.Layouts.{IsLayout}
+use Rattle.bt_layout.specs.inner.Ends.{IsSought}
 use Rattle.bt_layout.specs.inner.Progressing.{ArePaid, ArePassed, HasLog, IsEnded, IsProgress, IsWhole, lesser_from, lesser_of}
 use Rattle.bt_layout.proofs.Through.{all_left, ended, refuted_at, refuted_by_more}
 
@@ -43,7 +43,7 @@ module _ (requests : List LayoutRequest) (learnt : ℕ) (progress : Progress) (p
   -- parts that were found lay the request
   pub ended_laid : (parts : Vec Part Global) → searched.layout ≡ Found parts → IsLaid requests place parts
   ended_laid parts found =
-      let layout : IsLayout is.request is.most (Found parts) = subst (IsLayout is.request is.most) found is.whole.layout in
+      let layout : IsSought is.request is.most (Found parts) = subst (IsSought is.request is.most) found is.whole.layout in
       record { request = is.request; at_place = is.is; lays = layout.0; in_order = layout.1 }
 
   -- then no request is left from this place on
@@ -57,7 +57,7 @@ module _ (requests : List LayoutRequest) (learnt : ℕ) (progress : Progress) (p
     -- where no parts lay the request, those before it are left
     pub passed_by_log : (log : LogParts) → searched.layout ≡ Nowhere log → ArePassed requests learnt place new
     passed_by_log log nowhere =
-        let layout : IsLayout is.request is.most (Nowhere log) = subst (IsLayout is.request is.most) nowhere is.whole.layout in
+        let layout : IsSought is.request is.most (Nowhere log) = subst (IsSought is.request is.most) nowhere is.whole.layout in
         let few : length log.steps ≤ searched.steps = subst (λ l. HasLog l searched.steps) nowhere is.whole.has_log in
         let refuted : IsRefuted is.request log.steps = record { none = layout.0; refuted = layout.1 } in
         let size : progress.steps + length log.steps ≤ new.steps = omega (arith, few, more) in
@@ -72,7 +72,7 @@ module _ (requests : List LayoutRequest) (learnt : ℕ) (progress : Progress) (p
     -- where all steps that are left were taken, none is left
     pub passed_by_steps : (log : LogParts) → searched.layout ≡ Spent log → ArePassed requests learnt place new
     passed_by_steps log spent =
-        let layout : IsLayout is.request is.most (Spent log) = subst (IsLayout is.request is.most) spent is.whole.layout in
+        let layout : IsSought is.request is.most (Spent log) = subst (IsSought is.request is.most) spent is.whole.layout in
         let same : length log.steps ≡ searched.steps = subst (λ l. HasLog l searched.steps) spent is.whole.has_log in
         let size : searched.steps ≡ is.most = sym same ∙ layout.full in
         let left = is.left in

@@ -1,6 +1,8 @@
 -- What logs that refute a placement formula show, and what is written of layouts.
-use Rattle.std.specs.Prelude.{◌<◌, ◌^◌, List, length}
+use Rattle.std.specs.Prelude.{◌<◌, ◌≤◌, ◌^◌, List, length}
+use Rattle.bt_hands.specs.declared.hand.Priority.{Priority}
 use Rattle.bt_parts.specs.declared.part.Part.{Part}
+use Rattle.bt_entities.specs.declared.blueprint.TheConstants.{MOST_ENTITIES}
 use Rattle.bt_log.specs.Laws.{IsUnmet}
 use Rattle.bt_log.specs.Logs.{Step}
 use Rattle.bt_log.specs.LogText.{log_text}
@@ -8,7 +10,7 @@ use Rattle.bt_log.specs.Refuting.{Refutes}
 use Rattle.bt_cert.specs.Certificates.{IsCertificate}
 use Rattle.bt_model.specs.Laying.{Lays}
 use Rattle.bt_model.specs.Requests.{LayoutRequest, IsRequest}
-use Rattle.bt_write.specs.ReadBack.{IsReadBack}
+use Rattle.bt_write.specs.ReadBack.{IsReadBack, SplittersPrefer}
 use Rattle.bt_place.specs.PlaceFormula.{place_formula}
 use Rattle.bt_theory.specs.Outcomes.{IsRefutation}
 use Rattle.bt_layout.specs.Layouts.{HasNoLayout}
@@ -27,6 +29,8 @@ abbrev pub NowhereIsCertificate : Type 0
 NowhereIsCertificate = (r : LayoutRequest) (steps : List Step) → IsRequest r → IsRefutation (place_formula r) steps → length steps < 10 ^ 17
     → IsCertificate (place_formula r) (log_text steps)
 
--- what is written of parts that lay a request is read as the same parts
+-- what is written of parts that lay a request is read as the same parts with the same priorities, where they are no more
+-- than a blueprint may have, and splitters alone prefer anything
 abbrev pub LaidIsReadBack : Type 0
-LaidIsReadBack = (r : LayoutRequest) (parts : List Part) → IsRequest r → Lays parts r → IsReadBack parts
+LaidIsReadBack = (r : LayoutRequest) (parts : List Part) (priorities : List Priority) → IsRequest r → length parts ≤ MOST_ENTITIES
+    → Lays parts r → SplittersPrefer parts priorities → IsReadBack parts priorities

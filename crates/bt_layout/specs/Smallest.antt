@@ -1,6 +1,7 @@
 -- What is right to say of the least grid on which parts lay a request.
 use Rattle.std.specs.Prelude.{◌≡◌, ℕ, ◌≤◌, List, [], ◌∷◌, ◌++◌, All, AllPairs, Option, length, map}
 use Rattle.bt_parts.specs.declared.part.Rect.{Rect}
+use Rattle.bt_entities.specs.declared.blueprint.TheConstants.{MOST_ENTITIES}
 use Rattle.bt_net.specs.declared.network.Demand.{Demand}
 use Rattle.bt_net.specs.declared.network.Demand.TheVariants as demand
 use Rattle.bt_model.specs.Laying.{Lays}
@@ -19,6 +20,7 @@ use Rattle.bt_layout.specs.Grids.{AreGridsFrom, ComesBefore, IsSkipped, IsWithin
 abbrev pub NamesNoCell : Demand → Type 0
 NamesNoCell (demand.Pin pin) = ⊥
 NamesNoCell (demand.Side side) = Unit {0}
+NamesNoCell (demand.Row row) = Unit {0}
 
 -- a request that names no cells, which so may be asked of any grid: its sides are those of the grid
 pub record NamesNoCells (r : LayoutRequest) : Type 0 where
@@ -48,11 +50,12 @@ pub record IsFirstLeft (first : Option Rect) (r : LayoutRequest) (learnt : ℕ) 
   pub ruled_out : All (IsRuledOut r learnt) earlier
 
 -- what is right to say of the grids that a search doesn't pass by: the parts lay the request of the grid, in ascending
--- order of y and then x, and all those before it are ruled out; or all of them are; or those before the grid are, of
+-- order of y and then x, no more than a blueprint may have, and all those before it are ruled out; or all of them are; or those before the grid are, of
 -- whose request the log has so many steps, and one more is needed
 abbrev pub IsSmallest : Option Rect → LayoutRequest → ℕ → Smallest → Type 0
 IsSmallest first r learnt (Found earlier grid parts) =
     IsFirstLeft first r learnt earlier.items grid × Lays parts.items (request_on r grid) × AllPairs ComesAbove parts.items
+    × (length parts.items ≤ MOST_ENTITIES)
 IsSmallest first r learnt (Nowhere earlier) = AreGridsFrom first r.rect (grids_of earlier.items) × All (IsRuledOut r learnt) earlier.items
 IsSmallest first r learnt (Spent earlier grid log) =
     IsFirstLeft first r learnt earlier.items grid × IsUsedUp (place_formula (request_on r grid)) learnt log.steps

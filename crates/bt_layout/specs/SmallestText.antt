@@ -2,6 +2,7 @@
 use Rattle.std.specs.Prelude.{ℕ, List, [], ◌++◌, Option, Some, None, codes, decimal, length}
 use Rattle.std.specs.List.{flat_map}
 use Rattle.bt_text.specs.Lines.{line}
+use Rattle.bt_hands.specs.declared.hand.Priority.{Priority}
 use Rattle.bt_parts.specs.declared.part.Rect.{Rect}
 use Rattle.bt_log.specs.Logs.{Step}
 use Rattle.bt_log.specs.LogText.{log_text}
@@ -41,11 +42,11 @@ ruled_out_text one = grid_line one.grid ++ nowhere_text one.log.steps
 abbrev pub earlier_text : List RuledOut → List ℕ
 earlier_text earlier = flat_map ruled_out_text earlier
 
--- the blueprint of the parts that are found; else nothing
-abbrev pub blueprint_of : Smallest → List ℕ
-blueprint_of (Found earlier grid parts) = blueprint_text parts.items
-blueprint_of (Nowhere earlier) = []
-blueprint_of (Spent earlier grid log) = []
+-- the blueprint of the parts that are found, with these priorities; else nothing
+abbrev pub blueprint_of : Smallest → List Priority → List ℕ
+blueprint_of (Found earlier grid parts) priorities = blueprint_text parts.items priorities
+blueprint_of (Nowhere earlier) priorities = []
+blueprint_of (Spent earlier grid log) priorities = []
 
 -- of a log that is used up: `spent` and the number of its steps, the line of its grid, and the steps
 abbrev pub spent_on_text : Rect → List Step → List ℕ
@@ -53,25 +54,25 @@ spent_on_text grid steps = line (codes "spent " ++ decimal (length steps)) ++ gr
 
 -- the text, behind the grid with which the search begins: the grids that are ruled out, and then the line of the grid
 -- of the parts and their blueprint; or those grids alone; or the log that is used up
-abbrev pub least_text : Smallest → List ℕ
-least_text (Found earlier grid parts) = earlier_text earlier.items ++ grid_line grid ++ blueprint_text parts.items
-least_text (Nowhere earlier) = earlier_text earlier.items
-least_text (Spent earlier grid log) = spent_on_text grid log.steps
+abbrev pub least_text : Smallest → List Priority → List ℕ
+least_text (Found earlier grid parts) priorities = earlier_text earlier.items ++ grid_line grid ++ blueprint_text parts.items priorities
+least_text (Nowhere earlier) priorities = earlier_text earlier.items
+least_text (Spent earlier grid log) priorities = spent_on_text grid log.steps
 
 -- the whole text: the line of the grid with which the search begins, where one is named, and what it comes to
-abbrev pub smallest_text : Option Rect → Smallest → List ℕ
-smallest_text first answer = from_line first ++ least_text answer
+abbrev pub smallest_text : Option Rect → Smallest → List Priority → List ℕ
+smallest_text first answer priorities = from_line first ++ least_text answer priorities
 
--- the blueprint of the parts that are found on a small grid; else nothing
-abbrev pub blueprint_of_small : Small → List ℕ
-blueprint_of_small (small.Found grid parts) = blueprint_text parts.items
-blueprint_of_small (small.Spent steps) = []
+-- the blueprint of the parts that are found on a small grid, with these priorities; else nothing
+abbrev pub blueprint_of_small : Small → List Priority → List ℕ
+blueprint_of_small (small.Found grid parts) priorities = blueprint_text parts.items priorities
+blueprint_of_small (small.Spent steps) priorities = []
 
 -- that none is found in so many steps: `spent` and their number, and `end`
 abbrev pub found_none_text : ℕ → List ℕ
 found_none_text steps = line (codes "spent " ++ decimal steps) ++ line (codes "end")
 
 -- the text of a search for small grids: the line of the grid of the parts, and their blueprint; or that none is found
-abbrev pub small_text : Small → List ℕ
-small_text (small.Found grid parts) = grid_line grid ++ blueprint_text parts.items
-small_text (small.Spent steps) = found_none_text steps
+abbrev pub small_text : Small → List Priority → List ℕ
+small_text (small.Found grid parts) priorities = grid_line grid ++ blueprint_text parts.items priorities
+small_text (small.Spent steps) priorities = found_none_text steps

@@ -1,4 +1,5 @@
 -- Definitions that private functions alone cite.
+pub mod Bare
 pub mod Ends
 pub mod Ranks
 pub mod Skipping

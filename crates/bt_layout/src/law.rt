@@ -18,7 +18,8 @@ pub fn nowhere_is_certificate()
     ensures { NowhereIsCertificate }
 {}
 
-/// What is written of parts that lay a request, as a blueprint, is read back as these parts.
+/// What is written of parts that lay a request, as a blueprint, is read back as these parts with what their splitters
+/// prefer, where they are no more than a blueprint may have.
 pub fn laid_is_read_back()
     ensures { LaidIsReadBack }
 {}

@@ -1,17 +1,17 @@
 //! Layouts that are made smaller until they lie in the rectangle of a request.
 use crate::progress::Laid;
 use crate::seeking::{Ground, great_rect, ground_in};
-use bt_model::{MOST_ACROSS, Request};
+use bt_model::Request;
 use bt_net::Demand;
 use bt_parts::{Part, Rect};
 use hint_placement::{Sketch, find_sketch};
 use hint_shrinking::{Goal, Shrunk, find_turned, shrink};
 use std::alloc::{AllocError, Global};
 
-/// The greatest rectangle.
+/// The greatest rectangle in which layouts begin that are made smaller.
 const GREATEST: Rect = Rect {
-    width: MOST_ACROSS,
-    height: MOST_ACROSS,
+    width: 16,
+    height: 16,
 };
 
 /// Layouts are made smaller only to rectangles that have so many cells for each splitter.

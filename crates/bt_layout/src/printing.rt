@@ -1,5 +1,5 @@
 //! Writing what a search for the least grid comes to, and one for small grids, line by line, without memory.
-ghost use Rattle.std.specs.Prelude.{◌≡◌, ◌++◌, IfOk};
+ghost use Rattle.std.specs.Prelude.{◌≡◌, ◌++◌, IfOk, List};
 ghost use Rattle.bt_io.specs.Bytes.{WritesText};
 ghost use Rattle.bt_io.specs.Passages.{passage};
 ghost use Rattle.bt_layout.specs.SmallestText.{blueprint_of, earlier_text, from_line, grid_line, nowhere_text};
@@ -7,18 +7,23 @@ ghost use Rattle.bt_layout.specs.SmallestText.{least_text, rect_line, ruled_out_
 ghost use Rattle.bt_layout.specs.SmallestText.{blueprint_of_small, found_none_text, small_text};
 
 use crate::outcome::{RuledOut, Small, Smallest};
+use bt_hands::Priority;
 use bt_io::{Sink, WriteFault, write_all_of, write_pieces};
 use bt_log::Log;
 use bt_parts::Rect;
 use itoa::Buffer;
 use std::alloc::{AllocError, Global};
 
-/// The blueprint of the parts that were found; else nothing.
-pub fn blueprint_of(alloc: Global, answer: &Smallest) -> Result<Vec<u8>, AllocError>
-    ensures { IfOk result (λ text. text.items ≡ blueprint_of answer.now) }
+/// The blueprint of the parts that were found, with these priorities; else nothing.
+pub fn blueprint_of(
+    alloc: Global,
+    answer: &Smallest,
+    priorities: &[Priority],
+) -> Result<Vec<u8>, AllocError>
+    ensures { IfOk result (λ text. text.items ≡ blueprint_of answer.now priorities.now) }
 {
     match answer {
-        Smallest::Found { parts, .. } => bt_write::text_of(alloc, parts),
+        Smallest::Found { parts, .. } => bt_write::text_of(alloc, parts, priorities),
         Smallest::Nowhere(_) | Smallest::Spent { .. } => Ok(Vec::new(alloc)),
     }
 }
@@ -33,8 +38,9 @@ pub fn print_smallest<K: Sink>(
     blueprint: &[u8],
     sink: &mut K,
 ) -> Result<(), WriteFault>
-    requires { blueprint.now ≡ blueprint_of answer.now }
-    ensures { WritesText (passage K.held K.faults sink.old sink.new) (smallest_text first answer.now) result }
+    ensures { (priorities : List Priority) → blueprint.now ≡ blueprint_of answer.now priorities
+        → WritesText (passage K.held K.faults sink.old sink.new)
+        (smallest_text first answer.now priorities) result }
 {
     print_from(first, sink)?;
     print_least(answer, blueprint, sink)
@@ -52,8 +58,8 @@ fn print_from<K: Sink>(first: Option<Rect>, sink: &mut K) -> Result<(), WriteFau
 
 /// Writes what stands behind that line.
 fn print_least<K: Sink>(answer: &Smallest, blueprint: &[u8], sink: &mut K) -> Result<(), WriteFault>
-    requires { blueprint.now ≡ blueprint_of answer.now }
-    ensures { WritesText (passage K.held K.faults sink.old sink.new) (least_text answer.now) result }
+    ensures { (priorities : List Priority) → blueprint.now ≡ blueprint_of answer.now priorities
+        → WritesText (passage K.held K.faults sink.old sink.new) (least_text answer.now priorities) result }
 {
     match answer {
         Smallest::Found { earlier, grid, .. } => print_found(earlier, *grid, blueprint, sink),
@@ -62,12 +68,16 @@ fn print_least<K: Sink>(answer: &Smallest, blueprint: &[u8], sink: &mut K) -> Re
     }
 }
 
-/// The blueprint of the parts that were found on a small grid; else nothing.
-pub fn blueprint_of_small(alloc: Global, small: &Small) -> Result<Vec<u8>, AllocError>
-    ensures { IfOk result (λ text. text.items ≡ blueprint_of_small small.now) }
+/// The blueprint of the parts that were found on a small grid, with these priorities; else nothing.
+pub fn blueprint_of_small(
+    alloc: Global,
+    small: &Small,
+    priorities: &[Priority],
+) -> Result<Vec<u8>, AllocError>
+    ensures { IfOk result (λ text. text.items ≡ blueprint_of_small small.now priorities.now) }
 {
     match small {
-        Small::Found { parts, .. } => bt_write::text_of(alloc, parts),
+        Small::Found { parts, .. } => bt_write::text_of(alloc, parts, priorities),
         Small::Spent(_) => Ok(Vec::new(alloc)),
     }
 }
@@ -77,8 +87,8 @@ pub fn blueprint_of_small(alloc: Global, small: &Small) -> Result<Vec<u8>, Alloc
 ///
 /// Where the sink fails, which its count of faults shows, a proper prefix of the text was written.
 pub fn print_small<K: Sink>(small: &Small, blueprint: &[u8], sink: &mut K) -> Result<(), WriteFault>
-    requires { blueprint.now ≡ blueprint_of_small small.now }
-    ensures { WritesText (passage K.held K.faults sink.old sink.new) (small_text small.now) result }
+    ensures { (priorities : List Priority) → blueprint.now ≡ blueprint_of_small small.now priorities
+        → WritesText (passage K.held K.faults sink.old sink.new) (small_text small.now priorities) result }
 {
     match small {
         Small::Found { grid, .. } => print_found(&[], *grid, blueprint, sink),

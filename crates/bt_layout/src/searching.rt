@@ -1,20 +1,23 @@
 //! Searching for a layout of a request by its placement formula.
-ghost use Rattle.std.specs.Prelude.{IfOk, IfSome, length, ℕ};
+ghost use Rattle.std.specs.Prelude.{IfOk, IfSome, MatchOption, length, ℕ};
+ghost use Rattle.bt_model.specs.Requests.{IsRequest};
+ghost use Rattle.bt_place.specs.PlaceFormula.{HasFormula};
 ghost use Rattle.bt_layout.specs.Layouts.{IsLayout};
-ghost use Rattle.bt_layout.specs.inner.Ends.{EndsWithin, EndsWith, IsOver, IsTrimmedTo};
+ghost use Rattle.bt_layout.specs.inner.Ends.{EndsWithin, EndsWith, IsOver, IsSought, IsTrimmedTo};
 ghost use Rattle.bt_layout.specs.inner.Likely.{IsLaidOut};
 ghost use Rattle.bt_layout.specs.inner.Progressing.{HasLog, IsWhole};
 
 use crate::likely::{Trial, Tried, placing};
 use crate::outcome::Layout;
 use crate::sketched::{look_by_sketch, look_in_windows};
+use crate::tested::laid_by_proposal;
 use crate::tight::is_tight;
 use bt_choosers::{Highest, Plan};
 use bt_cnf::{Chooser, Formula};
 use bt_log::Log;
 use bt_model::Request;
 use bt_parts::Part;
-use bt_place::{decode, encode_place};
+use bt_place::{decode, encode_place, has_formula};
 use bt_sat::{Answer, Solver};
 use bt_trim::trimmed;
 use std::alloc::{AllocError, Global};
@@ -29,6 +32,10 @@ const SMALL: u64 = 160;
 /// From so many on, the cells of the rectangle times the splitters are many.
 const LARGE: u64 = 216;
 
+/// At most so many steps look for a layout where one is likely, before the whole formula is searched: enough for each window
+/// by turns, and for the whole rectangle; where there is none, the budget is to serve the refutation.
+const LIKELY_STEPS: u64 = 65_536;
+
 /// What a search of a placement formula comes to, and how many steps it took.
 #[derive(Drop)]
 pub struct Searched {
@@ -39,31 +46,63 @@ pub struct Searched {
 /// Searches for a layout of a request, with a log of at most so many steps. The choosers are told of the steps, and asked
 /// where conflicts propose nothing; the search is right whatever they answer.
 ///
-/// At first the placement formula is searched by few steps, where it is small. Then a sketch of a layout is made, which
-/// may show one; then a layout is searched where one is likely, by at most as many steps; where none is found, the log of
-/// that search is dropped, and the placement formula is searched from the start. It has no atoms, so a model of its clauses
-/// meets it. Of a log that refutes it the steps that the last one doesn't need are left out.
+/// Of a request without a formula it is what hints propose that is tested, and where that lays nothing, there is no answer.
+///
+/// Of one that has a formula, at first the formula is searched by few steps, where it is small. Then a sketch of a layout is
+/// made, which may show one; then a layout is searched where one is likely, by at most 65,536 steps; where none is
+/// found, the log of that search is dropped, and the formula is searched from the start. It has no atoms, so a model of its
+/// clauses meets it. Of a log that refutes it the steps that the last one doesn't need are left out.
 pub fn layout<C: Chooser>(
     alloc: Global,
     request: &Request,
     learnt: u64,
     choosers: Vec<C>,
-) -> Result<Layout, AllocError>
-    ensures { IfOk result (IsLayout request.now learnt) }
+) -> Result<Option<Layout>, AllocError>
+    ensures { IfOk result (λ answer.
+        MatchOption answer (HasFormula request.now → ⊥) (IsLayout request.now learnt)) }
 {
-    match soon_shown(alloc, request, learnt)? {
-        Some(layout) => Ok(layout),
-        None => sought_layout(alloc, request, learnt, choosers),
+    if has_formula(alloc, request)? {
+        let layout = search(alloc, request, learnt, choosers)?;
+        Ok(Some(layout))
+    } else {
+        proposed(alloc, request, learnt)
     }
+}
+
+/// What hints propose for a request without a formula, where that lays it.
+fn proposed(alloc: Global, request: &Request, learnt: u64) -> Result<Option<Layout>, AllocError>
+    requires { HasFormula request.now → ⊥ }
+    ensures { IfOk result (λ answer.
+        MatchOption answer (HasFormula request.now → ⊥) (IsLayout request.now learnt)) }
+{
+    match laid_by_proposal(alloc, request, learnt)? {
+        Some(parts) => Ok(Some(Layout::Found(parts))),
+        None => Ok(None),
+    }
+}
+
+/// Searches for a layout of a request by its placement formula, with a log of at most so many steps.
+pub fn search<C: Chooser>(
+    alloc: Global,
+    request: &Request,
+    learnt: u64,
+    choosers: Vec<C>,
+) -> Result<Layout, AllocError>
+    ensures sought { IfOk result (IsSought request.now learnt) }
+    ensures request { IsRequest request.now }
+{
+    if is_small(request) {
+        if let Some(layout) = soon_shown(alloc, request, learnt)? {
+            return Ok(layout);
+        }
+    }
+    sought_layout(alloc, request, learnt, choosers)
 }
 
 /// What few steps show of a small placement formula: a layout, or that there is none.
 fn soon_shown(alloc: Global, request: &Request, learnt: u64) -> Result<Option<Layout>, AllocError>
-    ensures { IfOk result (λ shown. IfSome shown (IsLayout request.now learnt)) }
+    ensures { IfOk result (λ shown. IfSome shown (IsSought request.now learnt)) }
 {
-    if !is_small(request) {
-        return Ok(None);
-    }
     let Searched { layout, .. } = look_alone(alloc, request, learnt.min(SOON_STEPS))?;
     match layout {
         Layout::Found(parts) => Ok(Some(Layout::Found(parts))),
@@ -73,7 +112,9 @@ fn soon_shown(alloc: Global, request: &Request, learnt: u64) -> Result<Option<La
 }
 
 /// Whether the placement formula of a request is small.
-fn is_small(request: &Request) -> bool {
+fn is_small(request: &Request) -> bool
+    ensures { IsRequest request.now }
+{
     let (net, rect) = (request.net(), request.rect());
     let cells = u64::from(rect.width).saturating_mul(u64::from(rect.height));
     let items = u64::from(net.splitters()).saturating_add(net.edges().len() as u64);
@@ -87,9 +128,9 @@ fn sought_layout<C: Chooser>(
     learnt: u64,
     choosers: Vec<C>,
 ) -> Result<Layout, AllocError>
-    ensures { IfOk result (IsLayout request.now learnt) }
+    ensures { IfOk result (IsSought request.now learnt) }
 {
-    if let Some(parts) = early_layout(alloc, request, learnt)? {
+    if let Some(parts) = early_layout(alloc, request, learnt.min(LIKELY_STEPS))? {
         return Ok(Layout::Found(parts));
     }
     let Searched { layout, .. } = search_whole(alloc, request, learnt, choosers)?;
@@ -199,7 +240,7 @@ fn layout_of(
     requires over { IsOver request.now log }
     requires ends { (learnt : ℕ) × EndsWith request.now learnt log.steps answer }
     ensures layout { (learnt : ℕ) → EndsWith request.now learnt log.steps answer
-        → IfOk result (IsLayout request.now learnt) }
+        → IfOk result (IsSought request.now learnt) }
     ensures log { IfOk result (λ layout. HasLog layout (length log.steps)) }
 {
     match answer {

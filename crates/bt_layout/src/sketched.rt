@@ -1,4 +1,5 @@
-//! Layouts that sketches show: the placement formula is searched with the parts of a sketch chosen first.
+//! Layouts that sketches show: the parts of a sketch lay the request, or the placement formula is searched with these parts
+//! chosen first.
 ghost use Rattle.std.specs.Prelude.{IfOk};
 ghost use Rattle.bt_place.specs.Narrowed.{IsNarrowed};
 ghost use Rattle.bt_place.specs.PlaceFormula.{place_formula};
@@ -6,6 +7,7 @@ ghost use Rattle.bt_layout.specs.inner.Likely.{IsNarrowedSearch, IsTrial, IsTrie
 
 use crate::likely::{Trial, Tried, planned, push_choices, trial_by};
 use crate::seeking::{seek_by_sketch, seek_where_likely};
+use crate::tested::laid_by_sketch;
 use bt_choosers::{Active, Plan, Turn};
 use bt_cnf::Formula;
 use bt_facts::{Content, Fact, Shape, cells_of, holds};
@@ -114,9 +116,27 @@ fn trial_with(
     trial_by(alloc, request, &mut solver)
 }
 
-/// Looks for the layout that a sketch of the request shows, by at most so many steps. What is found is a layout; where none
-/// is found, nothing is said.
+/// Looks for the layout that a sketch of the request shows: its parts, or what a search with them finds by at most so many
+/// steps. What is found is a layout; where none is found, nothing is said.
 pub fn look_at_sketch(
+    alloc: Global,
+    request: &Request,
+    sketch: &Sketch,
+    steps: u64,
+) -> Result<Tried, AllocError>
+    ensures { IfOk result (IsTried request.now steps) }
+{
+    match laid_by_sketch(alloc, request, sketch)? {
+        Some(parts) => Ok(Tried {
+            trial: Trial::Found(parts),
+            steps: 0,
+        }),
+        None => search_with(alloc, request, sketch, steps),
+    }
+}
+
+/// Looks for the layout that a sketch of the request shows by a search with at most so many steps.
+fn search_with(
     alloc: Global,
     request: &Request,
     sketch: &Sketch,
@@ -145,7 +165,7 @@ pub fn look_by_sketch(alloc: Global, request: &Request, steps: u64) -> Result<Tr
 fn laid_by(alloc: Global, request: &Request, sketch: &Sketch) -> Result<Trial, AllocError>
     ensures { IfOk result (IsTrial request.now) }
 {
-    let Tried { trial, .. } = trial_with(alloc, request, sketch, SKETCHED_STEPS)?;
+    let Tried { trial, .. } = look_at_sketch(alloc, request, sketch, SKETCHED_STEPS)?;
     Ok(trial)
 }
 

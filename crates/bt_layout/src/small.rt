@@ -1,23 +1,31 @@
 //! Looking for small grids on which parts lay a request.
-ghost use Rattle.std.specs.Prelude.{◌↔◌, ℕ, IfOk, IsTrue, Option};
-ghost use Rattle.bt_model.specs.Requests.{LayoutRequest};
+ghost use Rattle.std.specs.Prelude.{◌≡◌, ◌↔◌, ℕ, IfOk, IfSome, IsTrue, MatchOption, Option, unwrap_or};
+ghost use Rattle.bt_model.specs.Requests.{IsRequest, LayoutRequest};
 ghost use Rattle.bt_layout.specs.Early.{IsEarly};
-ghost use Rattle.bt_layout.specs.Small.{HasFewer, IsSmall};
-ghost use Rattle.bt_layout.specs.Smallest.{NamesNoCells};
+ghost use Rattle.bt_layout.specs.Grids.{area_of};
+ghost use Rattle.bt_layout.specs.Small.{HasFewer, IsBeyond, IsSmall, MayBeAsked};
+ghost use Rattle.bt_layout.specs.Smallest.{NamesNoCells, request_on};
 ghost use Rattle.bt_layout.specs.inner.Progressing.{AskEach};
 
 use crate::early::lay_early;
 use crate::least::request_on;
 use crate::order::grids;
 use crate::outcome::{Early, Small};
-use bt_model::Request;
+use crate::tested::laid_by_proposal;
+use bt_model::{MOST_CELLS, MOST_ENCODED, Request};
 use bt_parts::Rect;
 use std::alloc::{AllocError, Global};
+
+/// Without formulas, layouts are proposed on at most so many grids.
+const MOST_PROPOSED: usize = 20;
 
 /// Looks for small grids, of at most as many cells each way as the request's rectangle and of fewer cells than so many,
 /// where a number is given, on which parts lay the request: from the greatest grid downwards, with so many steps of
 /// all searches together. Where none is found and not all of them were taken, on no such grid do any parts lay the
 /// request. Of grids other than the one that is told nothing is said.
+///
+/// Where the network, or the number of cells of such grids, is beyond those of which formulas are written, it is what hints
+/// propose that is tested, and there may be no answer.
 ///
 /// The request names no cells.
 pub fn find_small(
@@ -25,13 +33,97 @@ pub fn find_small(
     request: &Request,
     cells: Option<u64>,
     learnt: u64,
-) -> Result<Small, AllocError>
+) -> Result<Option<Small>, AllocError>
     requires { NamesNoCells request.now }
+    ensures { IfOk result (λ answer.
+        MatchOption answer (IsBeyond request.now cells) (IsSmall request.now cells learnt)) }
+{
+    if is_beyond(request, cells) {
+        proposed_small(alloc, request, cells, learnt)
+    } else {
+        let small = sought_small(alloc, request, cells, learnt)?;
+        Ok(Some(small))
+    }
+}
+
+/// How many cells a grid has fewer of that may be asked, or has at most, where no number is given.
+fn most_cells(rect: Rect, cells: Option<u64>) -> u64
+    ensures { result ≡ unwrap_or cells (area_of rect) }
+{
+    match cells {
+        Some(cells) => cells,
+        None => u64::from(rect.width) * u64::from(rect.height),
+    }
+}
+
+/// Whether the network or the number of cells is beyond those of which formulas are written.
+fn is_beyond(request: &Request, cells: Option<u64>) -> bool
+    ensures { IsTrue result ↔ IsBeyond request.now cells }
+{
+    let net = request.net();
+    net.edges().len() > MOST_ENCODED
+        || net.splitters() as usize > MOST_ENCODED
+        || most_cells(request.rect(), cells) > u64::from(MOST_CELLS)
+}
+
+/// What the searches of all requests come to.
+fn sought_small(
+    alloc: Global,
+    request: &Request,
+    cells: Option<u64>,
+    learnt: u64,
+) -> Result<Small, AllocError>
+    requires cells { NamesNoCells request.now }
+    requires few { IsBeyond request.now cells → ⊥ }
     ensures { IfOk result (IsSmall request.now cells learnt) }
 {
     let requests = small_requests(alloc, request, cells)?;
     let early = lay_early(alloc, &requests, learnt)?;
     Ok(small_of(&requests, early))
+}
+
+/// A layout that hints propose on one of the greatest grids that may be asked.
+fn proposed_small(
+    alloc: Global,
+    request: &Request,
+    cells: Option<u64>,
+    learnt: u64,
+) -> Result<Option<Small>, AllocError>
+    requires cells { NamesNoCells request.now }
+    ensures { IfOk result (λ answer. IfSome answer (IsSmall request.now cells learnt)) }
+{
+    let grids = grids(alloc, request.rect())?;
+    let mut asked: usize = 0;
+    for back in 0..grids.len() {
+        let grid = grids[grids.len() - 1 - back];
+        if asked < MOST_PROPOSED && has_fewer(cells, grid) {
+            asked += 1;
+            if let Some(small) = proposed_on(alloc, request, cells, grid, learnt)? {
+                return Ok(Some(small));
+            }
+        }
+    }
+    Ok(None)
+}
+
+/// A layout that hints propose on this grid.
+fn proposed_on(
+    alloc: Global,
+    request: &Request,
+    cells: Option<u64>,
+    grid: Rect,
+    learnt: u64,
+) -> Result<Option<Small>, AllocError>
+    requires cells { NamesNoCells request.now }
+    requires request { IsRequest (request_on request.now grid) }
+    requires may { MayBeAsked request.now cells grid }
+    ensures { IfOk result (λ answer. IfSome answer (IsSmall request.now cells learnt)) }
+{
+    let again = request_on(alloc, request, grid)?;
+    match laid_by_proposal(alloc, &again, learnt)? {
+        Some(parts) => Ok(Some(Small::Found { grid, parts })),
+        None => Ok(None),
+    }
 }
 
 /// The same requests on these grids, in the order of grids.
@@ -68,7 +160,8 @@ fn has_fewer(cells: Option<u64>, grid: Rect) -> bool
 fn small_of(requests: &[Request], early: Early) -> Small
     requires { (learnt : ℕ) × IsEarly requests.now learnt early }
     ensures { (request : LayoutRequest) (cells : Option ℕ) (learnt : ℕ)
-        → AskEach request cells requests.now → IsEarly requests.now learnt early
+        → (IsBeyond request cells → ⊥) → AskEach request cells requests.now
+        → IsEarly requests.now learnt early
         → IsSmall request cells learnt result }
 {
     match early {

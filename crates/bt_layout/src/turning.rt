@@ -1,9 +1,7 @@
 //! Sketches in a smaller rectangle, which is turned over where that is wanted, as sketches in the whole one.
+use bt_model::MOST_ACROSS;
 use bt_parts::{Cell, Dir, Kind, Part, Rect, inside};
 use std::alloc::AllocError;
-
-/// More cells than any rectangle has each way.
-const MOST: u32 = 16;
 
 /// A direction where rows and columns are exchanged.
 fn turned_dir(dir: Dir) -> Dir {
@@ -43,7 +41,7 @@ fn add_belts(
     towards: Dir,
 ) -> Result<(), AllocError> {
     let mut cell = part.cell;
-    for _ in 0..MOST {
+    for _ in 0..MOST_ACROSS {
         cell = cell.next(towards);
         if inside(&rect, cell) {
             others.push(Part {

@@ -15,11 +15,11 @@ use Rattle.bt_net.specs.declared.network.End.{End}
 use Rattle.bt_net.specs.declared.network.End.TheVariants as end
 use Rattle.bt_net.specs.declared.network.Ends.{Ends}
 use Rattle.bt_net.specs.declared.network.Ends.TheVariants.{One, Inputs, Outputs}
-use Rattle.bt_net.specs.Network.{Network, IsNetwork, HasEnd, HasNoPriorities}
+use Rattle.bt_net.specs.Network.{Network, IsNetwork, HasEnd}
 use Rattle.bt_model.specs.declared.fault.RequestFault.{RequestFault}
 use Rattle.bt_model.specs.declared.fault.RequestFault.TheVariants as fault
-use Rattle.bt_model.specs.declared.request.TheConstants.{MOST_REQUESTED}
-use Rattle.bt_model.specs.Requests.{LayoutRequest, HasEnds, IsGrid, IsRequest, ends_of, line_of, ShareEnd, IsPinnedTo, IsPinnedInside, blocked}
+use Rattle.bt_model.specs.declared.request.TheConstants.{MOST_EDGES, MOST_SPLITTERS}
+use Rattle.bt_model.specs.Requests.{LayoutRequest, HasEnds, IsGrid, IsRequest, ends_of, line_of, IsPinnedTo, IsPinnedInside, blocked}
 use Rattle.bt_model.specs.RequestFaults.{HasNone, IsLeast, IsTooLarge, HasOtherCap, IsLineOfBad, IsLaterOfTwo, IsOutOfPlace, NameOneEnd, IsPinRefused, IsInTheWay, BlockOneCell, IsBlockRefused, IsMade}
 
 -- an edge of another cap, as it is found
@@ -83,6 +83,7 @@ not_missed net Outputs h = tt
 not_pinned_outside : (rect : Rect) (d : Demand) → ((IsPinnedInside rect d → ⊥) → ⊥) → IsPinnedInside rect d
 not_pinned_outside rect (demand.Pin pin) h = not_outside rect pin.x pin.y h
 not_pinned_outside rect (demand.Side side) h = tt
+not_pinned_outside rect (demand.Row row) h = tt
 
 -- all caps are 1, where no edge has another
 caps_of_one : (net : Network) → HasNone (HasOtherCap net) → All (λ edge. edge.cap ≡ 1) net.edges
@@ -91,14 +92,13 @@ caps_of_one net none = λ k d lt. ⊎_elim (λ eq. eq) (λ apart. absurd (none k
 
 module _ (r : LayoutRequest) where
   -- a request, where nothing of it is refused
-  pub request_where_none : IsNetwork r.net → HasNoPriorities r.net → IsGrid r.rect → (IsTooLarge r.net → ⊥) → HasNone (HasOtherCap r.net)
+  pub request_where_none : IsNetwork r.net → IsGrid r.rect → (IsTooLarge r.net → ⊥) → HasNone (HasOtherCap r.net)
       → HasNone (IsPinRefused r.net r.rect r.demands) → HasNone (IsBlockRefused r.rect r.demands r.blocks) → IsRequest r
-  request_where_none net plain grid small caps demands blocks = record {
+  request_where_none net grid small caps demands blocks = record {
     net = net;
-    plain = plain;
     grid = grid;
-    few_edges = ⊎_elim (λ lt. absurd (small (inl lt))) (λ le. le) (cases_lt MOST_REQUESTED (length r.net.edges));
-    few_splitters = ⊎_elim (λ lt. absurd (small (inr lt))) (λ le. le) (cases_lt MOST_REQUESTED r.net.splitters);
+    few_edges = ⊎_elim (λ lt. absurd (small (inl lt))) (λ le. le) (cases_lt MOST_EDGES (length r.net.edges));
+    few_splitters = ⊎_elim (λ lt. absurd (small (inr lt))) (λ le. le) (cases_lt MOST_SPLITTERS r.net.splitters);
     caps = caps_of_one r.net caps;
     ends = all_good (IsOutOfPlace r.net r.rect) (λ d. HasEnds r.net (ends_of d)) line_of r.demands (λ d good. not_missed r.net (ends_of d) (λ missing. good (inl missing))) (λ line bad. demands line (inl bad));
     pins_inside = all_good (IsOutOfPlace r.net r.rect) (IsPinnedInside r.rect) line_of r.demands (λ d good. not_pinned_outside r.rect d (λ out. good (inr out))) (λ line bad. demands line (inl bad));
@@ -122,7 +122,7 @@ module _ (r : LayoutRequest) where
         (λ bad. ⊎_elim
         (λ missing. missing (holds_at (λ d. HasEnds r.net (ends_of d)) r.demands bad.place bad.one bad.is_one request.ends))
         (λ outside. outside (holds_at (IsPinnedInside r.rect) r.demands bad.place bad.one bad.is_one request.pins_inside)) bad.bad)
-        (λ two. holds_between (λ one other. ShareEnd (ends_of one) (ends_of other) → ⊥) r.demands two.first_place two.second_place two.one two.other two.is_one two.is_other two.apart request.demands_apart two.clash)
+        (λ two. holds_between (λ one other. NameOneEnd one other → ⊥) r.demands two.first_place two.second_place two.one two.other two.is_one two.is_other two.apart request.demands_apart two.clash)
         refused
 
     request_blocks : HasNone (IsBlockRefused r.rect r.demands r.blocks)
@@ -170,7 +170,3 @@ module _ (r : LayoutRequest) where
   -- what a call that makes a request owes
   pub made_answers : (told : Result LayoutRequest RequestFault) → IsMade r told → AnswersAlways (IsMade r) told
   made_answers told right = answers_always_of (IsMade r) one_made told right
-
-  -- the same of a network that is this one
-  pub made_answers_of : (net : Network) → r.net ≡ net → (told : Result LayoutRequest RequestFault) → IsMade r told → AnswersAlways (IsMade (record r { net = net })) told
-  made_answers_of net same told right = subst (λ n. AnswersAlways (IsMade (record r { net = n })) told) same (made_answers told right)

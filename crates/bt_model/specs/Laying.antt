@@ -1,20 +1,26 @@
 -- The layouts that a request is asking for.
-use Rattle.std.specs.Prelude.{◌≡◌, ℕ, List, slice_get, Some, All, Contains, IfSome}
+use Rattle.std.specs.Prelude.{◌≡◌, ◌⊎◌, ℕ, ◌<◌, List, slice_get, Some, All, Contains, IfSome}
 use Rattle.bt_parts.specs.declared.part.Cell.{Cell}
+use Rattle.bt_hands.specs.declared.hand.Priority.{Priority}
 use Rattle.bt_parts.specs.declared.part.Dir.{Dir}
+use Rattle.bt_parts.specs.declared.part.Dir.TheVariants.{East, South}
 use Rattle.bt_parts.specs.declared.part.Part.{Part}
 use Rattle.bt_parts.specs.declared.part.Rect.{Rect}
-use Rattle.bt_parts.specs.Cells.{step, opposite, IsInside}
+use Rattle.bt_parts.specs.Cells.{step, steps, opposite, IsInside}
 use Rattle.bt_parts.specs.Layouts.{HasPart, IsAt}
 use Rattle.bt_net.specs.declared.network.Block.{Block}
 use Rattle.bt_net.specs.declared.network.End.{End}
 use Rattle.bt_net.specs.declared.network.End.TheVariants.{Input, Output}
 use Rattle.bt_net.specs.declared.network.Demand.{Demand}
 use Rattle.bt_net.specs.declared.network.Demand.TheVariants as demand
+use Rattle.bt_net.specs.declared.network.EndKind.{EndKind}
+use Rattle.bt_net.specs.declared.network.EndKind.TheVariants.{Inputs, Outputs}
 use Rattle.bt_net.specs.declared.network.Pin.{Pin}
+use Rattle.bt_net.specs.Network.{Network}
 use Rattle.bt_model.specs.Chains.{IsInput, IsOutput}
 use Rattle.bt_model.specs.Requests.{LayoutRequest, HasEnd, Names, pinned, blocked}
 use Rattle.bt_model.specs.Shown.{Naming, Shows}
+use Rattle.bt_model.specs.Preferring.{ShowsPreferring}
 
 -- the parts lie in the request's rectangle, on none of its blocked cells, and have its tier; behind the first part of
 -- an input, and in front of the last part of an output, the rectangle ends
@@ -62,15 +68,49 @@ pub record StandsAtSide (parts : List Part) (rect : Rect) (naming : Naming) (dir
   pub stands : IsAtSide rect dir part.cell
   pub points : part.dir ≡ way_across end dir
 
--- the pinned end stands on its cell, or each end of the network that is named stands at its side
+-- the number of the network's ends of this kind
+abbrev pub end_count : Network → EndKind → ℕ
+end_count net Inputs = net.inputs
+end_count net Outputs = net.outputs
+
+-- the part with this index is the first of an input, or the last of an output
+abbrev pub IsEndPart : List Part → EndKind → ℕ → Type 0
+IsEndPart parts Inputs i = IsInput parts i
+IsEndPart parts Outputs i = IsOutput parts i
+
+-- on the cell stands the first part of an input, or the last part of an output
+abbrev pub HasEndPart : List Part → EndKind → Cell → Type 0
+HasEndPart parts kind cell = (i : ℕ) × IsEndPart parts kind i × IsAt parts i cell
+
+-- on as many consecutive cells of one row or one column as there are, so many of these parts stand: all of them, since
+-- each stands on one cell
+pub record StandInRow (parts : List Part) (kind : EndKind) (count : ℕ) : Type 0 where
+  pub first : Cell
+  pub along : Dir
+  pub is_along : (along ≡ East) ⊎ (along ≡ South)
+  pub each : (k : ℕ) → k < count → HasEndPart parts kind (steps k along first)
+
+-- the pinned end stands on its cell, or each end of the network that is named stands at its side, or all ends of a kind
+-- stand in a row
 abbrev pub KeepsDemand : List Part → LayoutRequest → Naming → Demand → Type 0
 KeepsDemand parts request naming (demand.Pin pin) = KeepsPin parts naming pin
 KeepsDemand parts request naming (demand.Side side) =
     (end : End) → HasEnd request.net end → Names side.ends end → StandsAtSide parts request.rect naming side.dir end
+KeepsDemand parts request naming (demand.Row row) = StandInRow parts row.kind (end_count request.net row.kind)
 
--- the layout fits the request, and shows its network under a naming by which every pin and every side is kept
+-- the layout fits the request, and shows its network under a naming by which every pin, side and row is kept; nothing
+-- is said of what its splitters prefer
 pub record Lays (parts : List Part) (request : LayoutRequest) : Type 0 where
   pub fits : Fits parts request
   pub naming : Naming
   pub shows : Shows parts request.net naming
+  pub demands : All (KeepsDemand parts request naming) request.demands
+
+-- the layout with these priorities lays the request with what its splitters prefer: it fits, and some one-to-one map of
+-- its chains onto the network's edges keeps named start, named target and cap, takes preferred chains to preferred
+-- edges, and no others; every pin, side and row is kept
+pub record LaysPreferring (parts : List Part) (priorities : List Priority) (request : LayoutRequest) : Type 0 where
+  pub fits : Fits parts request
+  pub naming : Naming
+  pub shows : ShowsPreferring parts priorities request.net naming
   pub demands : All (KeepsDemand parts request naming) request.demands

@@ -6,5 +6,6 @@ pub mod Orderly
 pub mod RequestFaults
 pub mod Requests
 pub mod Shown
+pub mod Preferring
 pub mod Speeds
 pub mod inner

@@ -8,8 +8,9 @@ use Rattle.bt_parts.specs.declared.part.Rect.{Rect}
 use Rattle.bt_parts.specs.Cells.{IsInside}
 use Rattle.bt_model.specs.declared.fault.RequestFault.{RequestFault}
 use Rattle.bt_model.specs.declared.fault.RequestFault.TheVariants as fault
-use Rattle.bt_model.specs.declared.request.TheConstants.{MOST_REQUESTED}
-use Rattle.bt_model.specs.Requests.{LayoutRequest, IsRequest, HasEnds, ends_of, line_of, ShareEnd, IsPinnedTo, IsPinnedInside, blocked}
+use Rattle.bt_model.specs.declared.request.TheConstants.{MOST_EDGES, MOST_SPLITTERS}
+pub use Rattle.bt_model.specs.Requests.{NameOneEnd}
+use Rattle.bt_model.specs.Requests.{LayoutRequest, IsRequest, HasEnds, ends_of, line_of, IsPinnedTo, IsPinnedInside, blocked}
 
 -- no number has P
 abbrev pub HasNone : (ℕ → Type 0) → Type 0
@@ -19,9 +20,9 @@ HasNone P = (n : ℕ) → P n → ⊥
 abbrev pub IsLeast : (ℕ → Type 0) → ℕ → Type 0
 IsLeast P n = P n × ((m : ℕ) → P m → n ≤ m)
 
--- the network has more than `MOST_REQUESTED` edges or splitters
+-- the network has more than `MOST_EDGES` edges or more than `MOST_SPLITTERS` splitters
 abbrev pub IsTooLarge : Network → Type 0
-IsTooLarge net = (MOST_REQUESTED < length net.edges) ⊎ (MOST_REQUESTED < net.splitters)
+IsTooLarge net = (MOST_EDGES < length net.edges) ⊎ (MOST_SPLITTERS < net.splitters)
 
 -- the edge with this number has another cap than 1
 abbrev pub HasOtherCap : Network → ℕ → Type 0
@@ -51,11 +52,8 @@ pub record IsLaterOfTwo {X : Type 0} (Clash : X → X → Type 0) (line_of : X �
 abbrev pub IsOutOfPlace : Network → Rect → Demand → Type 0
 IsOutOfPlace net rect d = (HasEnds net (ends_of d) → ⊥) ⊎ (IsPinnedInside rect d → ⊥)
 
--- both name some end
-abbrev pub NameOneEnd : Demand → Demand → Type 0
-NameOneEnd one other = ShareEnd (ends_of one) (ends_of other)
-
--- the line of a pin or a side that no request has: one that is out of place, or the later one of two that name some end
+-- the line of a pin, a side or a row that no request has: one that is out of place, or the later one of two that name
+-- some end
 abbrev pub IsPinRefused : Network → Rect → List Demand → ℕ → Type 0
 IsPinRefused net rect demands line = IsLineOfBad (IsOutOfPlace net rect) line_of demands line ⊎ IsLaterOfTwo NameOneEnd line_of demands line
 

@@ -55,20 +55,14 @@ pub record IsEdgeOf (parts : List Part) (naming : Naming) (chain : Chain) (edge 
   pub target : IsTargetOf naming chain.sink edge.target
   pub cap : IsCapOf parts chain edge.cap
 
--- the clean layout shows the network under this naming: its edges stand for the chains, in some order.
--- For example of three parts, all basic and to the north: a belt (0) below the western half of a splitter (1), and a
--- belt (2)
--- above that half. The belts are an input and an output, so the naming is `splitters = [1]`, `inputs = [0]`, `outputs =
--- [2]`.
+-- the clean layout shows the network under this naming: its edges stand for the chains, in some order. For example of
+-- three parts, all basic and to the north: a belt (0) below the western half of a splitter (1), and a belt (2) above
+-- that half. The belts are an input and an output, so the naming is `splitters = [1]`, `inputs = [0]`, `outputs = [2]`.
 -- There are two chains: one begins at belt 0, has belt 0 alone for a link, and enters splitter 1; one leaves splitter 1
--- by its
--- western half, has belt 2 for a link, and ends there. The eastern half hands on to nothing, so no chain starts there.
--- The
--- network has the edges from input 0 to splitter 0 and from splitter 0 to output 0, both of cap 1, since there is one
--- tier.
--- Were belt 2 a fast one, there were two tiers, and caps were speeds: 1 and 1, since the splitter at the end of each
--- chain
--- counts; were the splitter fast too, 1 and 2
+-- by its western half, has belt 2 for a link, and ends there. The eastern half hands on to nothing, so no chain starts
+-- there. The network has the edges from input 0 to splitter 0 and from splitter 0 to output 0, both of cap 1, since
+-- there is one tier. Were belt 2 a fast one, there were two tiers, and caps were speeds: 1 and 1, since the splitter at
+-- the end of each chain counts; were the splitter fast too, 1 and 2
 pub record Shows (parts : List Part) (net : Network) (naming : Naming) : Type 0 where
   pub clean : IsClean parts
   pub names : IsNaming parts net naming

@@ -1,9 +1,9 @@
 //! What the lines of pins and sides name.
 ghost use Rattle.std.specs.Prelude.{◌≡◌, ◌↔◌, IsTrue};
 ghost use Rattle.bt_model.specs.Requests as requests;
-ghost use Rattle.bt_model.specs.Requests.{Names, ShareEnd};
+ghost use Rattle.bt_model.specs.Requests.{Names, ShareEnd, NameOneEnd};
 
-use bt_net::{Demand, End, Ends};
+use bt_net::{Demand, End, EndKind, Ends};
 
 /// The ends of which a line says where they are to stand.
 pub fn ends_of(demand: Demand) -> Ends
@@ -12,7 +12,35 @@ pub fn ends_of(demand: Demand) -> Ends
     match demand {
         Demand::Pin(pin) => Ends::One(pin.end),
         Demand::Side(side) => side.ends,
+        Demand::Row(row) => all_of(row.kind),
     }
+}
+
+/// The ends of this kind.
+fn all_of(kind: EndKind) -> Ends
+    ensures { result ≡ requests.all_of kind }
+{
+    match kind {
+        EndKind::Inputs => Ends::Inputs,
+        EndKind::Outputs => Ends::Outputs,
+    }
+}
+
+/// Whether the line says that ends stand in a row.
+fn is_row(demand: Demand) -> bool
+    ensures { result ≡ requests.is_row demand }
+{
+    match demand {
+        Demand::Pin(_) | Demand::Side(_) => false,
+        Demand::Row(_) => true,
+    }
+}
+
+/// Whether both lines name some end, and both say that ends stand in a row, or neither does.
+pub(crate) fn name_one_end(one: Demand, other: Demand) -> bool
+    ensures { IsTrue result ↔ NameOneEnd one other }
+{
+    is_row(one) == is_row(other) && share_end(ends_of(one), ends_of(other))
 }
 
 /// The number of a line that says where ends are to stand.
@@ -22,6 +50,7 @@ pub(crate) fn line_of(demand: Demand) -> usize
     match demand {
         Demand::Pin(pin) => pin.line,
         Demand::Side(side) => side.line,
+        Demand::Row(row) => row.line,
     }
 }
 
@@ -66,7 +95,7 @@ fn names_outputs(ends: Ends) -> bool
 }
 
 /// Whether some end is named by both.
-pub(crate) fn share_end(one: Ends, other: Ends) -> bool
+fn share_end(one: Ends, other: Ends) -> bool
     ensures { IsTrue result ↔ ShareEnd one other }
 {
     match one {

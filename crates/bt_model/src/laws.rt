@@ -4,7 +4,7 @@ ghost use Rattle.bt_parts.specs.declared.part.Part.{Part};
 ghost use Rattle.bt_net.specs.Network.{Network, HasNoPriorities};
 ghost use Rattle.bt_model.specs.Shown.{Naming, Shows, IsNumbered};
 
-use crate::request::{MOST_ACROSS, MOST_REQUESTED};
+use crate::request::{MOST_ACROSS, MOST_CELLS, MOST_EDGES, MOST_ENCODED, MOST_SPLITTERS};
 
 /// A layout shows the network that is numbered for it, under the numbering as naming.
 pub fn numbered_shows()
@@ -22,6 +22,9 @@ pub fn one_network()
 
 /// The limits of a request, as numbers.
 pub fn limits_are()
-    ensures across { MOST_ACROSS ≡ 16 }
-    ensures requested { MOST_REQUESTED ≡ 128 }
+    ensures across { MOST_ACROSS ≡ 160 }
+    ensures edges { MOST_EDGES ≡ 1024 }
+    ensures splitters { MOST_SPLITTERS ≡ 512 }
+    ensures cells { MOST_CELLS ≡ 1024 }
+    ensures encoded { MOST_ENCODED ≡ 128 }
 {}

@@ -16,5 +16,5 @@ pub use fault::RequestFault;
 pub use giving::{hands, pair};
 pub use laws::{limits_are, numbered_shows, one_network};
 pub use plain::is_kind;
-pub use request::{MOST_ACROSS, MOST_REQUESTED, Request};
+pub use request::{MOST_ACROSS, MOST_CELLS, MOST_EDGES, MOST_ENCODED, MOST_SPLITTERS, Request};
 pub use ringing::ring;

@@ -1,9 +1,9 @@
 //! Finding the edge, the pin or side and the block that a request can't have.
 //!
-//! A pin, a side and a block are looked at beside those before them in the list, and only while their line may
-//! still be the least refused one. So where lines ascend, as those of a text do, the time is linear: among
-//! pins and sides that are not refused there is at most one of each end, and among such blocks one of each
-//! cell.
+//! A pin, a side, a row and a block are looked at beside those before them in the list, and only while their line
+//! may still be the least refused one. So where lines ascend, as those of a text do, the time is linear: among
+//! pins and sides that are not refused there is at most one of each end, of rows one of each kind, and among such
+//! blocks one of each cell.
 ghost use Rattle.std.specs.Prelude.{◌≡◌, ◌↔◌, ℕ, ◌<◌, ◌≤◌, length, max, Some, IsTrue};
 ghost use Rattle.bt_parts.specs.Cells.{IsInside, cell_at};
 ghost use Rattle.bt_net.specs.Network.{HasEnd};
@@ -12,7 +12,7 @@ ghost use Rattle.bt_model.specs.RequestFaults.{HasOtherCap, IsOutOfPlace, NameOn
 ghost use Rattle.bt_model.specs.RequestFaults.{BlockOneCell, IsPinRefused, IsBlockRefused};
 ghost use Rattle.bt_model.specs.inner.Least.{IsLeastIfAny, lesser, MayPrecede, IsRefusedHere};
 
-use crate::demanding::{ends_of, line_of, share_end};
+use crate::demanding::{ends_of, line_of, name_one_end};
 use bt_net::{Block, Demand, End, Ends, Net};
 use bt_parts::Rect;
 
@@ -29,7 +29,7 @@ pub(crate) fn other_cap(net: &Net) -> Option<usize>
     None
 }
 
-/// The least line of a pin or a side that is refused.
+/// The least line of a pin, a side or a row that is refused.
 pub(crate) fn refused_demand(net: &Net, rect: Rect, demands: &[Demand]) -> Option<usize>
     ensures { IsLeastIfAny (IsPinRefused net.now rect demands.now) result }
 {
@@ -75,13 +75,6 @@ fn line_refused_by_demand(net: &Net, rect: Rect, demands: &[Demand], k: usize) -
     least
 }
 
-/// Whether both name some end.
-fn name_one_end(one: Demand, other: Demand) -> bool
-    ensures { IsTrue result ↔ NameOneEnd one other }
-{
-    share_end(ends_of(one), ends_of(other))
-}
-
 /// The line that is refused for the block at this place, seen beside the pins and the blocks before it.
 fn line_refused_by_block(
     rect: Rect,
@@ -119,7 +112,7 @@ fn is_pinned_inside(rect: Rect, demand: Demand) -> bool
 {
     match demand {
         Demand::Pin(pin) => is_inside(rect, pin.x, pin.y),
-        Demand::Side(_) => true,
+        Demand::Side(_) | Demand::Row(_) => true,
     }
 }
 
@@ -175,7 +168,7 @@ fn is_pinned_to(demand: Demand, block: Block) -> bool
 {
     match demand {
         Demand::Pin(pin) => pin.x == block.x && pin.y == block.y,
-        Demand::Side(_) => false,
+        Demand::Side(_) | Demand::Row(_) => false,
     }
 }
 

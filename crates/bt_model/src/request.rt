@@ -9,18 +9,27 @@ use bt_parts::{Rect, Tier};
 use std::marker::Model;
 
 /// The most cells of a request's rectangle, each way.
-pub const MOST_ACROSS: u32 = 16;
+pub const MOST_ACROSS: u32 = 160;
 
-/// The most edges, and the most splitters, of the network that a request asks for.
-pub const MOST_REQUESTED: usize = 128;
+/// The most edges of the network that a request asks for.
+pub const MOST_EDGES: usize = 1024;
+
+/// The most splitters of the network that a request asks for.
+pub const MOST_SPLITTERS: u32 = 512;
+
+/// A formula is written of a request whose rectangle has at most so many cells; of a greater one only where it has no room.
+pub const MOST_CELLS: u32 = 1024;
+
+/// And whose network has at most so many edges, and at most so many splitters.
+pub const MOST_ENCODED: usize = 128;
 
 /// What a layout is asked for: a network, the rectangle with the corner (0, 0) in which its parts are to
-/// lie, their tier, the cells on which ends of the network are to stand or the sides at which they are, and
-/// the cells on which no part is to stand.
+/// lie, their tier, the cells on which ends of the network are to stand, the sides at which they are or that they
+/// stand in a row, and the cells on which no part is to stand.
 ///
-/// The network has at most `MOST_REQUESTED` edges and splitters, every cap is 1, and no splitter prefers an edge.
-/// The rectangle has from 1 to `MOST_ACROSS` cells each way, and pins, sides and blocks name cells of it. No two
-/// pins or sides name one end, no two blocks one cell, and no block names a pinned cell.
+/// The network has at most `MOST_EDGES` edges and `MOST_SPLITTERS` splitters, and every cap is 1. The rectangle has from
+/// 1 to `MOST_ACROSS` cells each way, and pins and blocks name cells of it. No two pins or sides name one end, no two
+/// rows ends of one kind, no two blocks one cell, and no block names a pinned cell.
 #[derive(Drop)]
 pub struct Request {
     net: Net,
@@ -41,13 +50,11 @@ impl Model for Request {
 }
 
 impl Request {
-    ghost use Rattle.bt_net.specs.NetText.{alone};
     ghost use Rattle.bt_model.specs.Requests.{IsGrid, IsRequest, request_of};
     ghost use Rattle.bt_model.specs.RequestFaults.{IsMade};
 
     /// The request for these, or the first cause in the order of `RequestFault` why there is none. It
-    /// takes no memory. A layout that is laid out has no priorities to show, so it asks for the network without
-    /// those that it has.
+    /// takes no memory.
     pub fn new(
         net: Net,
         rect: Rect,
@@ -57,10 +64,9 @@ impl Request {
     ) -> Result<Request, RequestFault>
         requires { IsGrid rect }
         ensures { AnswersAlways
-            (IsMade (request_of (alone net) rect tier demands.items blocks.items)) result }
+            (IsMade (request_of net rect tier demands.items blocks.items)) result }
     {
-        let net = net.alone();
-        if net.edges().len() > MOST_REQUESTED || net.splitters() as usize > MOST_REQUESTED {
+        if net.edges().len() > MOST_EDGES || net.splitters() > MOST_SPLITTERS {
             return Err(RequestFault::TooLarge);
         }
         if let Some(edge) = other_cap(&net) {

@@ -13,8 +13,6 @@ pub mod Longer
 pub mod EdgeLines
 pub mod PrioritySpelling
 pub mod Preferring
-pub mod PlainBodies
-pub mod OnePlain
 pub mod PrintedPriorities
 pub mod ReadAlike
 pub mod PrintedNets

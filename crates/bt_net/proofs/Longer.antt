@@ -16,17 +16,15 @@ use Rattle.bt_net.specs.Network.{Network}
 use Rattle.bt_net.specs.NetText.{header, IsEdgeLine}
 use Rattle.bt_net.specs.PinText.{IsDemandHere, IsBlockHere}
 use Rattle.bt_net.specs.Refusals.{BeginsWithEdges}
-use Rattle.bt_net.specs.PinRefusals.{LineRefusedAfter, BeginsWithItems, GoesOnAfter, BodyRefused}
+use Rattle.bt_net.specs.PinRefusals.{Behind, next_line, LineRefusedAfter, BeginsWithItems, GoesOnAfter, BodyRefused}
 use Rattle.bt_net.specs.Wiring.{HasSmallSizes, IsPartlyWired}
-use Rattle.bt_net.specs.Readings.{Reading, StandsPlain, StandsAtFront, IsNetRead, IsPlainRead}
+use Rattle.bt_net.specs.Readings.{Reading, StandsAtFront, IsNetRead}
 use Rattle.bt_net.specs.Longer.{with_line_feed, Stays, StaysRefused}
 use Rattle.bt_net.proofs.SideSpelling.{demand_here-some, block_here-some}
 use Rattle.bt_net.proofs.NetLines.{edges_fit, edges-lack, edge-some}
 use Rattle.bt_net.proofs.EdgeLines.{edges-some}
-use Rattle.bt_net.proofs.PrioritySpelling.{priority-some}
-use Rattle.bt_net.specs.declared.network.Priority.{Priority}
-use Rattle.bt_net.specs.Priorities.{IsPriorityLine}
-use Rattle.bt_net.specs.PriorityRefusals.{LineRefusedOn, GoesOnWith, PlainRefused}
+use Rattle.bt_net.proofs.PrioritySpelling.{here-some}
+use Rattle.bt_net.specs.Priorities.{IsPriorityHere}
 
 -- ---- what was read
 
@@ -47,59 +45,10 @@ lines_fed bytes more front used all e =
 used_all : (bytes : List ℕ) (used : ℕ) → used ≤ length bytes → drop used bytes ≡ [] → used ≡ length bytes
 used_all bytes used within e = omega (arith, length-drop used bytes, ap length e)
 
-module _ (bytes : List ℕ) (read : Reading) where
-  -- the text of the lines of a network
-  abbrev plain_front : StandsPlain bytes read → List ℕ
-  plain_front plain = flat_map line (header read.net ∷ plain.begins.edge_lines ++ (plain.begins.priority_lines ++ codes "end" ∷ []))
-
-  -- the lines of a network stand at the front of longer bytes
-  plain_stays_on : (plain : StandsPlain bytes read) → bytes ≡ plain_front plain ++ drop read.used bytes
-      → (more : List ℕ) → StandsPlain (bytes ++ more) read
-  plain_stays_on plain e more = record {
-    network = plain.network;
-    begins = record {
-      edge_lines = plain.begins.edge_lines;
-      are_edges = plain.begins.are_edges;
-      priorities = plain.begins.priorities;
-      priority_lines = plain.begins.priority_lines;
-      are_priorities = plain.begins.are_priorities;
-      becomes = plain.begins.becomes;
-      begins = inl (lines_stay bytes more (plain_front plain) read.used plain.used e);
-    };
-    used = omega (arith, plain.used, length-append bytes more);
-    demands = plain.demands;
-    blocks = plain.blocks;
-    lines = plain.lines;
-  }
-
-  plain_is_fed : (plain : StandsPlain bytes read) → read.used ≡ length bytes → line bytes ≡ plain_front plain
-      → (more : List ℕ) → StandsPlain (bytes ++ 10 ∷ more) (with_line_feed read)
-  plain_is_fed plain all e more = record {
-    network = plain.network;
-    begins = record {
-      edge_lines = plain.begins.edge_lines;
-      are_edges = plain.begins.are_edges;
-      priorities = plain.begins.priorities;
-      priority_lines = plain.begins.priority_lines;
-      are_priorities = plain.begins.are_priorities;
-      becomes = plain.begins.becomes;
-      begins = inl (lines_fed bytes more (plain_front plain) read.used all e);
-    };
-    used = omega (arith, all, length-append bytes (10 ∷ more));
-    demands = plain.demands;
-    blocks = plain.blocks;
-    lines = plain.lines;
-  }
-
-  plain_begins : (plain : StandsPlain bytes read) → BeginsWithLines bytes (header read.net ∷ plain.begins.edge_lines ++ (plain.begins.priority_lines ++ codes "end" ∷ [])) (drop read.used bytes)
-      → ((more : List ℕ) → StandsPlain (bytes ++ more) read) ⊎ ((read.used ≡ length bytes) × ((more : List ℕ) → StandsPlain (bytes ++ 10 ∷ more) (with_line_feed read)))
-  plain_begins plain (inl e) = inl (plain_stays_on plain e)
-  plain_begins plain (inr (e, none)) = let all = used_all bytes read.used plain.used none in inr (all, plain_is_fed plain all e)
-
 module _ (may : Admitted) (bytes : List ℕ) (read : Reading) where
-  -- and the same with lines of pins, sides and blocks
+  -- the text of the lines of what was read
   abbrev front : StandsAtFront may bytes read → List ℕ
-  front stands = flat_map line (header read.net ∷ stands.begins.edge_lines ++ (stands.begins.demand_lines ++ (stands.begins.block_lines ++ codes "end" ∷ [])))
+  front stands = flat_map line (header read.net ∷ stands.begins.edge_lines ++ (stands.begins.priority_lines ++ (stands.begins.demand_lines ++ (stands.begins.block_lines ++ codes "end" ∷ []))))
 
   stays_on : (stands : StandsAtFront may bytes read)
       → bytes ≡ front stands ++ drop read.used bytes
@@ -107,9 +56,12 @@ module _ (may : Admitted) (bytes : List ℕ) (read : Reading) where
   stays_on stands e more = record {
     network = stands.network;
     begins = record {
-      plain = stands.begins.plain;
       edge_lines = stands.begins.edge_lines;
       are_edges = stands.begins.are_edges;
+      priorities = stands.begins.priorities;
+      priority_lines = stands.begins.priority_lines;
+      are_priorities = stands.begins.are_priorities;
+      becomes = stands.begins.becomes;
       demand_lines = stands.begins.demand_lines;
       are_demands = stands.begins.are_demands;
       block_lines = stands.begins.block_lines;
@@ -126,9 +78,12 @@ module _ (may : Admitted) (bytes : List ℕ) (read : Reading) where
   is_fed stands all e more = record {
     network = stands.network;
     begins = record {
-      plain = stands.begins.plain;
       edge_lines = stands.begins.edge_lines;
       are_edges = stands.begins.are_edges;
+      priorities = stands.begins.priorities;
+      priority_lines = stands.begins.priority_lines;
+      are_priorities = stands.begins.are_priorities;
+      becomes = stands.begins.becomes;
       demand_lines = stands.begins.demand_lines;
       are_demands = stands.begins.are_demands;
       block_lines = stands.begins.block_lines;
@@ -140,16 +95,12 @@ module _ (may : Admitted) (bytes : List ℕ) (read : Reading) where
   }
 
   all_begins : (stands : StandsAtFront may bytes read)
-      → BeginsWithLines bytes (header read.net ∷ stands.begins.edge_lines ++ (stands.begins.demand_lines ++ (stands.begins.block_lines ++ codes "end" ∷ []))) (drop read.used bytes)
+      → BeginsWithLines bytes (header read.net ∷ stands.begins.edge_lines ++ (stands.begins.priority_lines ++ (stands.begins.demand_lines ++ (stands.begins.block_lines ++ codes "end" ∷ [])))) (drop read.used bytes)
       → ((more : List ℕ) → StandsAtFront may (bytes ++ more) read) ⊎ ((read.used ≡ length bytes) × ((more : List ℕ) → StandsAtFront may (bytes ++ 10 ∷ more) (with_line_feed read)))
   all_begins stands (inl e) = inl (stays_on stands e)
   all_begins stands (inr (e, none)) = let all = used_all bytes read.used stands.used none in inr (all, is_fed stands all e)
 
--- what was read where pins, sides and blocks may not stand
-pub plain_stays : Stays IsPlainRead
-plain_stays bytes read plain = plain_begins bytes read plain plain.begins.begins
-
--- and where they may
+-- what was read stays
 pub reading_stays : (may : Admitted) → Stays (IsNetRead may)
 reading_stays may bytes read stands = all_begins may bytes read stands stands.begins.begins
 
@@ -203,18 +154,19 @@ module _ {X : Type 0} (IsLine : ℕ → List ℕ → X → Type 0) (some : (numb
       first_item number text bytes after rest x xs is (line_read text bytes after whole first) (λ w. items_read (number + 1) after rest xs w on) whole
 
 -- the line that is next is refused by its number alone
-next_refused_on : (n : Network) (ps : List Priority) (m : Network) (number : ℕ) (f : NetFault) → LineRefusedOn n ps m number [] f → f ≡ NetLine number
-next_refused_on n ps m number (NetLine k) refused = ap NetLine refused.1
-next_refused_on n ps m number TooLarge refused = absurd (omega (arith, edge-some [] refused.1.0 refused.1.1))
-next_refused_on n ps m number NoEnds refused = cc (refused.0)
-next_refused_on n ps m number Memory refused = absurd refused
+next_refused_after : (may : Admitted) (n : Network) (behind : Behind) (number : ℕ) (f : NetFault) → LineRefusedAfter may n behind number [] f → f ≡ NetLine number
+next_refused_after may n behind number (NetLine k) refused = ap NetLine refused.1
+next_refused_after may n behind number TooLarge refused = absurd (omega (arith, edge-some [] refused.3.0 refused.3.1))
+next_refused_after may n behind number NoEnds refused = cc (refused.0)
+next_refused_after may n behind number Memory refused = absurd refused
 
-module _ (n : Network) (text more : List ℕ) (f : NetFault) (small : HasSmallSizes n) (whole : IsWhole text) (other : f ≢ NetLine (line_feeds text + 2)) where
-  plain_refused_by : (b : PlainRefused n text f) (on : GoesOnWith n b.priorities b.preferring text b.bytes b.after) → EdgesRead n text on.after_edges
-      → ItemsRead (IsPriorityLine n) (length n.edges + 2) on.after_edges on.after_priorities b.priorities → IsLineRead on.after_priorities b.bytes b.after → PlainRefused n (text ++ more) f
-  plain_refused_by b on edges items (inl split) = record {
-    priorities = b.priorities;
-    preferring = b.preferring;
+module _ (may : Admitted) (n : Network) (text more : List ℕ) (f : NetFault) (small : HasSmallSizes n) (whole : IsWhole text) (other : f ≢ NetLine (line_feeds text + 2)) where
+  body_refused_by : (b : BodyRefused may n text f) (on : GoesOnAfter may n b.behind text b.bytes b.after) → EdgesRead n text on.after_edges
+      → ItemsRead (IsPriorityHere may n) (length n.edges + 2) on.after_edges on.after_priorities b.behind.priorities
+      → ItemsRead (IsDemandHere may n) (length n.edges + length b.behind.priorities + 2) on.after_priorities on.after_demands b.behind.demands
+      → ItemsRead (IsBlockHere may) (length n.edges + length b.behind.priorities + length b.behind.demands + 2) on.after_demands on.after_blocks b.behind.blocks → IsLineRead on.after_blocks b.bytes b.after → BodyRefused may n (text ++ more) f
+  body_refused_by b on edges priorities demands blocks (inl split) = record {
+    behind = b.behind;
     bytes = b.bytes;
     after = b.after ++ more;
     goes_on = record {
@@ -223,44 +175,8 @@ module _ (n : Network) (text more : List ℕ) (f : NetFault) (small : HasSmallSi
       after_edges = on.after_edges ++ more;
       edges = edges.stay more;
       after_priorities = on.after_priorities ++ more;
-      priority_lines = items.stay more;
+      priority_lines = priorities.stay more;
       becomes = on.becomes;
-      next = inl (split-longer 10 on.after_priorities b.bytes b.after more split);
-    };
-    refused = b.refused;
-  }
-  plain_refused_by b on edges items (inr (empty, none)) =
-      let same = next_refused_on n b.priorities b.preferring (length n.edges + length b.priorities + 2) f (subst (λ l. LineRefusedOn n b.priorities b.preferring (length n.edges + length b.priorities + 2) l f) none b.refused) in
-      absurd (other (same ∙ ap (λ k. NetLine k) (omega (arith, edges.feeds, items.feeds, ap line_feeds empty))))
-
-  -- behind a header, a line that has its line feed is refused in longer bytes too
-  plain_refused : PlainRefused n text f → PlainRefused n (text ++ more) f
-  plain_refused b =
-      let on = b.goes_on in
-      let edges = edges_read n text on.after_edges small on.wired whole on.edges in
-      let items = items_read (IsPriorityLine n) (priority-some n) (length n.edges + 2) on.after_edges on.after_priorities b.priorities edges.whole on.priority_lines in
-      plain_refused_by b on edges items (line_read on.after_priorities b.bytes b.after items.whole on.next)
-
-next_refused_after : (may : Admitted) (n : Network) (demands : List Demand) (blocks : List Block) (number : ℕ) (f : NetFault) → LineRefusedAfter may n demands blocks number [] f → f ≡ NetLine number
-next_refused_after may n demands blocks number (NetLine k) refused = ap NetLine refused.1
-next_refused_after may n demands blocks number TooLarge refused = absurd (omega (arith, edge-some [] refused.2.0 refused.2.1))
-next_refused_after may n demands blocks number NoEnds refused = cc (refused.0)
-next_refused_after may n demands blocks number Memory refused = absurd refused
-
-module _ (may : Admitted) (n : Network) (text more : List ℕ) (f : NetFault) (small : HasSmallSizes n) (whole : IsWhole text) (other : f ≢ NetLine (line_feeds text + 2)) where
-  body_refused_by : (b : BodyRefused may n text f) (on : GoesOnAfter may n b.demands b.blocks text b.bytes b.after) → EdgesRead n text on.after_edges
-      → ItemsRead (IsDemandHere may n) (length n.edges + 2) on.after_edges on.after_demands b.demands
-      → ItemsRead (IsBlockHere may) (length n.edges + length b.demands + 2) on.after_demands on.after_blocks b.blocks → IsLineRead on.after_blocks b.bytes b.after → BodyRefused may n (text ++ more) f
-  body_refused_by b on edges demands blocks (inl split) = record {
-    demands = b.demands;
-    blocks = b.blocks;
-    bytes = b.bytes;
-    after = b.after ++ more;
-    goes_on = record {
-      wired = on.wired;
-      few = on.few;
-      after_edges = on.after_edges ++ more;
-      edges = edges.stay more;
       after_demands = on.after_demands ++ more;
       demand_lines = demands.stay more;
       after_blocks = on.after_blocks ++ more;
@@ -269,18 +185,19 @@ module _ (may : Admitted) (n : Network) (text more : List ℕ) (f : NetFault) (s
     };
     refused = b.refused;
   }
-  body_refused_by b on edges demands blocks (inr (empty, none)) =
-      let same = next_refused_after may n b.demands b.blocks (length n.edges + length b.demands + length b.blocks + 2) f (subst (λ l. LineRefusedAfter may n b.demands b.blocks (length n.edges + length b.demands + length b.blocks + 2) l f) none b.refused) in
-      absurd (other (same ∙ ap (λ k. NetLine k) (omega (arith, edges.feeds, demands.feeds, blocks.feeds, ap line_feeds empty))))
+  body_refused_by b on edges priorities demands blocks (inr (empty, none)) =
+      let same = next_refused_after may n b.behind (next_line n b.behind) f (subst (λ l. LineRefusedAfter may n b.behind (next_line n b.behind) l f) none b.refused) in
+      absurd (other (same ∙ ap (λ k. NetLine k) (omega (arith, edges.feeds, priorities.feeds, demands.feeds, blocks.feeds, ap line_feeds empty))))
 
-  -- the same where pins, sides and blocks may stand
+  -- behind a header, a line that has its line feed is refused in longer bytes too
   body_refused : BodyRefused may n text f → BodyRefused may n (text ++ more) f
   body_refused b =
       let on = b.goes_on in
       let edges = edges_read n text on.after_edges small on.wired whole on.edges in
-      let demands = items_read (IsDemandHere may n) (demand_here-some may n) (length n.edges + 2) on.after_edges on.after_demands b.demands edges.whole on.demand_lines in
-      let blocks = items_read (IsBlockHere may) (block_here-some may) (length n.edges + length b.demands + 2) on.after_demands on.after_blocks b.blocks demands.whole on.block_lines in
-      body_refused_by b on edges demands blocks (line_read on.after_blocks b.bytes b.after blocks.whole on.next)
+      let priorities = items_read (IsPriorityHere may n) (here-some may n) (length n.edges + 2) on.after_edges on.after_priorities b.behind.priorities edges.whole on.priority_lines in
+      let demands = items_read (IsDemandHere may n) (demand_here-some may n) (length n.edges + length b.behind.priorities + 2) on.after_priorities on.after_demands b.behind.demands priorities.whole on.demand_lines in
+      let blocks = items_read (IsBlockHere may) (block_here-some may) (length n.edges + length b.behind.priorities + length b.behind.demands + 2) on.after_demands on.after_blocks b.behind.blocks demands.whole on.block_lines in
+      body_refused_by b on edges priorities demands blocks (line_read on.after_blocks b.bytes b.after blocks.whole on.next)
 
 -- a text with a line feed at its end is whole, and its first line has its line feed
 module _ (lines first rest : List ℕ) where
@@ -295,18 +212,7 @@ module _ (lines first rest : List ℕ) where
   other_behind : (f : NetFault) → f ≢ NetLine (line_feeds (line lines) + 1) → SplitsAt 10 (line lines) first rest → f ≢ NetLine (line_feeds rest + 2)
   other_behind f other split same = other (same ∙ ap NetLine (omega (arith, split_feeds (line lines) first rest split)))
 
--- a refusal where pins, sides and blocks may not stand
-pub plain_stays_refused : StaysRefused IsPlainRead
-plain_stays_refused lines more f other (first, rest, is, inl why) = (first, rest ++ more, inl (split-longer 10 (line lines) first rest more (first_split lines first rest is)), inl why)
-plain_stays_refused lines more f other (first, rest, is, inr (n, e, small, edges)) =
-    let split = first_split lines first rest is in (
-      first,
-      rest ++ more,
-      inl (split-longer 10 (line lines) first rest more split),
-      inr (n, e, small, plain_refused n rest more f small (split_whole (line lines) first rest (inr (lines, refl)) split) (other_behind lines first rest f other split) edges),
-    )
-
--- and where they may
+-- a refusal stays
 pub stays_refused : (may : Admitted) → StaysRefused (IsNetRead may)
 stays_refused may lines more f other (first, rest, is, inl why) = (first, rest ++ more, inl (split-longer 10 (line lines) first rest more (first_split lines first rest is)), inl why)
 stays_refused may lines more f other (first, rest, is, inr (n, e, small, body)) =

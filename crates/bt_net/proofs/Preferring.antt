@@ -12,9 +12,10 @@ use Rattle.bt_net.specs.declared.priority.Preferred.{Preferred}
 use Rattle.bt_net.specs.inner.Preferred.{HasPlace}
 use Rattle.bt_net.specs.Network.{Network, none_each, HasNoPriorities, IsPrioritised, preferred_in, give_of, take_of, leaves, enters}
 use Rattle.bt_net.specs.PinRefusals.{BeginsWithItems}
-use Rattle.bt_net.specs.Priorities.{preferring, Owns, IsPriorityLine, IsFreeFor, with_priority, Becomes}
+use Rattle.bt_net.specs.declared.network.Admitted.{Admitted}
+use Rattle.bt_net.specs.Priorities.{preferring, Owns, IsPriorityHere, IsFreeFor, with_priority, Becomes}
 use Rattle.bt_net.specs.Wiring.{HasSmallSizes}
-use Rattle.bt_net.proofs.PrioritySpelling.{priority_apart, priority-lacks, priority-some}
+use Rattle.bt_net.proofs.PrioritySpelling.{here_apart, here-lacks, here-some}
 use Rattle.bt_net.proofs.ItemLines.{items_push, shorter}
 use Rattle.bt_net.proofs.Preference.{none_long}
 
@@ -48,12 +49,12 @@ owns_same w m (Take k a) same owns =
     (subst (λ s. k < s) same.splitters owns.0, subst (λ es. (f : Edge) × (slice_get es a ≡ Some f) × IsTrue (enters k f)) same.edges owns.1)
 
 -- a text has one longest list of priorities that may stand
-module _ (n : Network) (small : HasSmallSizes n) (few : length n.edges ≤ MOST_OF_EACH) where
+module _ (may : Admitted) (n : Network) (small : HasSmallSizes n) (few : length n.edges ≤ MOST_OF_EACH) where
   -- no priority that may stand follows
   abbrev pub NoneFollows : Network → List ℕ → Type 0
-  NoneFollows m rest = (bytes after : List ℕ) → IsFirstLine rest bytes after → (p : Priority) → IsPriorityLine n 0 bytes p → IsFreeFor m p → ⊥
+  NoneFollows m rest = (bytes after : List ℕ) → IsFirstLine rest bytes after → (p : Priority) → IsPriorityHere may n 0 bytes p → IsFreeFor m p → ⊥
 
-  pub same_priorities : (number : ℕ) (w : Network) (text r s : List ℕ) (ps qs : List Priority) (m o : Network) → BeginsWithItems (IsPriorityLine n) number text ps r → BeginsWithItems (IsPriorityLine n) number text qs s
+  pub same_priorities : (number : ℕ) (w : Network) (text r s : List ℕ) (ps qs : List Priority) (m o : Network) → BeginsWithItems (IsPriorityHere may n) number text ps r → BeginsWithItems (IsPriorityHere may n) number text qs s
       → Becomes w ps m → Becomes w qs o → NoneFollows m r → NoneFollows o s → (ps ≡ qs) × (m ≡ o) × (r ≡ s)
   same_priorities number w text r s [] [] m o p q f g none non = (refl, sym f ∙ g, sym p ∙ q)
   same_priorities number w text r s [] (y ∷ ys) m o p q f g none non =
@@ -62,8 +63,8 @@ module _ (n : Network) (small : HasSmallSizes n) (few : length n.edges ≤ MOST_
       absurd (non p.0 p.1 (subst (λ t. IsFirstLine t p.0 p.1) q p.2) x p.3 (subst (λ z. IsFreeFor z x) g f.0))
   same_priorities number w text r s (x ∷ xs) (y ∷ ys) m o p q f g none non =
       let line = IsFirstLine-unique text p.0 q.0 p.1 q.1 p.2 q.2 in
-      let head = priority_apart n small few number q.0 x y (subst (λ b. IsPriorityLine n number b x) line.0 p.3) q.3 in
-      let tail = same_priorities (number + 1) (with_priority w y) q.1 r s xs ys m o (subst (λ t. BeginsWithItems (IsPriorityLine n) (number + 1) t xs r) line.1 p.4) q.4
+      let head = here_apart may n small few number q.0 x y (subst (λ b. IsPriorityHere may n number b x) line.0 p.3) q.3 in
+      let tail = same_priorities (number + 1) (with_priority w y) q.1 r s xs ys m o (subst (λ t. BeginsWithItems (IsPriorityHere may n) (number + 1) t xs r) line.1 p.4) q.4
       (subst (λ z. Becomes (with_priority w z) xs m) head f.1) g.1 none non in
       ((λ i. head i ∷ tail.0 i), tail.1, tail.2)
 
@@ -118,17 +119,17 @@ module _ (m : Network) (is : IsPrioritised m) where
   }
 
 -- so is it where each priority of a list is one of the network's own
-pub becomes_prioritised : (w m n : Network) (number : ℕ) (text rest : List ℕ) (ps : List Priority) → SameWires w m → IsPrioritised m → BeginsWithItems (IsPriorityLine w) number text ps rest → Becomes m ps n → IsPrioritised n
-becomes_prioritised w m n number text rest [] same is lines becomes = subst IsPrioritised becomes is
-becomes_prioritised w m n number text rest (p ∷ ps) same is lines becomes =
+pub becomes_prioritised : (may : Admitted) (w m n : Network) (number : ℕ) (text rest : List ℕ) (ps : List Priority) → SameWires w m → IsPrioritised m → BeginsWithItems (IsPriorityHere may w) number text ps rest → Becomes m ps n → IsPrioritised n
+becomes_prioritised may w m n number text rest [] same is lines becomes = subst IsPrioritised becomes is
+becomes_prioritised may w m n number text rest (p ∷ ps) same is lines becomes =
     let one = same_with m p in
     let wires : SameWires w (with_priority m p) = record { inputs = same.inputs ∙ one.inputs; outputs = same.outputs ∙ one.outputs; splitters = same.splitters ∙ one.splitters; edges = same.edges ∙ one.edges } in
-    becomes_prioritised w (with_priority m p) n (number + 1) lines.1 rest ps wires (one_prioritised m is p (owns_same w m p same lines.3.1)) lines.4 becomes.1
+    becomes_prioritised may w (with_priority m p) n (number + 1) lines.1 rest ps wires (one_prioritised m is p (owns_same w m p same lines.3.1.1)) lines.4 becomes.1
 
 -- what was read of priority lines so far
-pub record SoFar (n : Network) (text : List ℕ) (preferred : Preferred) (count : ℕ) (rest : List ℕ) : Type 0 where
+pub record SoFar (may : Admitted) (n : Network) (text : List ℕ) (preferred : Preferred) (count : ℕ) (rest : List ℕ) : Type 0 where
   pub priorities : List Priority
-  pub lines : BeginsWithItems (IsPriorityLine n) (length n.edges + 2) text priorities rest
+  pub lines : BeginsWithItems (IsPriorityHere may n) (length n.edges + 2) text priorities rest
   pub becomes : Becomes n priorities (preferring n preferred.gives.items preferred.takes.items)
   pub count_is : count ≡ length priorities
   pub gives_long : length preferred.gives.items ≡ n.splitters
@@ -136,8 +137,8 @@ pub record SoFar (n : Network) (text : List ℕ) (preferred : Preferred) (count 
   pub short : count + length rest ≤ length text
 
 -- no line yet
-pub none_so_far : (n : Network) (text : List ℕ) (preferred : Preferred) → HasNoPriorities n → preferred.gives.items ≡ none_each n.splitters → preferred.takes.items ≡ none_each n.splitters → SoFar n text preferred 0 text
-none_so_far n text preferred plain gives takes =
+pub none_so_far : (may : Admitted) (n : Network) (text : List ℕ) (preferred : Preferred) → HasNoPriorities n → preferred.gives.items ≡ none_each n.splitters → preferred.takes.items ≡ none_each n.splitters → SoFar may n text preferred 0 text
+none_so_far may n text preferred plain gives takes =
     let g : n.gives ≡ preferred.gives.items = plain.gives ∙ sym gives in
     let t : n.takes ≡ preferred.takes.items = plain.takes ∙ sym takes in
     record {
@@ -155,11 +156,11 @@ kept_long m (Give k a) = (length-set m.gives k (Some a), refl)
 kept_long m (Take k a) = (refl, length-set m.takes k (Some a))
 
 -- one more
-pub one_more_priority : (n : Network) (small : HasSmallSizes n) (few : length n.edges ≤ MOST_OF_EACH) (text bytes rest after : List ℕ) (old new : Preferred) (count : ℕ) (p : Priority) → SoFar n text old count rest
-    → IsFirstLine rest bytes after → IsPriorityLine n 0 bytes p → IsFreeFor (preferring n old.gives.items old.takes.items) p
-    → preferring n new.gives.items new.takes.items ≡ with_priority (preferring n old.gives.items old.takes.items) p → SoFar n text new (count + 1) after
-one_more_priority n small few text bytes rest after old new count p so next is free same =
-    let lines = items_push (IsPriorityLine n) (priority_apart n small few) (priority-some n) (priority-lacks n small few) (length n.edges + 2) text rest bytes after so.priorities p so.lines next is in
+pub one_more_priority : (may : Admitted) (n : Network) (small : HasSmallSizes n) (few : length n.edges ≤ MOST_OF_EACH) (text bytes rest after : List ℕ) (old new : Preferred) (count : ℕ) (p : Priority) → SoFar may n text old count rest
+    → IsFirstLine rest bytes after → IsPriorityHere may n 0 bytes p → IsFreeFor (preferring n old.gives.items old.takes.items) p
+    → preferring n new.gives.items new.takes.items ≡ with_priority (preferring n old.gives.items old.takes.items) p → SoFar may n text new (count + 1) after
+one_more_priority may n small few text bytes rest after old new count p so next is free same =
+    let lines = items_push (IsPriorityHere may n) (here_apart may n small few) (here-some may n) (here-lacks may n small few) (length n.edges + 2) text rest bytes after so.priorities p so.lines next is in
     let wires = kept_long (preferring n old.gives.items old.takes.items) p in
     record {
       priorities = so.priorities ++ p ∷ [];
@@ -168,7 +169,7 @@ one_more_priority n small few text bytes rest after old new count p so next is f
       count_is = omega (arith, so.count_is, length-append so.priorities (p ∷ []));
       gives_long = ap (λ m. length m.gives) same ∙ wires.0 ∙ so.gives_long;
       takes_long = ap (λ m. length m.takes) same ∙ wires.1 ∙ so.takes_long;
-      short = omega (arith, so.short, shorter rest bytes after next (priority-some n 0 bytes p is));
+      short = omega (arith, so.short, shorter rest bytes after next (here-some may n 0 bytes p is));
     }
 
 -- a priority of the network has a place

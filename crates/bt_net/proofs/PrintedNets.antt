@@ -11,7 +11,9 @@ use Rattle.bt_net.specs.Priorities.{priority_text, priorities_of}
 use Rattle.bt_net.specs.Readings.{whole_reading, PrintedIsRead, PrintedIsPlain}
 use Rattle.bt_net.proofs.NetLines.{printed_lines, lines_of}
 use Rattle.bt_net.proofs.PrintedPriorities.{priority_lines, are_priority_lines, becomes_itself}
+use Rattle.bt_net.proofs.OneReading.{here_lines}
 use Rattle.bt_net.proofs.ReadAlike.{read_alike}
+use Rattle.bt_net.specs.declared.network.Admitted.TheVariants.{Priorities}
 
 -- lines behind the header: of the edges, of these priorities, and the last
 abbrev behind_header : Network → List Priority → List (List ℕ)
@@ -46,16 +48,18 @@ printed_plain n net = record {
     are_edges = printed_lines n.edges;
     priorities = priorities_of n;
     priority_lines = map priority_text (priorities_of n);
-    are_priorities = are_priority_lines n net.prioritised (length n.edges + 2);
+    are_priorities = here_lines (net_text n) n [] (length n.edges + 2) (map priority_text (priorities_of n)) (priorities_of n) (are_priority_lines n net.prioritised (length n.edges + 2));
     becomes = becomes_itself n net.prioritised;
+    demand_lines = [];
+    are_demands = tt;
+    block_lines = [];
+    are_blocks = tt;
     begins = inl (all_of n);
   };
   used = omega arith;
-  demands = refl;
-  blocks = refl;
-  lines = refl;
+  lines = omega arith;
 }
 
--- and by both calls where no splitter prefers an edge
+-- and whatever may stand, where no splitter prefers an edge
 pub printed_reading : PrintedIsRead
-printed_reading may n net plain = ((read_alike may (net_text n) (whole_reading n)).0 (printed_plain n net, plain)).0
+printed_reading may n net plain = read_alike Priorities may (net_text n) (whole_reading n) (printed_plain n net) plain refl refl

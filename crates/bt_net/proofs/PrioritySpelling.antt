@@ -1,6 +1,6 @@
 -- The spelling of priority lines.
 use Rattle.std.proofs.Common.{◌≡◌, ◌≢◌, ◌⊎◌, inl, inr, ℕ, ◌<◌, ◌≤◌, ◌^◌, List, ◌++◌, length, get_or, drop, refl, sym, ◌∙◌, ap, subst, arith}
-use Rattle.std.specs.Prelude.{codes, decimal}
+use Rattle.std.specs.Prelude.{codes, decimal, Option, Some, None}
 use Rattle.std.proofs.lemmas.List.{append_assoc}
 use Rattle.std.proofs.lemmas.List.Elements.{All-append}
 use Rattle.std.proofs.lemmas.Option.{slice_get_within}
@@ -12,7 +12,10 @@ use Rattle.bt_net.specs.declared.network.Priority.{Priority}
 use Rattle.bt_net.specs.declared.network.Priority.TheVariants.{Give, Take}
 use Rattle.bt_net.specs.declared.network.TheConstants.{MOST_OF_EACH}
 use Rattle.bt_net.specs.Network.{Network}
-use Rattle.bt_net.specs.Priorities.{priority_text, Owns, IsPriorityLine}
+use Rattle.bt_net.specs.Priorities.{priority_text, Owns, IsPriorityLine, IsPriorityHere, AdmitsPriorities}
+use Rattle.bt_net.specs.declared.network.Admitted.{Admitted}
+use Rattle.bt_net.specs.declared.priority.Preferred.{Preferred}
+use Rattle.bt_net.specs.inner.Preferred.{IsNextOwned, IsNextPriority}
 use Rattle.bt_net.specs.Wiring.{HasSmallSizes}
 use Rattle.bt_net.specs.inner.Preferred.{PriorityFits}
 use Rattle.bt_net.proofs.PinSpelling.{some_bytes}
@@ -90,3 +93,26 @@ priority-some n number bytes p is = elim (priority_first n number bytes p is) [ 
 -- of a line that begins otherwise there is no priority
 pub other_first : (n : Network) (number : ℕ) (bytes : List ℕ) (p : Priority) (byte : ℕ) → IsPriorityLine n number bytes p → get_or bytes 0 0 ≡ byte → byte < 103 → ⊥
 other_first n number bytes p byte is first low = elim (priority_first n number bytes p is) [ inl g ↦ omega (arith, g, first, low) | inr t ↦ omega (arith, t, first, low) ]
+
+-- ---- the same of lines that may stand
+
+module _ (may : Admitted) (n : Network) (small : HasSmallSizes n) (few : length n.edges ≤ MOST_OF_EACH) where
+  pub here_apart : (number : ℕ) (bytes : List ℕ) (p q : Priority) → IsPriorityHere may n number bytes p → IsPriorityHere may n number bytes q → p ≡ q
+  here_apart number bytes p q a b = priority_apart n small few number bytes p q a.1 b.1
+
+  pub here-lacks : (number : ℕ) (bytes : List ℕ) (p : Priority) → IsPriorityHere may n number bytes p → Lacks 10 bytes
+  here-lacks number bytes p is = priority-lacks n small few number bytes p is.1
+
+pub here-some : (may : Admitted) (n : Network) (number : ℕ) (bytes : List ℕ) (p : Priority) → IsPriorityHere may n number bytes p → 0 < length bytes
+here-some may n number bytes p is = priority-some n number bytes p is.1
+
+pub other_here : (may : Admitted) (n : Network) (number : ℕ) (bytes : List ℕ) (p : Priority) (byte : ℕ) → IsPriorityHere may n number bytes p → get_or bytes 0 0 ≡ byte → byte < 103 → ⊥
+other_here may n number bytes p byte is first low = other_first n number bytes p byte is.1 first low
+
+-- nor of one that begins with another letter
+pub letter_here : (may : Admitted) (n : Network) (number : ℕ) (bytes : List ℕ) (p : Priority) → IsPriorityHere may n number bytes p → 103 < get_or bytes 0 0 → get_or bytes 0 0 < 116 → ⊥
+letter_here may n number bytes p is high low = elim (priority_first n number bytes p is.1) [ inl g ↦ omega (arith, g, high) | inr t ↦ omega (arith, t, low) ]
+
+pub next_here : (may : Admitted) (n : Network) (preferred : Preferred) (bytes : List ℕ) (o : Option Priority) → AdmitsPriorities may → IsNextOwned n preferred bytes o → IsNextPriority may n preferred bytes o
+next_here may n preferred bytes (Some p) admits is = ((admits, is.0), is.1)
+next_here may n preferred bytes None admits is = λ p line free. is p line.1 free

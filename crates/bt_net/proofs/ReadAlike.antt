@@ -1,4 +1,4 @@
--- Texts without pins, blocks and preferred edges, as both calls read them.
+-- Texts without pins, sides, rows, blocks and preferred edges, whatever may stand behind the edges.
 use Rattle.std.proofs.Common.{◌≡◌, ◌≢◌, ℕ, ◌+◌, List, [], ◌∷◌, ◌++◌, length, drop, Option, Some, None, Ok, refl, sym, ◌∙◌, ap, subst, arith}
 use Rattle.std.specs.Prelude.{codes}
 use Rattle.std.proofs.lemmas.List.{get_or-set_same, get_or-set_other}
@@ -9,9 +9,9 @@ use Rattle.bt_net.specs.declared.network.Priority.TheVariants.{Give, Take}
 use Rattle.bt_net.specs.Network.{Network, HasNoPriorities, none_each, give_of, take_of}
 use Rattle.bt_net.specs.NetText.{header, alone}
 use Rattle.bt_net.specs.PinText.{AreLinesFrom, IsDemandHere, IsBlockHere}
-use Rattle.bt_net.specs.Priorities.{IsPriorityLine, Owns, with_priority, Becomes}
-use Rattle.bt_net.specs.Readings.{Reading, IsNetRead, IsPlainRead, ReadAlike}
-use Rattle.bt_net.proofs.Preference.{none_long, plain_gives, plain_takes}
+use Rattle.bt_net.specs.Priorities.{IsPriorityHere, Owns, with_priority, Becomes}
+use Rattle.bt_net.specs.Readings.{Reading, IsNetRead, ReadAlike}
+use Rattle.bt_net.proofs.Preference.{none_long, plain_gives, plain_takes, plain_alone}
 
 -- lines of nothing
 no_lines : {X : Type 0} (IsLine : ℕ → List ℕ → X → Type 0) (number : ℕ) (lines : List (List ℕ)) (xs : List X) → AreLinesFrom IsLine number lines xs → xs ≡ [] → lines ≡ []
@@ -50,68 +50,42 @@ module _ (n : Network) (plain : HasNoPriorities n) where
       let there : take_of (with_priority (alone n) (Take k a)) k ≡ Some a = get_or-set_same (none_each n.splitters) k (Some a) None (omega (arith, owns.0, none_long n.splitters)) in
       not_both (take_of n k) a (plain_takes n plain k) (take_stays (with_priority (alone n) (Take k a)) n ps k a is there)
 
-  none_read : (number : ℕ) (lines : List (List ℕ)) (ps : List Priority) → AreLinesFrom (IsPriorityLine (alone n)) number lines ps → Becomes (alone n) ps n → ps ≡ []
-  none_read number lines [] are is = refl
-  none_read number [] (p ∷ ps) are is = absurd are
-  none_read number (l ∷ ls) (p ∷ ps) are is = absurd (one_too_many p ps are.0.1 is.1)
+  none_here : (may : Admitted) (number : ℕ) (lines : List (List ℕ)) (ps : List Priority) → AreLinesFrom (IsPriorityHere may (alone n)) number lines ps → Becomes (alone n) ps n → ps ≡ []
+  none_here may number lines [] are is = refl
+  none_here may number [] (p ∷ ps) are is = absurd are
+  none_here may number (l ∷ ls) (p ∷ ps) are is = absurd (one_too_many p ps are.0.1.1 is.1)
 
-  -- a network without priorities is itself without them
-  alone_plain : alone n ≡ n
-  alone_plain = let gives = sym plain.gives in let takes = sym plain.takes in λ i. record { inputs = n.inputs; outputs = n.outputs; splitters = n.splitters; edges = n.edges; gives = gives i; takes = takes i }
-
-module _ (may : Admitted) (bytes : List ℕ) (read : Reading) where
+module _ (may other : Admitted) (bytes : List ℕ) (read : Reading) where
   -- the lines behind the header
-  abbrev Begins : List (List ℕ) → List (List ℕ) → Type 0
-  Begins edges others = BeginsWithLines bytes (header read.net ∷ edges ++ (others ++ codes "end" ∷ [])) (drop read.used bytes)
+  abbrev Begins : List (List ℕ) → List (List ℕ) → List (List ℕ) → List (List ℕ) → Type 0
+  Begins edges priorities demands blocks = BeginsWithLines bytes (header read.net ∷ edges ++ (priorities ++ (demands ++ (blocks ++ codes "end" ∷ [])))) (drop read.used bytes)
 
-  from_plain : IsPlainRead bytes (Ok read) → HasNoPriorities read.net → IsNetRead may bytes (Ok read) × (read.demands ≡ []) × (read.blocks ≡ [])
-  from_plain h plain =
+  read_so : IsNetRead may bytes (Ok read) → HasNoPriorities read.net → read.demands ≡ [] → read.blocks ≡ [] → IsNetRead other bytes (Ok read)
+  read_so h plain demands blocks =
       let b = h.begins in
-      let none = none_read read.net plain (length read.net.edges + 2) b.priority_lines b.priorities b.are_priorities b.becomes in
-      let lines = no_lines (IsPriorityLine (alone read.net)) (length read.net.edges + 2) b.priority_lines b.priorities b.are_priorities none in (
-        record {
-          network = h.network;
-          begins = record {
-            plain = plain;
-            edge_lines = b.edge_lines;
-            are_edges = b.are_edges;
-            demand_lines = [];
-            are_demands = are_none (IsDemandHere may read.net) (length read.net.edges + 2) read.demands h.demands;
-            block_lines = [];
-            are_blocks = are_none (IsBlockHere may) (length read.net.edges + length read.demands + 2) read.blocks h.blocks;
-            begins = subst (Begins b.edge_lines) lines b.begins;
-          };
-          used = h.used;
-          lines = omega (arith, h.lines, ap length none, ap length h.demands, ap length h.blocks);
-        },
-        h.demands,
-        h.blocks,
-      )
-
-  to_plain : IsNetRead may bytes (Ok read) → read.demands ≡ [] → read.blocks ≡ [] → IsPlainRead bytes (Ok read) × HasNoPriorities read.net
-  to_plain h demands blocks =
-      let b = h.begins in
-      let demand_lines = no_lines (IsDemandHere may read.net) (length read.net.edges + 2) b.demand_lines read.demands b.are_demands demands in
-      let block_lines = no_lines (IsBlockHere may) (length read.net.edges + length read.demands + 2) b.block_lines read.blocks b.are_blocks blocks in
-      let Whole : List (List ℕ) → List (List ℕ) → Type 0 = λ ps bs. BeginsWithLines bytes (header read.net ∷ b.edge_lines ++ (ps ++ (bs ++ codes "end" ∷ []))) (drop read.used bytes) in (
-        record {
-          network = h.network;
-          begins = record {
-            edge_lines = b.edge_lines;
-            are_edges = b.are_edges;
-            priorities = [];
-            priority_lines = [];
-            are_priorities = tt;
-            becomes = alone_plain read.net b.plain;
-            begins = subst (λ bs. Whole [] bs) block_lines (subst (λ ps. Whole ps b.block_lines) demand_lines b.begins);
-          };
-          used = h.used;
-          demands = demands;
-          blocks = blocks;
-          lines = omega (arith, h.lines, ap length demands, ap length blocks);
-        },
-        b.plain,
-      )
+      let n = read.net in
+      let none = none_here n plain may (length n.edges + 2) b.priority_lines b.priorities b.are_priorities b.becomes in
+      let priority_lines = no_lines (IsPriorityHere may (alone n)) (length n.edges + 2) b.priority_lines b.priorities b.are_priorities none in
+      let demand_lines = no_lines (IsDemandHere may (alone n)) (length n.edges + length b.priorities + 2) b.demand_lines read.demands b.are_demands demands in
+      let block_lines = no_lines (IsBlockHere may) (length n.edges + length b.priorities + length read.demands + 2) b.block_lines read.blocks b.are_blocks blocks in
+      record {
+        network = h.network;
+        begins = record {
+          edge_lines = b.edge_lines;
+          are_edges = b.are_edges;
+          priorities = [];
+          priority_lines = [];
+          are_priorities = tt;
+          becomes = plain_alone n plain;
+          demand_lines = [];
+          are_demands = are_none (IsDemandHere other (alone n)) (length n.edges + 2) read.demands demands;
+          block_lines = [];
+          are_blocks = are_none (IsBlockHere other) (length n.edges + length read.demands + 2) read.blocks blocks;
+          begins = subst (λ bs. Begins b.edge_lines [] [] bs) block_lines (subst (λ ds. Begins b.edge_lines [] ds b.block_lines) demand_lines (subst (λ ps. Begins b.edge_lines ps b.demand_lines b.block_lines) priority_lines b.begins));
+        };
+        used = h.used;
+        lines = omega (arith, h.lines, ap length none);
+      }
 
 pub read_alike : ReadAlike
-read_alike may bytes read = (λ h. from_plain may bytes read h.0 h.1, λ h. to_plain may bytes read h.0 h.1 h.2)
+read_alike may other bytes read h plain demands blocks = read_so may other bytes read h plain demands blocks

@@ -16,9 +16,12 @@ use Rattle.bt_net.specs.declared.network.End.TheVariants as end
 use Rattle.bt_net.specs.declared.network.Ends.{Ends}
 use Rattle.bt_net.specs.declared.network.Ends.TheVariants.{One, Inputs, Outputs}
 use Rattle.bt_net.specs.declared.network.Pin.{Pin}
+use Rattle.bt_net.specs.declared.network.EndKind.{EndKind}
+use Rattle.bt_net.specs.declared.network.EndKind.TheVariants as kind
+use Rattle.bt_net.specs.declared.network.Row.{Row}
 use Rattle.bt_net.specs.declared.network.Side.{Side}
 use Rattle.bt_net.specs.Network.{Network}
-use Rattle.bt_net.specs.PinText.{end_text, ends_text, dir_text, side_text, HasEnds, IsPinLine, IsSideLine, IsDemandLine, IsDemandHere, IsBlockHere}
+use Rattle.bt_net.specs.PinText.{end_text, ends_text, dir_text, side_text, kind_text, row_text, HasEnds, IsPinLine, IsSideLine, IsRowLine, IsDemandLine, IsDemandHere, IsBlockHere}
 use Rattle.bt_net.specs.Wiring.{HasSmallSizes}
 use Rattle.bt_net.specs.inner.Lines.{EndFits, EndsFit}
 use Rattle.bt_net.proofs.PinSpelling.{end_fits, end-lacks, end_lacks_space, dir-lacks, end_apart, dir_apart, pin_apart, block_apart, pin_first, block_first, pin-lacks, block-lacks, some_bytes}
@@ -121,30 +124,76 @@ side-lacks n small number bytes side is =
     (All-append P (codes "side ") (ends_text side.ends) (lacks 10 (codes "side ") refl) (ends_lack_feed side.ends (ends_fit n side.ends small is.has_ends)))
     (lacks 10 (codes " ") refl)) (dir-lacks side.dir))
 
+-- ---- rows
+
+-- a word is that of one kind
+pub kind_apart : (k l : EndKind) → kind_text k ≡ kind_text l → k ≡ l
+kind_apart kind.Inputs kind.Inputs is = refl
+kind_apart kind.Inputs kind.Outputs is = absurd (omega (arith, ap (λ w. get_or w 0 0) is))
+kind_apart kind.Outputs kind.Inputs is = absurd (omega (arith, ap (λ w. get_or w 0 0) is))
+kind_apart kind.Outputs kind.Outputs is = refl
+
+kind_lacks_feed : (k : EndKind) → Lacks 10 (kind_text k)
+kind_lacks_feed kind.Inputs = lacks 10 (codes "inputs") refl
+kind_lacks_feed kind.Outputs = lacks 10 (codes "outputs") refl
+
+-- a line is that of one row
+pub row_apart : (number : ℕ) (bytes : List ℕ) (p q : Row) → IsRowLine number bytes p → IsRowLine number bytes q → p ≡ q
+row_apart number bytes p q a b =
+    let same = kind_apart p.kind q.kind (ap (drop 4) (sym a.text ∙ b.text)) in
+    let line = a.line ∙ sym b.line in
+    λ i. record { kind = same i; line = line i }
+
+pub row_first : (number : ℕ) (bytes : List ℕ) (row : Row) → IsRowLine number bytes row → get_or bytes 0 0 ≡ 114
+row_first number bytes row is = ap (λ l. get_or l 0 0) is.text
+
+pub row-lacks : (number : ℕ) (bytes : List ℕ) (row : Row) → IsRowLine number bytes row → Lacks 10 bytes
+row-lacks number bytes row is = subst (Lacks 10) (sym is.text) (All-append (λ b. b ≢ 10) (codes "row ") (kind_text row.kind) (lacks 10 (codes "row ") refl) (kind_lacks_feed row.kind))
+
+-- a row line that was cut behind its first word
+pub cut_row : (number : ℕ) (bytes words : List ℕ) (row : Row) → bytes ≡ codes "row " ++ words → IsRowLine number bytes row → words ≡ kind_text row.kind
+cut_row number bytes words row cut is = ap (drop 4) (sym cut ∙ is.text)
+
 -- ---- the same of all lines that may stand behind those of the edges
 
 pin_no_side : (n : Network) (number : ℕ) (bytes : List ℕ) (pin : Pin) (side : Side) → IsPinLine n number bytes pin → IsSideLine n number bytes side → ⊥
 pin_no_side n number bytes pin side a b = omega (arith, pin_first n number bytes pin a, side_first n number bytes side b)
 
+pin_no_row : (n : Network) (number : ℕ) (bytes : List ℕ) (pin : Pin) (row : Row) → IsPinLine n number bytes pin → IsRowLine number bytes row → ⊥
+pin_no_row n number bytes pin row a b = omega (arith, pin_first n number bytes pin a, row_first number bytes row b)
+
+pub side_no_row : (n : Network) (number : ℕ) (bytes : List ℕ) (side : Side) (row : Row) → IsSideLine n number bytes side → IsRowLine number bytes row → ⊥
+side_no_row n number bytes side row a b = omega (arith, side_first n number bytes side a, row_first number bytes row b)
+
 demand_apart : (n : Network) → HasSmallSizes n → (number : ℕ) (bytes : List ℕ) (p q : Demand) → IsDemandLine n number bytes p → IsDemandLine n number bytes q → p ≡ q
 demand_apart n small number bytes (demand.Pin p) (demand.Pin q) a b = ap demand.Pin (pin_apart n small number bytes p q a b)
 demand_apart n small number bytes (demand.Pin p) (demand.Side q) a b = absurd (pin_no_side n number bytes p q a b)
+demand_apart n small number bytes (demand.Pin p) (demand.Row q) a b = absurd (pin_no_row n number bytes p q a b)
 demand_apart n small number bytes (demand.Side p) (demand.Pin q) a b = absurd (pin_no_side n number bytes q p b a)
 demand_apart n small number bytes (demand.Side p) (demand.Side q) a b = ap demand.Side (side_apart n small number bytes p q a b)
+demand_apart n small number bytes (demand.Side p) (demand.Row q) a b = absurd (side_no_row n number bytes p q a b)
+demand_apart n small number bytes (demand.Row p) (demand.Pin q) a b = absurd (pin_no_row n number bytes q p b a)
+demand_apart n small number bytes (demand.Row p) (demand.Side q) a b = absurd (side_no_row n number bytes q p b a)
+demand_apart n small number bytes (demand.Row p) (demand.Row q) a b = ap demand.Row (row_apart number bytes p q a b)
 
-demand_first : (n : Network) (number : ℕ) (bytes : List ℕ) (d : Demand) → IsDemandLine n number bytes d → 111 < get_or bytes 0 0
-demand_first n number bytes (demand.Pin pin) is = omega (arith, pin_first n number bytes pin is)
-demand_first n number bytes (demand.Side side) is = omega (arith, side_first n number bytes side is)
+demand_first : (n : Network) (number : ℕ) (bytes : List ℕ) (d : Demand) → IsDemandLine n number bytes d → (111 < get_or bytes 0 0) × (get_or bytes 0 0 < 116)
+demand_first n number bytes (demand.Pin pin) is = (omega (arith, pin_first n number bytes pin is), omega (arith, pin_first n number bytes pin is))
+demand_first n number bytes (demand.Side side) is = (omega (arith, side_first n number bytes side is), omega (arith, side_first n number bytes side is))
+demand_first n number bytes (demand.Row row) is = (omega (arith, row_first number bytes row is), omega (arith, row_first number bytes row is))
 
 demand-lacks : (n : Network) → HasSmallSizes n → (number : ℕ) (bytes : List ℕ) (d : Demand) → IsDemandLine n number bytes d → Lacks 10 bytes
 demand-lacks n small number bytes (demand.Pin pin) is = pin-lacks n small number bytes pin is
 demand-lacks n small number bytes (demand.Side side) is = side-lacks n small number bytes side is
+demand-lacks n small number bytes (demand.Row row) is = row-lacks number bytes row is
 
 pub demand_here_apart : (may : Admitted) (n : Network) → HasSmallSizes n → (number : ℕ) (bytes : List ℕ) (p q : Demand) → IsDemandHere may n number bytes p → IsDemandHere may n number bytes q → p ≡ q
 demand_here_apart may n small number bytes p q a b = demand_apart n small number bytes p q a.1 b.1
 
 pub demand_here_first : (may : Admitted) (n : Network) (number : ℕ) (bytes : List ℕ) (d : Demand) → IsDemandHere may n number bytes d → 111 < get_or bytes 0 0
-demand_here_first may n number bytes d is = demand_first n number bytes d is.1
+demand_here_first may n number bytes d is = (demand_first n number bytes d is.1).0
+
+pub demand_here_low : (may : Admitted) (n : Network) (number : ℕ) (bytes : List ℕ) (d : Demand) → IsDemandHere may n number bytes d → get_or bytes 0 0 < 116
+demand_here_low may n number bytes d is = (demand_first n number bytes d is.1).1
 
 pub demand_here-lacks : (may : Admitted) (n : Network) → HasSmallSizes n → (number : ℕ) (bytes : List ℕ) (d : Demand) → IsDemandHere may n number bytes d → Lacks 10 bytes
 demand_here-lacks may n small number bytes d is = demand-lacks n small number bytes d is.1

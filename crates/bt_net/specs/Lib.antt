@@ -5,7 +5,6 @@ pub mod PinText
 pub mod Wiring
 pub mod Refusals
 pub mod PinRefusals
-pub mod PriorityRefusals
 pub mod Readings
 pub mod Longer
 pub mod inner

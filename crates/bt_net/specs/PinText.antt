@@ -3,15 +3,18 @@ use Rattle.std.specs.Prelude.{◌≡◌, ℕ, ◌+◌, ◌<◌, List, [], ◌∷
 use Rattle.bt_parts.specs.declared.part.Dir.{Dir}
 use Rattle.bt_parts.specs.declared.part.Dir.TheVariants.{North, East, South, West}
 use Rattle.bt_net.specs.declared.network.Admitted.{Admitted}
-use Rattle.bt_net.specs.declared.network.Admitted.TheVariants.{Nothing, Sides, All}
+use Rattle.bt_net.specs.declared.network.Admitted.TheVariants.{Nothing, Priorities, Sides, All}
 use Rattle.bt_net.specs.declared.network.Block.{Block}
 use Rattle.bt_net.specs.declared.network.Demand.{Demand}
 use Rattle.bt_net.specs.declared.network.Demand.TheVariants as demand
 use Rattle.bt_net.specs.declared.network.End.{End}
 use Rattle.bt_net.specs.declared.network.End.TheVariants as end
+use Rattle.bt_net.specs.declared.network.EndKind.{EndKind}
+use Rattle.bt_net.specs.declared.network.EndKind.TheVariants as kind
 use Rattle.bt_net.specs.declared.network.Ends.{Ends}
 use Rattle.bt_net.specs.declared.network.Ends.TheVariants.{One, Inputs, Outputs}
 use Rattle.bt_net.specs.declared.network.Pin.{Pin}
+use Rattle.bt_net.specs.declared.network.Row.{Row}
 use Rattle.bt_net.specs.declared.network.Side.{Side}
 use Rattle.bt_net.specs.declared.network.TheConstants.{NO_COORDINATE}
 use Rattle.bt_net.specs.Network.{Network, HasEnd}
@@ -47,6 +50,15 @@ ends_text Outputs = codes "outputs"
 abbrev pub side_text : Side → List ℕ
 side_text side = codes "side " ++ ends_text side.ends ++ codes " " ++ dir_text side.dir
 
+-- the word for inputs, or for outputs
+abbrev pub kind_text : EndKind → List ℕ
+kind_text kind.Inputs = codes "inputs"
+kind_text kind.Outputs = codes "outputs"
+
+-- `row` and the word for the ends that stand in it
+abbrev pub row_text : Row → List ℕ
+row_text row = codes "row " ++ kind_text row.kind
+
 -- `block` and the two numbers of the cell
 abbrev pub block_text : Block → List ℕ
 block_text block = codes "block " ++ decimal block.x ++ codes " " ++ decimal block.y
@@ -78,19 +90,27 @@ pub record IsSideLine (n : Network) (number : ℕ) (bytes : List ℕ) (side : Si
   pub has_ends : HasEnds n side.ends
   pub line : side.line ≡ number
 
--- the line with this number is that of a pin or of a side
+-- the line with this number is that of a row
+pub record IsRowLine (number : ℕ) (bytes : List ℕ) (row : Row) : Type 0 where
+  pub text : bytes ≡ row_text row
+  pub line : row.line ≡ number
+
+-- the line with this number is that of a pin, of a side or of a row
 abbrev pub IsDemandLine : Network → ℕ → List ℕ → Demand → Type 0
 IsDemandLine n number bytes (demand.Pin pin) = IsPinLine n number bytes pin
 IsDemandLine n number bytes (demand.Side side) = IsSideLine n number bytes side
+IsDemandLine n number bytes (demand.Row row) = IsRowLine number bytes row
 
 -- such a line may stand
 abbrev pub Admits : Admitted → Demand → Type 0
 Admits Nothing d = ⊥
+Admits Priorities d = ⊥
 Admits Sides (demand.Pin pin) = ⊥
 Admits Sides (demand.Side side) = Unit {0}
+Admits Sides (demand.Row row) = Unit {0}
 Admits All d = Unit {0}
 
--- the line with this number is that of a pin or of a side, and may stand
+-- the line with this number is that of a pin, of a side or of a row, and may stand
 abbrev pub IsDemandHere : Admitted → Network → ℕ → List ℕ → Demand → Type 0
 IsDemandHere may n number bytes d = Admits may d × IsDemandLine n number bytes d
 

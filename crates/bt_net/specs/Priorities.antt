@@ -2,6 +2,8 @@
 use Rattle.std.specs.Prelude.{◌≡◌, ℕ, ◌<◌, Bool, IsTrue, List, [], ◌∷◌, ◌++◌, Option, Some, None, slice_get, slice_set, flat_map, codes, decimal}
 use Rattle.std.specs.List.{range_with_len}
 use Rattle.bt_text.specs.Lines.{line}
+use Rattle.bt_net.specs.declared.network.Admitted.{Admitted}
+use Rattle.bt_net.specs.declared.network.Admitted.TheVariants as may
 use Rattle.bt_net.specs.declared.network.Edge.{Edge}
 use Rattle.bt_net.specs.declared.network.Priority.{Priority}
 use Rattle.bt_net.specs.declared.network.Priority.TheVariants.{Give, Take}
@@ -28,6 +30,17 @@ Owns n (Take k a) = (k < n.splitters) × HasEdgeWith n (enters k) a
 -- the line is that of a priority that the network may have; its number doesn't matter
 abbrev pub IsPriorityLine : Network → ℕ → List ℕ → Priority → Type 0
 IsPriorityLine n number bytes p = (bytes ≡ priority_text p) × Owns n p
+
+-- lines of priorities may stand
+abbrev pub AdmitsPriorities : Admitted → Type 0
+AdmitsPriorities may.Nothing = ⊥
+AdmitsPriorities may.Priorities = Unit {0}
+AdmitsPriorities may.Sides = Unit {0}
+AdmitsPriorities may.All = Unit {0}
+
+-- the line is that of a priority that the network may have, and may stand
+abbrev pub IsPriorityHere : Admitted → Network → ℕ → List ℕ → Priority → Type 0
+IsPriorityHere admitted n number bytes p = AdmitsPriorities admitted × IsPriorityLine n number bytes p
 
 -- the splitter prefers no edge yet where the priority names one
 abbrev pub IsFreeFor : Network → Priority → Type 0

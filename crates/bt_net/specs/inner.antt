@@ -1,4 +1,5 @@
 -- What the contracts of private functions cite.
+pub mod Items
 pub mod Lines
 pub mod PinWords
 pub mod Tallies

@@ -7,10 +7,11 @@ ghost use Rattle.bt_net.specs.Wiring.{HasSmallSizes};
 
 use crate::network::{Admitted, Block, Demand};
 use crate::pins::{read_block, read_pin};
+use crate::rows::read_row;
 use crate::sides::read_side;
 use crate::wiring::Wiring;
 
-/// The pin or the side of a line with this number that names ends of the network, where it is admitted.
+/// The pin, the side or the row of a line with this number that names ends of the network, where it is admitted.
 pub fn demand_here(
     admitted: Admitted,
     wiring: &Wiring,
@@ -23,23 +24,29 @@ pub fn demand_here(
         ((d : ADemand) → IsDemandHere admitted wiring.now number line.now d → ⊥) }
 {
     match admitted {
-        Admitted::Nothing => None,
-        Admitted::Sides => side_alone(wiring, number, line),
+        Admitted::Nothing | Admitted::Priorities => None,
+        Admitted::Sides => side_or_row(wiring, number, line),
         Admitted::All => read_demand(wiring, number, line),
     }
 }
 
-/// The side of a line with this number.
-fn side_alone(wiring: &Wiring, number: usize, line: &[u8]) -> Option<Demand>
+/// The side or the row of a line with this number.
+fn side_or_row(wiring: &Wiring, number: usize, line: &[u8]) -> Option<Demand>
     requires { HasSmallSizes wiring.now }
     ensures some { IfSome result (IsDemandHere Admitted.Sides wiring.now number line.now) }
     ensures none { IfNone result
         ((d : ADemand) → IsDemandHere Admitted.Sides wiring.now number line.now d → ⊥) }
 {
-    Some(Demand::Side(read_side(wiring, number, line)?))
+    match read_side(wiring, number, line) {
+        Some(side) => Some(Demand::Side(side)),
+        None => match read_row(number, line) {
+            Some(row) => Some(Demand::Row(row)),
+            None => None,
+        },
+    }
 }
 
-/// The pin or the side of a line with this number.
+/// The pin, the side or the row of a line with this number.
 fn read_demand(wiring: &Wiring, number: usize, line: &[u8]) -> Option<Demand>
     requires { HasSmallSizes wiring.now }
     ensures some { IfSome result (IsDemandLine wiring.now number line.now) }
@@ -47,10 +54,7 @@ fn read_demand(wiring: &Wiring, number: usize, line: &[u8]) -> Option<Demand>
 {
     match read_pin(wiring, number, line) {
         Some(pin) => Some(Demand::Pin(pin)),
-        None => match read_side(wiring, number, line) {
-            Some(side) => Some(Demand::Side(side)),
-            None => None,
-        },
+        None => side_or_row(wiring, number, line),
     }
 }
 
@@ -61,6 +65,6 @@ pub fn block_here(admitted: Admitted, number: usize, line: &[u8]) -> Option<Bloc
 {
     match admitted {
         Admitted::All => read_block(number, line),
-        Admitted::Nothing | Admitted::Sides => None,
+        Admitted::Nothing | Admitted::Priorities | Admitted::Sides => None,
     }
 }

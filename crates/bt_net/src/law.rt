@@ -3,7 +3,7 @@ ghost use Rattle.std.specs.Prelude.{◌≡◌, ℕ, List};
 ghost use Rattle.bt_net.specs.declared.network.Admitted.{Admitted};
 ghost use Rattle.bt_net.specs.Network.{Network, IsNetwork};
 ghost use Rattle.bt_net.specs.NetText.{BeginsWithNet};
-ghost use Rattle.bt_net.specs.Readings.{IsNetRead, IsPlainRead, PrintedIsRead, PrintedIsPlain, ReadAlike};
+ghost use Rattle.bt_net.specs.Readings.{IsNetRead, PrintedIsRead, PrintedIsPlain, ReadAlike};
 ghost use Rattle.bt_net.specs.Longer.{Stays, StaysRefused};
 
 use crate::network::{MOST_CAP, MOST_OF_EACH, NO_COORDINATE};
@@ -14,14 +14,14 @@ pub fn one_net()
         → BeginsWithNet bytes m r → BeginsWithNet bytes n s → (m ≡ n) × (r ≡ s) }
 {}
 
-/// The one text of a network is read by `read_plain` as that network, with the edges that its splitters prefer,
-/// to its end; and where none prefers an edge, by `read` too.
+/// The one text of a network is read as that network, with the edges that its splitters prefer, to its end, where lines
+/// of priorities may stand; and where none prefers an edge, whatever may stand.
 pub fn printed_is_read()
     ensures plain { PrintedIsPlain }
     ensures read { PrintedIsRead }
 {}
 
-/// Of a text without pins, blocks and preferred edges `read` and `read_plain` tell the same.
+/// Of a text without pins, sides, rows, blocks and preferred edges the same is told, whatever may stand.
 pub fn read_alike()
     ensures { ReadAlike }
 {}
@@ -30,9 +30,7 @@ pub fn read_alike()
 /// line feed; and so is a refusal, but where it is that of a line which the bytes don't have yet.
 pub fn longer_is_read()
     ensures read { (admitted : Admitted) → Stays (IsNetRead admitted) }
-    ensures plain { Stays IsPlainRead }
     ensures refused { (admitted : Admitted) → StaysRefused (IsNetRead admitted) }
-    ensures plainly_refused { StaysRefused IsPlainRead }
 {}
 
 /// The limits of a network and of its text, as numbers.

@@ -10,6 +10,7 @@ mod network;
 mod pins;
 mod priority;
 mod reading;
+mod rows;
 mod sides;
 mod wiring;
 mod words;
@@ -18,8 +19,8 @@ pub use fault::NetFault;
 pub use law::{limits_are, longer_is_read, one_net, printed_is_read, read_alike};
 pub use net::Net;
 pub use network::{
-    Admitted, Block, Demand, Edge, End, Ends, MOST_CAP, MOST_OF_EACH, NO_COORDINATE, Pin, Priority,
-    Side, Start, Target,
+    Admitted, Block, Demand, Edge, End, EndKind, Ends, MOST_CAP, MOST_OF_EACH, NO_COORDINATE, Pin,
+    Priority, Row, Side, Start, Target,
 };
-pub use reading::{NetRead, read, read_plain};
+pub use reading::{NetRead, read};
 pub use std::alloc::AllocError as Memory;

@@ -80,11 +80,27 @@ pub struct Side {
     pub line: usize,
 }
 
-/// Where ends are to stand, as a line of the text says it: one on a cell, or some at a side.
+/// Inputs, or outputs.
+#[derive(Clone, Copy, PartialEq, Eq)]
+pub enum EndKind {
+    Inputs,
+    Outputs,
+}
+
+/// That the first parts of all inputs, or the last parts of all outputs, stand on consecutive cells of one row or
+/// one column, in any order; and the line of the text, from 1, that says so.
+#[derive(Clone, Copy, PartialEq, Eq)]
+pub struct Row {
+    pub kind: EndKind,
+    pub line: usize,
+}
+
+/// Where ends are to stand, as a line of the text says it: one on a cell, some at a side, or all of a kind in a row.
 #[derive(Clone, Copy, PartialEq, Eq)]
 pub enum Demand {
     Pin(Pin),
     Side(Side),
+    Row(Row),
 }
 
 /// A cell on which no part stands, and the line of the text, from 1, that says so.
@@ -100,8 +116,10 @@ pub struct Block {
 pub enum Admitted {
     /// None.
     Nothing,
-    /// Those of sides.
+    /// Those of priorities.
+    Priorities,
+    /// Those of priorities, and behind them those of sides and rows.
     Sides,
-    /// Those of pins, of sides and of blocks.
+    /// Those of priorities, behind them those of pins, sides and rows, and behind them those of blocks.
     All,
 }

@@ -1,12 +1,14 @@
 //! Reading the text of a network.
 //!
 //! Each line is read once, and the first one that may not stand is told by its number.
-ghost use Rattle.std.specs.Prelude.{◌≡◌, ◌+◌, ◌≤◌, ◌<◌, ◌^◌, [], length, IfOk};
+ghost use Rattle.std.specs.Prelude.{◌≡◌, ◌↔◌, ◌+◌, ◌≤◌, ◌<◌, ◌^◌, [], length, IfOk, IsTrue};
 ghost use Rattle.bt_answers.specs.Answers.{Answers, UnlessMemory, seen};
 ghost use Rattle.bt_net.specs.PinText.{IsDemandHere, IsBlockHere};
-ghost use Rattle.bt_net.specs.Readings.{IsNetRead, IsPlainRead, what_is_read};
+ghost use Rattle.bt_net.specs.Priorities.{AdmitsPriorities};
+ghost use Rattle.bt_net.specs.Readings.{IsNetRead, what_is_read};
 ghost use Rattle.bt_net.specs.Wiring.{HasSmallSizes};
-ghost use Rattle.bt_net.specs.inner.Preferred.{PrioritiesEnd, IsNextPriority};
+ghost use Rattle.bt_net.specs.inner.Items.{ItemsStand};
+ghost use Rattle.bt_net.specs.inner.Preferred.{PrioritiesEnd, IsNextOwned, IsNextPriority};
 ghost use Rattle.bt_net.specs.inner.Lines.{SameSizes, IsNextEdge, AreEdgesRead, ItemsEnd, IsEndRead};
 
 use crate::demands::{block_here, demand_here};
@@ -20,8 +22,8 @@ use crate::words::read_edge;
 use bt_text::first_line;
 use std::alloc::{AllocError, Global};
 
-/// What the text of a network says: the network, its pins and sides in the order of their lines, its blocks in
-/// that of theirs, how many bytes the text has and how many lines.
+/// What the text of a network says: the network with the edges that its splitters prefer, its pins, sides and rows in
+/// the order of their lines, its blocks in that of theirs, how many bytes the text has and how many lines.
 #[derive(Drop)]
 pub struct NetRead {
     pub net: Net,
@@ -31,51 +33,71 @@ pub struct NetRead {
     pub lines: usize,
 }
 
-/// The network at the front of these bytes, with its pins, its sides and its blocks. The bytes begin with a line
-/// `net I O S` of the numbers of inputs, outputs and splitters, and have a line for each edge, then in any order
-/// lines `pin E X Y` or `pin E X Y D` for cells on which ends stand and `side E D` for sides at which they do,
-/// where E may also be `inputs` or `outputs`, then lines `block X Y` for cells on which no part stands, where
-/// such lines are admitted, and a line `end`. What follows that line is not read.
+/// The network at the front of these bytes, with its priorities, its pins, sides and rows, and its blocks. The bytes
+/// begin with a line `net I O S` of the numbers of inputs, outputs and splitters, and have a line for each edge. Then
+/// come, where such lines are admitted: in any order lines `give sN E` and `take sN E`, by which splitter N prefers its
+/// out edge, or its in edge, with the number E, at most one of each kind for a splitter; then in any order lines
+/// `pin E X Y` or `pin E X Y D` for cells on which ends stand, `side E D` for sides at which they do, where E may also
+/// be `inputs` or `outputs`, and `row K` for ends that stand in a row, where K is `inputs` or `outputs`; then lines
+/// `block X Y` for cells on which no part stands. A line `end` comes last. What follows that line is not read.
 pub fn read(alloc: Global, admitted: Admitted, bytes: &[u8]) -> Result<NetRead, NetFault>
     ensures { Answers NetFault.Memory (IsNetRead admitted bytes.now) (seen what_is_read result) }
 {
     let (line, text) = first_line(bytes);
     let mut wiring = read_header(alloc, line)?;
     let behind_edges = read_edges(&mut wiring, text)?;
-    let (demands, behind_demands) = read_demands(alloc, admitted, &wiring, behind_edges)?;
-    let before_blocks = wiring.len() + demands.len() + 2;
-    let (blocks, behind_blocks) = read_blocks(alloc, admitted, before_blocks, behind_demands)?;
-    let lines = before_blocks + blocks.len();
-    let rest = read_end(&wiring, lines, behind_blocks)?;
+    let items = read_items(alloc, admitted, &wiring, behind_edges)?;
+    let rest = read_end(&wiring, items.lines, items.rest)?;
     let net = wiring.into_net()?;
     Ok(NetRead {
-        net,
-        demands,
-        blocks,
+        net: net.preferring(items.preferred.gives, items.preferred.takes),
+        demands: items.demands,
+        blocks: items.blocks,
         used: bytes.len() - rest.len(),
-        lines,
+        lines: items.lines,
     })
 }
 
-/// The network at the front of these bytes, as `read` reads it, but that in the place of lines of pins,
-/// sides and blocks, which may not stand, lines `give sN E` and `take sN E` may stand in any order: splitter N prefers
-/// its out edge, or its in edge, with the number E. A second line of a kind for a splitter may not stand.
-pub fn read_plain(alloc: Global, bytes: &[u8]) -> Result<NetRead, NetFault>
-    ensures { Answers NetFault.Memory (IsPlainRead bytes.now) (seen what_is_read result) }
+/// What the lines between those of the edges and `end` say, the number of the line behind them, and what follows.
+#[derive(Drop)]
+struct Items<'a> {
+    preferred: Preferred,
+    demands: Vec<Demand>,
+    blocks: Vec<Block>,
+    lines: usize,
+    rest: &'a [u8],
+}
+
+/// What the lines at the front of a text say, behind the edges, and what follows them.
+fn read_items<'a>(
+    alloc: Global,
+    admitted: Admitted,
+    wiring: &Wiring,
+    text: &'a [u8],
+) -> Result<Items<'a>, AllocError>
+    requires small { HasSmallSizes wiring.now }
+    requires few { length wiring.now.edges ≤ MOST_OF_EACH }
+    ensures { IfOk result (λ found. ItemsStand admitted wiring.now text.now found.preferred
+        found.demands.items found.blocks.items found.lines found.rest.now) }
 {
-    let (line, text) = first_line(bytes);
-    let mut wiring = read_header(alloc, line)?;
-    let behind_edges = read_edges(&mut wiring, text)?;
-    let found = read_priorities(alloc, &wiring, behind_edges)?;
-    let lines = wiring.len() + 2 + found.count;
-    let rest = read_end(&wiring, lines, found.rest)?;
-    let net = wiring.into_net()?;
-    Ok(NetRead {
-        net: net.preferring(found.preferred.gives, found.preferred.takes),
-        demands: Vec::new(alloc),
-        blocks: Vec::new(alloc),
-        used: bytes.len() - rest.len(),
+    let found = read_priorities(alloc, admitted, wiring, text)?;
+    let before_demands = wiring.len() + found.count + 2;
+    let (demands, behind_demands) = read_demands(
+        alloc,
+        admitted,
+        wiring,
+        before_demands,
+        found.rest,
+    )?;
+    let before_blocks = before_demands + demands.len();
+    let (blocks, rest) = read_blocks(alloc, admitted, before_blocks, behind_demands)?;
+    let lines = before_blocks + blocks.len();
+    Ok(Items {
+        preferred: found.preferred,
+        demands,
+        blocks,
         lines,
+        rest,
     })
 }
 
@@ -90,13 +112,14 @@ struct Priorities<'a> {
 /// What the priority lines at the front of a text say, behind the edges, and what follows them.
 fn read_priorities<'a>(
     alloc: Global,
+    admitted: Admitted,
     wiring: &Wiring,
     text: &'a [u8],
 ) -> Result<Priorities<'a>, AllocError>
     requires small { HasSmallSizes wiring.now }
     requires few { length wiring.now.edges ≤ MOST_OF_EACH }
     ensures read { IfOk result (λ found.
-        PrioritiesEnd wiring.now text.now found.preferred found.count found.rest.now) }
+        PrioritiesEnd admitted wiring.now text.now found.preferred found.count found.rest.now) }
     ensures short { IfOk result (λ found. found.count + length found.rest.now ≤ length text.now) }
 {
     let splitters = wiring.splitters();
@@ -108,7 +131,7 @@ fn read_priorities<'a>(
     let mut rest = text;
     loop {
         let (line, after) = first_line(rest);
-        let Some(priority) = next_priority(wiring, &preferred, line) else {
+        let Some(priority) = next_priority(admitted, wiring, &preferred, line) else {
             return Ok(Priorities {
                 preferred,
                 count,
@@ -122,10 +145,38 @@ fn read_priorities<'a>(
 }
 
 /// The priority of this line, where it may come next.
-fn next_priority(wiring: &Wiring, preferred: &Preferred, line: &[u8]) -> Option<Priority>
+fn next_priority(
+    admitted: Admitted,
+    wiring: &Wiring,
+    preferred: &Preferred,
+    line: &[u8],
+) -> Option<Priority>
     requires small { HasSmallSizes wiring.now }
     requires few { length wiring.now.edges ≤ MOST_OF_EACH }
-    ensures { IsNextPriority wiring.now preferred.now line.now result }
+    ensures { IsNextPriority admitted wiring.now preferred.now line.now result }
+{
+    if admits_priorities(admitted) {
+        next_owned(wiring, preferred, line)
+    } else {
+        None
+    }
+}
+
+/// Whether lines of priorities may stand.
+fn admits_priorities(admitted: Admitted) -> bool
+    ensures { IsTrue result ↔ AdmitsPriorities admitted }
+{
+    match admitted {
+        Admitted::Nothing => false,
+        Admitted::Priorities | Admitted::Sides | Admitted::All => true,
+    }
+}
+
+/// The priority of this line, where its splitter has the edge and is free for it.
+fn next_owned(wiring: &Wiring, preferred: &Preferred, line: &[u8]) -> Option<Priority>
+    requires small { HasSmallSizes wiring.now }
+    requires few { length wiring.now.edges ≤ MOST_OF_EACH }
+    ensures { IsNextOwned wiring.now preferred.now line.now result }
 {
     let priority = read_priority(line)?;
     if wiring.owns(priority) && is_free(preferred, priority) {
@@ -170,25 +221,26 @@ fn next_edge(wiring: &Wiring, line: &[u8]) -> Option<Edge>
     }
 }
 
-/// The pins and sides of the lines at the front of a text, behind the edges, and what follows them.
+/// The pins, sides and rows of the lines at the front of a text, of which the first has this number, and what follows
+/// them.
 fn read_demands<'a>(
     alloc: Global,
     admitted: Admitted,
     wiring: &Wiring,
+    first: usize,
     text: &'a [u8],
 ) -> Result<(Vec<Demand>, &'a [u8]), AllocError>
     requires small { HasSmallSizes wiring.now }
-    requires few { length wiring.now.edges ≤ MOST_OF_EACH }
+    requires fits { first + length text.now < 2 ^ 63 + 4096 }
     ensures read { IfOk result (λ found. ItemsEnd (IsDemandHere admitted wiring.now)
-        (length wiring.now.edges + 2) text.now found.0.items found.1.now) }
+        first text.now found.0.items found.1.now) }
     ensures short { IfOk result (λ found. length found.0.items + length found.1.now ≤ length text.now) }
 {
     let mut demands = Vec::new(alloc);
     let mut rest = text;
     loop {
         let (line, after) = first_line(rest);
-        let Some(demand) = demand_here(admitted, wiring, wiring.len() + 2 + demands.len(), line)
-        else {
+        let Some(demand) = demand_here(admitted, wiring, first + demands.len(), line) else {
             return Ok((demands, rest));
         };
         demands.push(demand)?;

@@ -19,7 +19,7 @@ mod states;
 use bt_flow::Property;
 use bt_io::MemSink;
 use bt_model::Request;
-use bt_net::{Admitted, Net, read, read_plain};
+use bt_net::{Admitted, Net, read};
 use bt_parts::{Dir, Rect, Tier};
 use bt_print::print;
 use std::alloc::{AllocError, Global};
@@ -83,7 +83,7 @@ fn property_named(name: &str) -> Property {
 
 /// The network of a text, where it is one.
 fn net_of(alloc: Global, text: &str) -> Option<Net> {
-    match read_plain(alloc, text.as_bytes()) {
+    match read(alloc, Admitted::Priorities, text.as_bytes()) {
         Ok(found) => Some(found.net),
         Err(_) => None,
     }

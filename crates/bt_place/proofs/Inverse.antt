@@ -1,5 +1,5 @@
 -- Each fact of a request stands at its variable in a list of all facts.
-use Rattle.std.proofs.Common.{◌≡◌, ◌⊎◌, inl, inr, ℕ, suc, ◌<◌, ◌+◌, ◌-◌, ◌*◌, ℤ, pos, negsuc, Bool, true, false, cond, not, ltb, List, [], ◌∷◌, length, map, get_or, reverse, refl, sym, ◌∙◌, ap, subst, arith}
+use Rattle.std.proofs.Common.{◌≡◌, ◌⊎◌, inl, inr, ℕ, zero, suc, ◌<◌, ◌+◌, ◌-◌, ◌*◌, ℤ, pos, negsuc, Bool, true, false, cond, not, ltb, List, [], ◌∷◌, length, map, get_or, reverse, refl, sym, ◌∙◌, ap, subst, arith}
 use Rattle.std.specs.List.{Contains, flat_map, range_with_len, position_or_len}
 use Rattle.std.specs.Prelude.{unsigned_abs, slice_index, ◌<ℤ◌, ◌≤ℤ◌}
 use Rattle.std.proofs.lemmas.Bool.{false≢true}
@@ -17,12 +17,14 @@ use Rattle.bt_facts.specs.declared.fact.Content.TheVariants.{Empty, Turned}
 use Rattle.bt_facts.specs.declared.fact.Fact.{Fact}
 use Rattle.bt_facts.specs.declared.fact.Fact.TheVariants as fact
 use Rattle.bt_facts.specs.declared.fact.Half.TheVariants.{Lesser, Greater}
+use Rattle.bt_facts.specs.declared.fact.Line.{Line}
+use Rattle.bt_facts.specs.declared.fact.Line.TheVariants as line
 use Rattle.bt_facts.specs.declared.fact.Shape.TheVariants as shape
 use Rattle.bt_demands.specs.Classes.{same_class}
 use Rattle.bt_rules.specs.Contents.{contents}
 use Rattle.bt_facts.specs.Spots.{dirs, row_cells, cells_of}
 use Rattle.bt_rules.proofs.Classed.{class_same, same_found}
-use Rattle.bt_place.specs.Numbering.{Sizes, spot_of, dir_number, content_number, class_number, along, spots, spares, variables, variable_of}
+use Rattle.bt_place.specs.Numbering.{Sizes, spot_of, dir_number, content_number, line_number, class_number, along, spots, spares, variables, variable_of}
 use Rattle.bt_place.specs.Within.{IsSpot, IsNumbered}
 use Rattle.bt_place.proofs.Counting.{get_map, length_map, length_range, get_range, length_flat, get_flat, group_within, joined, before_list, list_at, get_joined, length_joined}
 
@@ -70,6 +72,20 @@ found_dir North = record { within = omega arith; is = refl }
 found_dir East = record { within = omega arith; is = refl }
 found_dir South = record { within = omega arith; is = refl }
 found_dir West = record { within = omega arith; is = refl }
+
+-- the row with this number
+pub line_at : ℕ → Line
+line_at zero = line.InputsEast
+line_at (suc zero) = line.InputsSouth
+line_at (suc (suc zero)) = line.OutputsEast
+line_at (suc (suc (suc n))) = line.OutputsSouth
+
+line_back : (l : Line) → line_at (line_number l) ≡ l
+unfolding line_at
+line_back line.InputsEast = refl
+line_back line.InputsSouth = refl
+line_back line.OutputsEast = refl
+line_back line.OutputsSouth = refl
 
 found_content : (content : Content) → Found contents (content_number content) content
 found_content Empty = record { within = omega arith; is = refl }
@@ -208,6 +224,7 @@ module _ (z : Sizes) where
       ∷ map fact.Begins (cells_of rect)
       ∷ by_cell (λ c. map (fact.Starts c) (range_with_len 0 z.inputs))
       ∷ by_cell (λ c. map (fact.Stops c) (range_with_len 0 z.stops))
+      ∷ by_cell (λ c. map (λ j. fact.Lies c (line_at j)) (range_with_len 0 z.lines))
       ∷ by_cell pairs_on
       ∷ by_cell (λ c. map (fact.Tunnel c) dirs)
       ∷ by_cell (λ c. map (fact.Goes c) dirs)
@@ -267,17 +284,18 @@ module _ (z : Sizes) where
       pub begun : length (list_at (blocks order) 3) ≡ spots z
       pub started : length (list_at (blocks order) 4) ≡ spots z * z.inputs
       pub stopped : length (list_at (blocks order) 5) ≡ spots z * z.stops
-      pub paired : length (list_at (blocks order) 6) ≡ spots z * (4 * z.distances)
-      pub tunnels : length (list_at (blocks order) 7) ≡ spots z * 4
-      pub goings : length (list_at (blocks order) 8) ≡ spots z * 4
-      pub columns : length (list_at (blocks order) 9) ≡ z.splitters * z.width
-      pub rows : length (list_at (blocks order) 10) ≡ z.splitters * z.height
-      pub points : length (list_at (blocks order) 11) ≡ z.splitters * 4
-      pub entering : length (list_at (blocks order) 12) ≡ z.splitters
-      pub leaving : length (list_at (blocks order) 13) ≡ z.splitters
-      pub held : length (list_at (blocks order) 14) ≡ spares z * z.halves
-      pub kinds : length (list_at (blocks order) 15) ≡ spots z * 21
-      pub places : length (list_at (blocks order) 16) ≡ z.splitters * (spots z * 4)
+      pub lying : length (list_at (blocks order) 6) ≡ spots z * z.lines
+      pub paired : length (list_at (blocks order) 7) ≡ spots z * (4 * z.distances)
+      pub tunnels : length (list_at (blocks order) 8) ≡ spots z * 4
+      pub goings : length (list_at (blocks order) 9) ≡ spots z * 4
+      pub columns : length (list_at (blocks order) 10) ≡ z.splitters * z.width
+      pub rows : length (list_at (blocks order) 11) ≡ z.splitters * z.height
+      pub points : length (list_at (blocks order) 12) ≡ z.splitters * 4
+      pub entering : length (list_at (blocks order) 13) ≡ z.splitters
+      pub leaving : length (list_at (blocks order) 14) ≡ z.splitters
+      pub held : length (list_at (blocks order) 15) ≡ spares z * z.halves
+      pub kinds : length (list_at (blocks order) 16) ≡ spots z * 21
+      pub places : length (list_at (blocks order) 17) ≡ z.splitters * (spots z * 4)
 
     lengths : Lengths
     lengths = record {
@@ -287,6 +305,7 @@ module _ (z : Sizes) where
       begun = length_map fact.Begins (cells_of rect) ∙ length_cells;
       started = cell_length (λ c. map (fact.Starts c) (range_with_len 0 z.inputs)) z.inputs (λ c. ranged (fact.Starts c) 0 z.inputs);
       stopped = cell_length (λ c. map (fact.Stops c) (range_with_len 0 z.stops)) z.stops (λ c. ranged (fact.Stops c) 0 z.stops);
+      lying = cell_length (λ c. map (λ j. fact.Lies c (line_at j)) (range_with_len 0 z.lines)) z.lines (λ c. ranged (λ j. fact.Lies c (line_at j)) 0 z.lines);
       paired = cell_length pairs_on (4 * z.distances) pairs_length;
       tunnels = cell_length (λ c. map (fact.Tunnel c) dirs) 4 (λ c. refl);
       goings = cell_length (λ c. map (fact.Goes c) dirs) 4 (λ c. refl);
@@ -307,8 +326,8 @@ module _ (z : Sizes) where
     pub blocks_long : length (joined (blocks order)) ≡ variables z
     blocks_long =
         let l = lengths in
-        let e : before_list (blocks order) 17 ≡ variables z =
-        omega (arith, l.carried, l.halves_on, l.belts_on, l.begun, l.started, l.stopped, l.paired, l.tunnels, l.goings, l.columns, l.rows, l.points, l.entering, l.leaving, l.held, l.kinds, l.places) in
+        let e : before_list (blocks order) 18 ≡ variables z =
+        omega (arith, l.carried, l.halves_on, l.belts_on, l.begun, l.started, l.stopped, l.lying, l.paired, l.tunnels, l.goings, l.columns, l.rows, l.points, l.entering, l.leaving, l.held, l.kinds, l.places) in
         length_joined (blocks order) ∙ e
 
     stands : (x : Fact) → IsNumbered z x → IsIn order x
@@ -348,66 +367,74 @@ module _ (z : Sizes) where
       number = let l = lengths in omega (arith, l.carried, l.halves_on, l.belts_on, l.begun, l.started);
       there = in_cell (λ c. map (fact.Stops c) (range_with_len 0 z.stops)) z.stops o c (fact.Stops c o) (λ c. ranged (fact.Stops c) 0 z.stops) h.0 (found_ranged (fact.Stops c) 0 z.stops o o h.1 (omega arith));
     }
-    stands (fact.Pair c dir k) h = record {
+    stands (fact.Lies c k) h = record {
       block = 6;
-      place = (spot_of z c * 4 + dir_number dir) * z.distances + (k - 1);
+      place = spot_of z c * z.lines + line_number k;
       number = let l = lengths in omega (arith, l.carried, l.halves_on, l.belts_on, l.begun, l.started, l.stopped);
+      there = in_cell (λ c. map (λ j. fact.Lies c (line_at j)) (range_with_len 0 z.lines)) z.lines (line_number k) c (fact.Lies c k) (λ c. ranged (λ j. fact.Lies c (line_at j)) 0 z.lines) h.0
+          (subst (λ x. Found (map (λ j. fact.Lies c (line_at j)) (range_with_len 0 z.lines)) (line_number k) (fact.Lies c x)) (line_back k)
+          (found_ranged (λ j. fact.Lies c (line_at j)) 0 z.lines (line_number k) (line_number k) h.1 (omega arith)));
+    }
+    stands (fact.Pair c dir k) h = record {
+      block = 7;
+      place = (spot_of z c * 4 + dir_number dir) * z.distances + (k - 1);
+      number = let l = lengths in omega (arith, l.carried, l.halves_on, l.belts_on, l.begun, l.started, l.stopped, l.lying);
       there = let le = h.1.0 in let most = h.1.1 in in_pairs c dir (k - 1) k h.0 (omega (arith, le, most)) (omega (arith, le));
     }
     stands (fact.Tunnel c dir) h = record {
-      block = 7;
+      block = 8;
       place = spot_of z c * 4 + dir_number dir;
-      number = let l = lengths in omega (arith, l.carried, l.halves_on, l.belts_on, l.begun, l.started, l.stopped, l.paired);
+      number = let l = lengths in omega (arith, l.carried, l.halves_on, l.belts_on, l.begun, l.started, l.stopped, l.lying, l.paired);
       there = in_cell (λ c. map (fact.Tunnel c) dirs) 4 (dir_number dir) c (fact.Tunnel c dir) (λ c. refl) h (found_map (fact.Tunnel c) dirs (dir_number dir) dir (found_dir dir));
     }
     stands (fact.Goes c dir) h = record {
-      block = 8;
+      block = 9;
       place = spot_of z c * 4 + dir_number dir;
-      number = let l = lengths in omega (arith, l.carried, l.halves_on, l.belts_on, l.begun, l.started, l.stopped, l.paired, l.tunnels);
+      number = let l = lengths in omega (arith, l.carried, l.halves_on, l.belts_on, l.begun, l.started, l.stopped, l.lying, l.paired, l.tunnels);
       there = in_cell (λ c. map (fact.Goes c) dirs) 4 (dir_number dir) c (fact.Goes c dir) (λ c. refl) h (found_map (fact.Goes c) dirs (dir_number dir) dir (found_dir dir));
     }
     stands (fact.Column s x) h = record {
-      block = 9;
+      block = 10;
       place = s * z.width + x;
-      number = let l = lengths in omega (arith, l.carried, l.halves_on, l.belts_on, l.begun, l.started, l.stopped, l.paired, l.tunnels, l.goings);
+      number = let l = lengths in omega (arith, l.carried, l.halves_on, l.belts_on, l.begun, l.started, l.stopped, l.lying, l.paired, l.tunnels, l.goings);
       there = in_splitter (λ s. map (fact.Column s) (range_with_len 0 z.width)) z.width s x (fact.Column s x) (λ s. ranged (fact.Column s) 0 z.width) h.0 (found_ranged (fact.Column s) 0 z.width x x h.1 (omega arith));
     }
     stands (fact.Row s y) h = record {
-      block = 10;
+      block = 11;
       place = s * z.height + y;
-      number = let l = lengths in omega (arith, l.carried, l.halves_on, l.belts_on, l.begun, l.started, l.stopped, l.paired, l.tunnels, l.goings, l.columns);
+      number = let l = lengths in omega (arith, l.carried, l.halves_on, l.belts_on, l.begun, l.started, l.stopped, l.lying, l.paired, l.tunnels, l.goings, l.columns);
       there = in_splitter (λ s. map (fact.Row s) (range_with_len 0 z.height)) z.height s y (fact.Row s y) (λ s. ranged (fact.Row s) 0 z.height) h.0 (found_ranged (fact.Row s) 0 z.height y y h.1 (omega arith));
     }
     stands (fact.Points s dir) h = record {
-      block = 11;
+      block = 12;
       place = s * 4 + dir_number dir;
-      number = let l = lengths in omega (arith, l.carried, l.halves_on, l.belts_on, l.begun, l.started, l.stopped, l.paired, l.tunnels, l.goings, l.columns, l.rows);
+      number = let l = lengths in omega (arith, l.carried, l.halves_on, l.belts_on, l.begun, l.started, l.stopped, l.lying, l.paired, l.tunnels, l.goings, l.columns, l.rows);
       there = in_splitter (λ s. map (fact.Points s) dirs) 4 s (dir_number dir) (fact.Points s dir) (λ s. refl) h (found_map (fact.Points s) dirs (dir_number dir) dir (found_dir dir));
     }
     stands (fact.EntersLesser s) h = record {
-      block = 12;
+      block = 13;
       place = s;
-      number = let l = lengths in omega (arith, l.carried, l.halves_on, l.belts_on, l.begun, l.started, l.stopped, l.paired, l.tunnels, l.goings, l.columns, l.rows, l.points);
+      number = let l = lengths in omega (arith, l.carried, l.halves_on, l.belts_on, l.begun, l.started, l.stopped, l.lying, l.paired, l.tunnels, l.goings, l.columns, l.rows, l.points);
       there = found_ranged fact.EntersLesser 0 z.splitters s s h (omega arith);
     }
     stands (fact.LeavesLesser s) h = record {
-      block = 13;
+      block = 14;
       place = s;
-      number = let l = lengths in omega (arith, l.carried, l.halves_on, l.belts_on, l.begun, l.started, l.stopped, l.paired, l.tunnels, l.goings, l.columns, l.rows, l.points, l.entering);
+      number = let l = lengths in omega (arith, l.carried, l.halves_on, l.belts_on, l.begun, l.started, l.stopped, l.lying, l.paired, l.tunnels, l.goings, l.columns, l.rows, l.points, l.entering);
       there = found_ranged fact.LeavesLesser 0 z.splitters s s h (omega arith);
     }
     stands (fact.Held spare half) h = record {
-      block = 14;
+      block = 15;
       place = spare * z.halves + half;
-      number = let l = lengths in omega (arith, l.carried, l.halves_on, l.belts_on, l.begun, l.started, l.stopped, l.paired, l.tunnels, l.goings, l.columns, l.rows, l.points, l.entering, l.leaving);
+      number = let l = lengths in omega (arith, l.carried, l.halves_on, l.belts_on, l.begun, l.started, l.stopped, l.lying, l.paired, l.tunnels, l.goings, l.columns, l.rows, l.points, l.entering, l.leaving);
       there = found_flat (λ spare. map (fact.Held spare) (range_with_len 0 (z.halves))) (range_with_len 0 (spares z)) (z.halves) spare half spare (fact.Held spare half) (λ spare. ranged (fact.Held spare) 0 (z.halves))
           (found_at (range_with_len 0 (spares z)) spare spare spare refl (subst (Found (range_with_len 0 (spares z)) spare) (let e : 0 + spare ≡ spare = omega arith in e) (found_range 0 (spares z) spare (let few = h.0 in omega (arith, few)))))
           (found_ranged (fact.Held spare) 0 (z.halves) half half h.1 (omega arith));
     }
     stands (fact.Kind c content) h = record {
-      block = 15;
+      block = 16;
       place = (spots z - 1 - along z c) * 21 + (20 - content_number content);
-      number = let l = lengths in omega (arith, l.carried, l.halves_on, l.belts_on, l.begun, l.started, l.stopped, l.paired, l.tunnels, l.goings, l.columns, l.rows, l.points, l.entering, l.leaving, l.held);
+      number = let l = lengths in omega (arith, l.carried, l.halves_on, l.belts_on, l.begun, l.started, l.stopped, l.lying, l.paired, l.tunnels, l.goings, l.columns, l.rows, l.points, l.entering, l.leaving, l.held);
       there = found_flat (λ c. map (fact.Kind c) (reverse contents)) (reverse along_cells) 21 (spots z - 1 - along z c) (20 - content_number content) c (fact.Kind c content) (λ c. refl)
           (found_reverse along_cells (spots z) (along z c) c length_along (found_along c h))
           (found_map (fact.Kind c) (reverse contents) (20 - content_number content) content (found_reverse contents 21 (content_number content) content refl (found_content content)));
@@ -418,9 +445,9 @@ module _ (z : Sizes) where
         let long = ranks.long in
         let here : Found order rank s = record { within = omega (arith, lt, long); is = get_or_default order rank s 0 (omega (arith, lt, long)) ∙ ranks.there s h.0 } in
         record {
-          block = 16;
+          block = 17;
           place = (z.splitters - 1 - rank) * (spots z * 4) + ((spots z - 1 - along z c) * 4 + dir_number dir);
-          number = let l = lengths in omega (arith, l.carried, l.halves_on, l.belts_on, l.begun, l.started, l.stopped, l.paired, l.tunnels, l.goings, l.columns, l.rows, l.points, l.entering, l.leaving, l.held, l.kinds);
+          number = let l = lengths in omega (arith, l.carried, l.halves_on, l.belts_on, l.begun, l.started, l.stopped, l.lying, l.paired, l.tunnels, l.goings, l.columns, l.rows, l.points, l.entering, l.leaving, l.held, l.kinds);
           there = found_flat (λ s. flat_map (λ c. map (fact.At s c) dirs) (reverse along_cells)) (reverse order) (spots z * 4) (z.splitters - 1 - rank) ((spots z - 1 - along z c) * 4 + dir_number dir) s (fact.At s c dir)
               (λ s. length_flat (λ c. map (fact.At s c) dirs) (reverse along_cells) 4 (λ c. refl) ∙ ap (λ n. n * 4) (length-reverse along_cells ∙ length_along))
               (found_reverse order z.splitters rank s long here)

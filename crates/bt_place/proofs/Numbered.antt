@@ -1,7 +1,9 @@
 -- The facts within a request have variables.
-use Rattle.std.proofs.Common.{◌≡◌, ℕ, ◌<◌, true, List, [], ◌∷◌, length, arith}
-use Rattle.std.specs.List.{AllByRecursion}
-use Rattle.bt_model.specs.Requests.{LayoutRequest, IsRequest}
+use Rattle.std.proofs.Common.{◌≡◌, ℕ, ◌<◌, Bool, true, false, cond, List, [], ◌∷◌, length, arith}
+use Rattle.std.specs.List.{AllByRecursion, list_any}
+use Rattle.bt_model.specs.Requests.{LayoutRequest, IsRequest, is_row}
+use Rattle.bt_facts.specs.declared.fact.Line.{Line}
+use Rattle.bt_facts.specs.declared.fact.Line.TheVariants as line
 use Rattle.bt_parts.specs.declared.part.Cell.{Cell}
 use Rattle.bt_parts.specs.Cells.{IsInside}
 use Rattle.bt_facts.specs.declared.fact.Fact.{Fact}
@@ -13,10 +15,18 @@ use Rattle.bt_facts.specs.Rules.{Rule}
 use Rattle.bt_rules.specs.Within.{IsWithin, HasWithin}
 use Rattle.bt_facts.specs.Spots.{cells_of}
 use Rattle.bt_rules.proofs.RulesWithin.{rules_within, cell_within, splitter_within, ends_within, counts_within}
-use Rattle.bt_place.specs.Numbering.{spots}
+use Rattle.bt_place.specs.Numbering.{line_number, spots}
 use Rattle.bt_place.specs.PlaceFormula.{sizes_of}
 use Rattle.bt_place.specs.Within.{IsNumbered, HasNumbered}
 use Rattle.bt_place.proofs.Inverse.{length_cells}
+
+-- rows have numbers where there are any
+lines_numbered : (b : Bool) (l : Line) → 0 < cond b 4 0 → line_number l < cond b 4 0
+lines_numbered true line.InputsEast some = omega arith
+lines_numbered true line.InputsSouth some = omega arith
+lines_numbered true line.OutputsEast some = omega arith
+lines_numbered true line.OutputsSouth some = omega arith
+lines_numbered false l some = absurd (omega (arith, some))
 
 pub numbered_of : (r : LayoutRequest) (x : Fact) → IsWithin r x → IsNumbered (sizes_of r) x
 numbered_of r (fact.Kind c content) h = h
@@ -26,6 +36,7 @@ numbered_of r (fact.BeltOn c) h = h
 numbered_of r (fact.Begins c) h = h
 numbered_of r (fact.Starts c i) h = h
 numbered_of r (fact.Stops c o) h = h
+numbered_of r (fact.Lies c l) h = (h.0, lines_numbered (list_any is_row r.demands) l h.1)
 numbered_of r (fact.Pair c dir k) h = h
 numbered_of r (fact.Tunnel c dir) h = h
 numbered_of r (fact.Goes c dir) h = h

@@ -9,7 +9,7 @@ use Rattle.bt_parts.specs.declared.part.Tier.{Tier}
 use Rattle.bt_parts.specs.declared.part.Tier.TheVariants.{Basic, Fast, Express, Turbo}
 use Rattle.bt_parts.specs.Tiers.{reach_of}
 use Rattle.bt_net.specs.Network.{Network}
-use Rattle.bt_model.specs.Requests.{LayoutRequest, IsRequest}
+use Rattle.bt_model.specs.Requests.{LayoutRequest, IsRequest, is_row}
 use Rattle.bt_facts.specs.declared.fact.Class.{Class}
 use Rattle.bt_facts.specs.declared.fact.Class.TheVariants.{Split, Input}
 use Rattle.bt_facts.specs.declared.fact.Fact.{Fact}
@@ -63,25 +63,31 @@ few_classes r =
 pub few_of_request : (r : LayoutRequest) → IsRequest r → variables (sizes_of r) < 2 ^ 32
 few_of_request r is =
     let z = sizes_of r in
-    let wide : z.width ≤ 16 = is.grid.few_across in
-    let high : z.height ≤ 16 = is.grid.few_down in
-    let s : z.splitters ≤ 128 = is.few_splitters in
+    let wide : z.width ≤ 160 = is.grid.few_across in
+    let high : z.height ≤ 160 = is.grid.few_down in
+    let s : z.splitters ≤ 512 = is.few_splitters in
     let i : z.inputs ≤ 2048 = is.net.few_inputs in
     let o : z.stops ≤ 2048 = few_stops (list_any sides_outputs r.demands) in
-    let k : length z.classes ≤ 2816 = (let few = few_classes r in omega (arith, few, s, i)) in
+    let k : length z.classes ≤ 5120 = (let few = few_classes r in omega (arith, few, s, i)) in
     let d : z.distances ≤ 11 = (let h = reaches r.tier in omega (arith, h)) in
-    let n : spots z ≤ 16 * 16 = product z.width z.height 16 16 wide high in
-    let n : spots z ≤ 256 = omega (arith, n) in
-    let carried = product (spots z) (length z.classes) 256 2816 n k in
-    let started = product (spots z) z.inputs 256 2048 n i in
-    let stopped = product (spots z) z.stops 256 2048 n o in
-    let distances = product (spots z) z.distances 256 11 n d in
-    let columns = product z.splitters z.width 128 16 s wide in
-    let rows = product z.splitters z.height 128 16 s high in
-    let places = product z.splitters (spots z) 128 256 s n in
-    let held = product (spares z) z.halves 257 256 (omega (arith, n)) (omega (arith, s)) in
-    omega (arith, n, s, carried, started, stopped, distances, columns, rows, places, held)
+    let n : spots z ≤ 160 * 160 = product z.width z.height 160 160 wide high in
+    let n : spots z ≤ 25600 = omega (arith, n) in
+    let carried = product (spots z) (length z.classes) 25600 5120 n k in
+    let started = product (spots z) z.inputs 25600 2048 n i in
+    let stopped = product (spots z) z.stops 25600 2048 n o in
+    let l : z.lines ≤ 4 = few_lines (list_any is_row r.demands) in
+    let lying = product (spots z) z.lines 25600 4 n l in
+    let distances = product (spots z) z.distances 25600 11 n d in
+    let columns = product z.splitters z.width 512 160 s wide in
+    let rows = product z.splitters z.height 512 160 s high in
+    let places = product z.splitters (spots z) 512 25600 s n in
+    let held = product (spares z) z.halves 25601 1024 (omega (arith, n)) (omega (arith, s)) in
+    omega (arith, n, s, carried, started, stopped, lying, distances, columns, rows, places, held)
   where
+    few_lines : (b : Bool) → cond b 4 0 ≤ 4
+    few_lines true = omega arith
+    few_lines false = omega arith
+
     few_stops : (b : Bool) → cond b r.net.outputs 0 ≤ 2048
     few_stops true = is.net.few_outputs
     few_stops false = omega arith

@@ -11,6 +11,7 @@ starts_of z = record {
   begins = numbering.begins_from z;
   starts = numbering.starts_from z;
   stops = numbering.stops_from z;
+  lies = numbering.lies_from z;
   pairs = numbering.pairs_from z;
   tunnels = numbering.tunnels_from z;
   goings = numbering.goings_from z;

@@ -13,12 +13,14 @@ use Rattle.bt_facts.specs.declared.fact.Fact.{Fact}
 use Rattle.bt_facts.specs.declared.fact.Fact.TheVariants as fact
 use Rattle.bt_facts.specs.declared.fact.Half.{Half}
 use Rattle.bt_facts.specs.declared.fact.Half.TheVariants.{Lesser, Greater}
+use Rattle.bt_facts.specs.declared.fact.Line.{Line}
+use Rattle.bt_facts.specs.declared.fact.Line.TheVariants as line
 use Rattle.bt_facts.specs.declared.fact.Shape.{Shape}
 use Rattle.bt_facts.specs.declared.fact.Shape.TheVariants as shape
 use Rattle.bt_demands.specs.Classes.{same_class}
 
--- the sizes on which the numbers of variables depend: the outputs that may stop on cells, the greatest distance of an
--- underground pair, the classes, and for each
+-- the sizes on which the numbers of variables depend: the outputs that may stop on cells, the rows in which ends may
+-- stand, the greatest distance of an underground pair, the classes, and for each
 -- splitter its rank in the order in which the search places them
 pub record Sizes : Type 0 where
   pub width : ℕ
@@ -27,6 +29,7 @@ pub record Sizes : Type 0 where
   pub halves : ℕ
   pub inputs : ℕ
   pub stops : ℕ
+  pub lines : ℕ
   pub distances : ℕ
   pub classes : List Class
   pub ranks : List ℕ
@@ -54,8 +57,7 @@ first_most [] = 0
 first_most (n ∷ ns) = place_of_most 0 n 1 ns
 
 -- so many more splitters are placed after those that are: of those that are left always the first of those with the
--- most
--- edges to those before it
+-- most edges to those before it
 abbrev pub ordered : ℕ → List Edge → List ℕ → List ℕ → List ℕ
 ordered zero edges done left = done
 ordered (suc n) edges done left = let k = first_most (map (joining edges done) left) in
@@ -90,6 +92,13 @@ shape_number (shape.Half half) = 3 + half_number half
 abbrev pub content_number : Content → ℕ
 content_number Empty = 0
 content_number (Turned of dir) = 1 + (shape_number of * 4 + dir_number dir)
+
+-- the number of a row
+abbrev pub line_number : Line → ℕ
+line_number line.InputsEast = 0
+line_number line.InputsSouth = 1
+line_number line.OutputsEast = 2
+line_number line.OutputsSouth = 3
 
 -- the number of a class: its place among the classes
 abbrev pub class_number : Sizes → Class → ℕ
@@ -127,8 +136,11 @@ starts_from z = begins_from z + spots z
 abbrev pub stops_from : Sizes → ℕ
 stops_from z = starts_from z + spots z * z.inputs
 
+abbrev pub lies_from : Sizes → ℕ
+lies_from z = stops_from z + spots z * z.stops
+
 abbrev pub pairs_from : Sizes → ℕ
-pairs_from z = stops_from z + spots z * z.stops
+pairs_from z = lies_from z + spots z * z.lines
 
 abbrev pub tunnels_from : Sizes → ℕ
 tunnels_from z = pairs_from z + spots z * 4 * z.distances
@@ -165,10 +177,8 @@ abbrev pub variables : Sizes → ℕ
 variables z = places_from z + z.splitters * spots z * 4
 
 -- the variable of a fact. The places of the first splitter come last, and before all places what cells hold. Both are
--- numbered
--- from the last cell along the longer side to the first one, and of what a cell holds nothing comes last: so a search
--- that
--- sets the highest variable to true places the splitters one after another, and keeps cells empty then
+-- numbered from the last cell along the longer side to the first one, and of what a cell holds nothing comes last: so a
+-- search that sets the highest variable to true places the splitters one after another, and keeps cells empty then
 abbrev pub variable_of : Sizes → Fact → ℕ
 variable_of z (fact.Carries c k) = spot_of z c * length z.classes + class_number z k
 variable_of z (fact.HalfOn c) = halves_from z + spot_of z c
@@ -176,6 +186,7 @@ variable_of z (fact.BeltOn c) = belts_from z + spot_of z c
 variable_of z (fact.Begins c) = begins_from z + spot_of z c
 variable_of z (fact.Starts c i) = starts_from z + (spot_of z c * z.inputs + i)
 variable_of z (fact.Stops c o) = stops_from z + (spot_of z c * z.stops + o)
+variable_of z (fact.Lies c l) = lies_from z + (spot_of z c * z.lines + line_number l)
 variable_of z (fact.Pair c dir k) = pairs_from z + ((spot_of z c * 4 + dir_number dir) * z.distances + (k - 1))
 variable_of z (fact.Tunnel c dir) = tunnels_from z + (spot_of z c * 4 + dir_number dir)
 variable_of z (fact.Goes c dir) = goings_from z + (spot_of z c * 4 + dir_number dir)

@@ -6,7 +6,7 @@ use Rattle.bt_parts.specs.Cells.{IsInside}
 use Rattle.bt_facts.specs.declared.fact.Fact.{Fact}
 use Rattle.bt_facts.specs.declared.fact.Fact.TheVariants as fact
 use Rattle.bt_facts.specs.Rules.{Rule}
-use Rattle.bt_place.specs.Numbering.{Sizes, spots}
+use Rattle.bt_place.specs.Numbering.{Sizes, spots, line_number}
 
 -- the cell is one of the rectangle of these sizes
 abbrev pub IsSpot : Sizes → Cell → Type 0
@@ -21,6 +21,7 @@ IsNumbered z (fact.BeltOn c) = IsSpot z c
 IsNumbered z (fact.Begins c) = IsSpot z c
 IsNumbered z (fact.Starts c i) = IsSpot z c × (i < z.inputs)
 IsNumbered z (fact.Stops c o) = IsSpot z c × (o < z.stops)
+IsNumbered z (fact.Lies c l) = IsSpot z c × (line_number l < z.lines)
 IsNumbered z (fact.Pair c dir k) = IsSpot z c × ((1 ≤ k) × (k ≤ z.distances))
 IsNumbered z (fact.Tunnel c dir) = IsSpot z c
 IsNumbered z (fact.Goes c dir) = IsSpot z c

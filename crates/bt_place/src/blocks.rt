@@ -17,6 +17,8 @@ pub struct Extent {
     pub inputs: usize,
     /// The outputs that may stop on cells: all, where some are to stand at a side.
     pub stops: usize,
+    /// The rows in which ends may stand: 4, where some are to stand in one.
+    pub lines: usize,
     /// The greatest distance between the two ends of an underground pair.
     pub distances: usize,
 }
@@ -29,6 +31,7 @@ pub struct Starts {
     pub begins: usize,
     pub starts: usize,
     pub stops: usize,
+    pub lies: usize,
     pub pairs: usize,
     pub tunnels: usize,
     pub goings: usize,
@@ -58,6 +61,7 @@ struct OfCells {
     begins: usize,
     starts: usize,
     stops: usize,
+    lies: usize,
     pairs: usize,
 }
 
@@ -89,24 +93,29 @@ struct LastOnes {
 
 /// Where the blocks of cells begin.
 fn of_cells(halves: usize, spots: usize, extent: Extent) -> OfCells
-    requires { halves + spots + spots + spots + spots * extent.inputs + spots * extent.stops < 2 ^ 64 }
+    requires { halves + spots + spots + spots + spots * extent.inputs + spots * extent.stops
+        + spots * extent.lines < 2 ^ 64 }
     ensures belts { result.belts ≡ halves + spots }
     ensures begins { result.begins ≡ halves + spots + spots }
     ensures starts { result.starts ≡ halves + spots + spots + spots }
     ensures stops { result.stops ≡ halves + spots + spots + spots + spots * extent.inputs }
-    ensures pairs { result.pairs
+    ensures lies { result.lies
         ≡ halves + spots + spots + spots + spots * extent.inputs + spots * extent.stops }
+    ensures pairs { result.pairs ≡ halves + spots + spots + spots + spots * extent.inputs
+        + spots * extent.stops + spots * extent.lines }
 {
     let belts = after(halves, spots, 1);
     let begins = after(belts, spots, 1);
     let starts = after(begins, spots, 1);
     let stops = after(starts, spots, extent.inputs);
+    let lies = after(stops, spots, extent.stops);
     OfCells {
         belts,
         begins,
         starts,
         stops,
-        pairs: after(stops, spots, extent.stops),
+        lies,
+        pairs: after(lies, spots, extent.lines),
     }
 }
 
@@ -194,6 +203,7 @@ pub fn starts_of(extent: Extent, classes: &[Class]) -> Starts
         begins: cells.begins,
         starts: cells.starts,
         stops: cells.stops,
+        lies: cells.lies,
         pairs: cells.pairs,
         tunnels: turns.tunnels,
         goings: turns.goings,

@@ -10,7 +10,7 @@ use bt_parts::{Cell, Dir, Rect, inside};
 pub(crate) fn spots(rect: Rect) -> usize
     requires { IsGrid rect }
     ensures spots { result ≡ spots_in rect }
-    ensures few { result ≤ 256 }
+    ensures few { result ≤ 25600 }
 {
     rect.width as usize * rect.height as usize
 }

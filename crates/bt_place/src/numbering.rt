@@ -12,8 +12,8 @@ ghost use Rattle.bt_place.specs.inner.Blocks.{sizes_with, AreNumbers, place_numb
 
 use crate::blocks::{Extent, Starts, starts_of};
 use crate::order::ranks_of;
-use bt_demands::{Plan, same_class, stopping};
-use bt_facts::{Class, Content, Fact, Half, Shape};
+use bt_demands::{Plan, lining, same_class, stopping};
+use bt_facts::{Class, Content, Fact, Half, Line, Shape};
 use bt_model::Request;
 use bt_parts::{Cell, Dir};
 use std::alloc::{AllocError, Global};
@@ -74,6 +74,19 @@ fn shape_number(shape: Shape) -> usize
         Shape::Entrance => 1,
         Shape::Exit => 2,
         Shape::Half(half) => 3 + half_number(half),
+    }
+}
+
+/// The number of a row.
+fn line_number(line: Line) -> usize
+    ensures value { result ≡ numbering.line_number line }
+    ensures few { result < 4 }
+{
+    match line {
+        Line::InputsEast => 0,
+        Line::InputsSouth => 1,
+        Line::OutputsEast => 2,
+        Line::OutputsSouth => 3,
     }
 }
 
@@ -143,6 +156,7 @@ fn extent_of(request: &Request) -> Extent
         halves: net.splitters() as usize * 2,
         inputs: net.inputs() as usize,
         stops: stopping(request),
+        lines: lining(request),
         distances: request.tier().reach() as usize + 1,
     }
 }
@@ -249,6 +263,20 @@ impl Numbers {
         numbered(from, self.spot(cell), 4, dir_number(dir))
     }
 
+    /// The number of a pair that begins on a cell, of this direction and distance.
+    fn pair(&self, from: usize, cell: Cell, dir: Dir, distance: usize) -> usize
+        requires cell { IsSpot self.now cell }
+        requires some { 1 ≤ distance }
+        requires most { distance ≤ self.now.distances }
+        requires few { from + ((numbering.spot_of self.now cell * 4 + numbering.dir_number dir)
+            * self.now.distances + (distance - 1)) < 2 ^ 64 }
+        ensures { result ≡ from + ((numbering.spot_of self.now cell * 4 + numbering.dir_number dir)
+            * self.now.distances + (distance - 1)) }
+    {
+        let row = self.turned(0, cell, dir);
+        numbered(from, row, self.extent.distances, distance - 1)
+    }
+
     /// The number of a fact, where that is small.
     fn number(&self, fact: Fact) -> usize
         requires within { IsNumbered self.now fact }
@@ -267,10 +295,10 @@ impl Numbers {
             Fact::Begins(cell) => self.on_cell(starts.begins, cell, 1, 0),
             Fact::Starts(cell, i) => self.on_cell(starts.starts, cell, extent.inputs, i),
             Fact::Stops(cell, o) => self.on_cell(starts.stops, cell, extent.stops, o),
-            Fact::Pair(cell, dir, k) => {
-                let row = self.turned(0, cell, dir);
-                numbered(starts.pairs, row, extent.distances, k - 1)
+            Fact::Lies(cell, line) => {
+                self.on_cell(starts.lies, cell, extent.lines, line_number(line))
             }
+            Fact::Pair(cell, dir, k) => self.pair(starts.pairs, cell, dir, k),
             Fact::Tunnel(cell, dir) => self.turned(starts.tunnels, cell, dir),
             Fact::Goes(cell, dir) => self.turned(starts.goings, cell, dir),
             Fact::Column(s, x) => numbered(starts.columns, s, extent.width, x),
@@ -342,6 +370,7 @@ impl Numbers {
             Fact::Begins(cell) => self.has_spot(cell),
             Fact::Starts(cell, i) => self.has_spot(cell) && i < extent.inputs,
             Fact::Stops(cell, o) => self.has_spot(cell) && o < extent.stops,
+            Fact::Lies(cell, line) => self.has_spot(cell) && line_number(line) < extent.lines,
             Fact::Pair(cell, _, k) => self.has_spot(cell) && 1 <= k && k <= extent.distances,
             Fact::Tunnel(cell, _) => self.has_spot(cell),
             Fact::Goes(cell, _) => self.has_spot(cell),

@@ -4,4 +4,4 @@
 mod line_buffer;
 mod printing;
 
-pub use printing::print;
+pub use printing::{print, print_with};

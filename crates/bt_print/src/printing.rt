@@ -4,9 +4,10 @@ ghost use Rattle.bt_io.specs.Bytes.{WritesText};
 ghost use Rattle.bt_io.specs.Passages.{passage};
 ghost use Rattle.bt_net.specs.NetText.{line, header, edge_text, net_text};
 ghost use Rattle.bt_net.specs.Priorities.{preference_text, splitter_text, priorities_text};
+ghost use Rattle.bt_print.specs.Texts.{text_with};
 
 use crate::line_buffer::LineBuffer;
-use bt_io::{Sink, WriteFault, write_all_of};
+use bt_io::{Sink, WriteFault, write_all_of, write_pieces};
 use bt_net::{Edge, Net};
 
 /// Writes the text of a network, which has its edges in their order, its priorities splitter by splitter, that
@@ -19,6 +20,15 @@ pub fn print<K: Sink>(net: &Net, sink: &mut K) -> Result<(), WriteFault>
     print_edges(net, sink)?;
     print_priorities(net, sink)?;
     write_all_of(sink, b"end\n")
+}
+
+/// Writes the same text with these lines before `end`.
+pub fn print_with<K: Sink>(net: &Net, lines: &[u8], sink: &mut K) -> Result<(), WriteFault>
+    ensures { WritesText (passage K.held K.faults sink.old sink.new) (text_with net.now lines.now) result }
+{
+    print_edges(net, sink)?;
+    print_priorities(net, sink)?;
+    write_pieces(sink, &[lines, b"end\n"])
 }
 
 /// Writes the header and the lines of edges.

@@ -19,10 +19,10 @@ network_and_naming traced =
 abbrev pub IsFirst : (ℕ → Type 0) → ℕ → Type 0
 IsFirst P i = P i × ((j : ℕ) → j < i → P j → ⊥)
 
--- the right answer to a layout in which no two parts share a cell: its network with its own numbering, in which
--- no splitter prefers an edge, and which parts bear the numbers; or the first fault in this order, of the least part: a
--- piece in no pair,
--- side-loading, a part that looks at one that blocks it, a ring, too many of a kind, no input or no output
+-- the right answer to a layout in which no two parts share a cell: its network with its own numbering, in which no
+-- splitter prefers an edge, and which parts bear the numbers; or the first fault in this order, of the least part: a
+-- piece in no pair, side-loading, a part that looks at one that blocks it, a ring, too many of a kind, no input or no
+-- output
 abbrev pub IsRecovered : List Part → Result (Network × Naming) RecoverFault → Type 0
 IsRecovered parts (Ok found) = IsNumbered parts found.0 found.1 × IsNetwork found.0 × HasNoPriorities found.0
 IsRecovered parts (Err (Unpaired i)) = IsFirst (IsUnpaired parts) i

@@ -13,6 +13,7 @@ pub mod CarryingStay
 pub mod PortsStay
 pub mod StartsStay
 pub mod PinningStay
+pub mod RowsStay
 pub mod SidesStay
 pub mod CountStay
 pub mod Told

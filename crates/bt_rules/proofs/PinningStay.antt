@@ -14,14 +14,15 @@ use Rattle.bt_net.specs.declared.network.End.{End}
 use Rattle.bt_net.specs.declared.network.End.TheVariants.{Input, Output}
 use Rattle.bt_net.specs.declared.network.Pin.{Pin}
 use Rattle.bt_model.specs.Laying.{Lays, IsNamed, KeepsPin, KeepsDemand}
-use Rattle.bt_model.specs.Requests.{LayoutRequest, ShareEnd, ends_of, pinned}
+use Rattle.bt_model.specs.Requests.{LayoutRequest, NameOneEnd, pinned}
 use Rattle.bt_facts.specs.declared.fact.Fact.{Fact}
 use Rattle.bt_facts.specs.declared.fact.Fact.TheVariants.{Carries}
 use Rattle.bt_facts.specs.declared.fact.Shape.TheVariants as shape
 use Rattle.bt_facts.specs.Rules.{some_of, not_all}
 use Rattle.bt_facts.specs.Spots.{dirs, others_than, where_outside}
 use Rattle.bt_facts.specs.Facts.{holds}
-use Rattle.bt_demands.specs.Pinning.{is_edge_of, pin_class_rules, enders, end_facts, end_shapes, turned_rules, pin_rules, same_kind, pins_clash, clashes, clash_rules, block_rule}
+use Rattle.bt_demands.specs.Pinning.{is_edge_of, pin_class_rules, end_facts, end_shapes, turned_rules, pin_rules, same_kind, pins_clash, clashes, clash_rules, block_rule}
+use Rattle.bt_demands.specs.Enders.{enders}
 use Rattle.bt_facts.proofs.Geometry.{in_dirs, others_apart}
 use Rattle.bt_facts.proofs.Keeping.{place_of, from_filter, both_true, all_there, each_both, each_flat, each_map, said_flat, AllStay, Stays, OneSaid}
 use Rattle.bt_rules.proofs.Laid.{Said, placed_of, stands_as, one_outside}
@@ -61,7 +62,7 @@ module _ (r : LayoutRequest) (parts : List Part) (lays : Lays parts r) where
   pub output_cell : (i : ℕ) (c : Cell) (output : IsOutput parts i) → IsAt parts i c → c ≡ output.part.cell
   output_cell i c output at = own_cell output.part c (λ e. ⊎_elim (λ k. let a = k in cc) (λ k. let a = k in cc) output.kind) (covers_at parts i output.part c output.is_i at)
 
-  ends_said : (i : ℕ) (c : Cell) (output : IsOutput parts i) → IsAt parts i c → OneSaid S (enders r.rect c)
+  pub ends_said : (i : ℕ) (c : Cell) (output : IsOutput parts i) → IsAt parts i c → OneSaid S (enders r.rect c)
   ends_said i c output at =
       let dir = output.part.dir in
       let cell = output_cell i c output at in
@@ -111,11 +112,14 @@ module _ (r : LayoutRequest) (parts : List Part) (lays : Lays parts r) where
       one_end one.end other.end q.index kinds.0 (subst (IsNamed lays.naming one.end) index p.named) q.named
 
   -- so two lines that clash name one end
-  share_end : (one other : Demand) → KeepsDemand parts r lays.naming one → KeepsDemand parts r lays.naming other → clashes one other ≡ true → ShareEnd (ends_of one) (ends_of other)
-  share_end (demand.Pin one) (demand.Pin other) p q t = (one.end, refl, kept_apart one other p q t)
+  share_end : (one other : Demand) → KeepsDemand parts r lays.naming one → KeepsDemand parts r lays.naming other → clashes one other ≡ true → NameOneEnd one other
+  share_end (demand.Pin one) (demand.Pin other) p q t = (refl, (one.end, refl, kept_apart one other p q t))
   share_end (demand.Pin one) (demand.Side other) p q t = absurd (false≢true t)
   share_end (demand.Side one) (demand.Pin other) p q t = absurd (false≢true t)
   share_end (demand.Side one) (demand.Side other) p q t = absurd (false≢true t)
+  share_end (demand.Pin one) (demand.Row other) p q t = absurd (false≢true t)
+  share_end (demand.Side one) (demand.Row other) p q t = absurd (false≢true t)
+  share_end (demand.Row one) other p q t = absurd (false≢true t)
 
   pub clashes_stay : (demands : List Demand) → AllByRecursion (KeepsDemand parts r lays.naming) demands → AllPairs NameApart demands
       → AllStay S (clash_rules demands)

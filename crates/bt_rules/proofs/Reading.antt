@@ -11,6 +11,8 @@ use Rattle.bt_parts.specs.Cells.{steps, cell_at}
 use Rattle.bt_parts.specs.Layouts.{HasPart, IsAt, Pairs}
 use Rattle.bt_net.specs.declared.network.Edge.{Edge}
 use Rattle.bt_net.specs.declared.network.Demand.{Demand}
+use Rattle.bt_net.specs.declared.network.EndKind.{EndKind}
+use Rattle.bt_net.specs.declared.network.EndKind.TheVariants.{Inputs, Outputs}
 use Rattle.bt_net.specs.declared.network.Start.TheVariants as from
 use Rattle.bt_net.specs.declared.network.Target.TheVariants as to
 use Rattle.bt_net.specs.Network.{leaves, enters}
@@ -28,6 +30,10 @@ use Rattle.bt_facts.specs.declared.fact.Half.TheVariants.{Lesser}
 use Rattle.bt_facts.specs.declared.fact.Shape.{Shape}
 use Rattle.bt_facts.specs.declared.fact.Shape.TheVariants as shape
 use Rattle.bt_demands.specs.Classes.{class_of}
+use Rattle.bt_demands.specs.Rows.{way_of}
+use Rattle.bt_facts.specs.declared.fact.Line.{Line}
+use Rattle.bt_facts.specs.declared.fact.Line.TheVariants as line
+use Rattle.bt_model.specs.Laying.{HasEndPart}
 use Rattle.bt_rules.specs.Kept.{kind_of}
 use Rattle.bt_facts.specs.Spots.{half_at, behind, cells_of}
 use Rattle.bt_rules.proofs.Matching.{Matched}
@@ -136,6 +142,18 @@ Holding parts rect n zero = Unit {0}
 Holding parts rect zero (suc k) = ⊥
 Holding parts rect (suc n) (suc k) = Holding parts rect n (suc k) ⊎ (HalfThere parts (cell_numbered rect n) × Holding parts rect n k)
 
+-- the ends of which a row is
+abbrev pub line_kind : Line → EndKind
+line_kind line.InputsEast = Inputs
+line_kind line.InputsSouth = Inputs
+line_kind line.OutputsEast = Outputs
+line_kind line.OutputsSouth = Outputs
+
+-- the number of ends of this kind that bear names
+abbrev pub named_count : Naming → EndKind → ℕ
+named_count naming Inputs = length naming.inputs
+named_count naming Outputs = length naming.outputs
+
 module _ (parts : List Part) (naming : Naming) (edges : List Edge) (demands : List Demand) (m : Matched parts naming edges) where
   -- the edge leaves the splitter by this half
   abbrev pub LeavesBy : ℕ → ℕ → Half → Type 0
@@ -167,6 +185,7 @@ module _ (parts : List Part) (naming : Naming) (edges : List Edge) (demands : Li
   Says rect (fact.Begins c) = (i : ℕ) × IsInput parts i × IsAt parts i c
   Says rect (fact.Starts c i) = NamedAt parts naming.inputs i c
   Says rect (fact.Stops c o) = NamedAt parts naming.outputs o c
+  Says rect (fact.Lies c l) = (k : ℕ) → k < named_count naming (line_kind l) → HasEndPart parts (line_kind l) (steps k (way_of l) c)
   Says rect (fact.Pair c dir k) = Stands parts c shape.Entrance dir × Reaches parts c k
   Says rect (fact.Tunnel c dir) = Runs parts c dir
   Says rect (fact.Goes c dir) = GoesOn parts c dir

@@ -17,13 +17,14 @@ use Rattle.bt_net.specs.declared.network.Pin.{Pin}
 use Rattle.bt_net.specs.declared.network.Side.{Side}
 use Rattle.bt_net.specs.Network.{leaves, enters}
 use Rattle.bt_net.specs.PinText.{HasEnds}
-use Rattle.bt_model.specs.Requests.{LayoutRequest, IsRequest, IsPinnedInside, ends_of, pinned, blocked}
+use Rattle.bt_model.specs.Requests.{LayoutRequest, IsRequest, IsPinnedInside, is_row, ends_of, pinned, blocked}
 use Rattle.bt_facts.specs.declared.fact.Class.{Class}
 use Rattle.bt_facts.specs.declared.fact.Class.TheVariants as class
 use Rattle.bt_facts.specs.declared.fact.Content.TheVariants.{Empty}
 use Rattle.bt_facts.specs.declared.fact.Fact.{Fact}
 use Rattle.bt_facts.specs.declared.fact.Fact.TheVariants as fact
-use Rattle.bt_facts.specs.declared.fact.Fact.TheVariants.{Stops}
+use Rattle.bt_facts.specs.declared.fact.Fact.TheVariants.{Stops, Lies}
+use Rattle.bt_facts.specs.declared.fact.Line.{Line}
 use Rattle.bt_facts.specs.declared.fact.Half.{Half}
 use Rattle.bt_facts.specs.declared.fact.Half.TheVariants.{Lesser, Greater}
 use Rattle.bt_facts.specs.declared.fact.Shape.TheVariants as shape
@@ -47,6 +48,12 @@ use Rattle.bt_demands.specs.Starts.{start_rules, input_rules}
 use Rattle.bt_rules.specs.Underground.{most_distance, tunnel_into, tunnel_rules, pairs_from, back, pairs_into, paired_rules, way_rules, pair_class_rules, pair_rules, piece_rules, underground_rules}
 use Rattle.bt_rules.specs.Within.{IsWithin, HasWithin}
 use Rattle.bt_demands.specs.Stopping.{has_outputs, sides_outputs, stopping}
+use Rattle.bt_demands.specs.Rows.{lines_of, way_of, kind_facts, has_place, row_places, place_facts, placed_rules, line_rules, row_rules, lining}
+use Rattle.bt_demands.proofs.RowCells.{place_inside}
+use Rattle.bt_net.specs.declared.network.EndKind.{EndKind}
+use Rattle.bt_net.specs.declared.network.EndKind.TheVariants.{Inputs, Outputs}
+use Rattle.bt_net.specs.declared.network.Row.{Row}
+use Rattle.bt_model.specs.Laying.{end_count}
 use Rattle.bt_rules.proofs.Classed.{edge_class_listed, through_listed}
 use Rattle.bt_demands.proofs.Fitting.{from_enough}
 use Rattle.bt_facts.proofs.Geometry.{inside_cases, inside_between, from_cells}
@@ -526,6 +533,7 @@ module _ (r : LayoutRequest) (is : IsRequest r) where
       by true = (record { given = ((h, lt), tt); one_of = tt }, tt)
       by false = tt
     unpinned_within (demand.Side side) h = tt
+    unpinned_within (demand.Row row) h = tt
 
     output_side_within : (dir : Dir) → R (side_end_rules r dir (Output o))
     output_side_within dir = (
@@ -554,9 +562,35 @@ module _ (r : LayoutRequest) (is : IsRequest r) where
         let lt : found.0 < stopping r = subst (λ n. found.0 < n) (sym (counted side there (ap has_outputs own))) (below r.net.outputs found.0 found.1) in
         subst (λ x. R (side_end_rules r side.dir x)) (sym found.2) (output_side_within found.0 lt side.dir))
 
+  -- rows in which ends are to stand are counted
+  lined : (row : Row) → In r.demands (demand.Row row) → 0 < lining r
+  lined row there = subst (λ b. 0 < cond b 4 0) (sym (any_in is_row r.demands (demand.Row row) there refl)) (omega arith)
+
+  kind_within : (kind : EndKind) (c : Cell) → I c → A (kind_facts r.rect c kind)
+  kind_within Inputs c h = (h, tt)
+  kind_within Outputs c h = each_flat W (λ dir. where_outside r.rect (step dir c) (holds c shape.Belt dir ∷ holds c shape.Exit dir ∷ [])) dirs
+      (λ dir at. all_outside r (step dir c) W (holds c shape.Belt dir ∷ holds c shape.Exit dir ∷ []) (h, (h, tt)))
+
+  row_within : (row : Row) → In r.demands (demand.Row row) → R (row_rules r row)
+  row_within row there =
+      let count = end_count r.net row.kind in (
+        record { given = tt; one_of = each_flat W (place_facts r.rect count) (lines_of row.kind) (λ l at. each_map W (λ c. Lies c l) (row_places r.rect count l) (λ c found. (place_cell l c found, lined row there))) },
+        each_flat H (line_rules r.rect row.kind count) (lines_of row.kind) (λ l at.
+            each_flat H (placed_rules r.rect row.kind count l) (row_places r.rect count l) (λ c found.
+            each_map H (λ k. rule (Lies c l ∷ []) (kind_facts r.rect (steps k (way_of l) c) row.kind)) (range_with_len 0 count) (λ k low. record {
+              given = ((place_cell l c found, lined row there), tt);
+              one_of = kind_within row.kind (steps k (way_of l) c)
+                  (place_inside r.rect count l c (place_cell l c found) (from_filter (has_place r.rect count l) (cells_of r.rect) c found).1 k (below count k low));
+            }))),
+      )
+    where
+      place_cell : (l : Line) (c : Cell) → In (row_places r.rect (end_count r.net row.kind) l) c → I c
+      place_cell l c found = from_cells r.rect c (from_filter (has_place r.rect (end_count r.net row.kind) l) (cells_of r.rect) c found).0
+
   demand_within : (d : Demand) → In r.demands d → IsPinnedInside r.rect d → HasEnds r.net (ends_of d) → R (demand_rules r d)
   demand_within (demand.Pin pin) there h has = pins_within pin h
   demand_within (demand.Side side) there h has = side_within side there has
+  demand_within (demand.Row row) there h has = row_within row there
 
   -- ---- counts
 

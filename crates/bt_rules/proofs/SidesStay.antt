@@ -40,6 +40,7 @@ use Rattle.bt_facts.proofs.Keeping.{In, place_of, from_map, from_filter, from_ra
 use Rattle.bt_rules.proofs.Laid.{Said, placed_of, stands_as, one_outside}
 use Rattle.bt_rules.proofs.PinningStay.{pin_stays, output_cell}
 use Rattle.bt_rules.proofs.Reading.{Bears, no_edge}
+use Rattle.bt_rules.proofs.RowsStay.{row_stays}
 use Rattle.bt_demands.proofs.Sharing.{class_side, side_from, side_is}
 
 -- what holds of each item, by its place
@@ -177,6 +178,7 @@ module _ (r : LayoutRequest) (is : IsRequest r) (parts : List Part) (lays : Lays
     unpinned_stays : (d : Demand) → KeepsDemand parts r lays.naming d → AllStay S (unpinned_rules o d)
     unpinned_stays (demand.Pin pin) kept = other_stays pin kept pin.end refl
     unpinned_stays (demand.Side side) kept = tt
+    unpinned_stays (demand.Row row) kept = tt
 
     output_side_stays : AllStay S (side_end_rules r dir (Output o))
     output_side_stays = (
@@ -212,6 +214,7 @@ module _ (r : LayoutRequest) (is : IsRequest r) (parts : List Part) (lays : Lays
 
   pub demand_stays : (d : Demand) → In r.demands d → KeepsDemand parts r lays.naming d → AllStay S (demand_rules r d)
   demand_stays (demand.Pin pin) there kept = pin_stays r parts lays pin kept
+  demand_stays (demand.Row row) there kept = row_stays r is parts lays row kept
   demand_stays (demand.Side side) there kept = each_flat (Stays S) (side_end_rules r side.dir) (ends_named r side.ends)
       (λ e at.
       let named = named_has side.ends (has_ends (demand.Side side) there) e at in

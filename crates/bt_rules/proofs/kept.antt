@@ -26,6 +26,7 @@ pub mod IntoFacts
 pub mod WishFacts
 pub mod ChoiceFacts
 pub mod ThroughFacts
+pub mod RowFacts
 pub mod OutFacts
 pub mod ChainFacts
 pub mod Laid

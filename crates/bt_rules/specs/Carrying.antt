@@ -16,8 +16,7 @@ use Rattle.bt_facts.specs.Rules.{Rule, rule, not_all}
 use Rattle.bt_facts.specs.Spots.{dirs, is_inside}
 
 -- what is handed on to a part that is no half has one class before and after; what is handed to a half comes to a
--- splitter
--- into which edges of its class go
+-- splitter into which edges of its class go
 abbrev pub carried_rules : LayoutRequest → Cell → Dir → Class → List Rule
 carried_rules r c dir k = rule (Goes c dir ∷ Carries c k ∷ []) (HalfOn (step dir c) ∷ Carries (step dir c) k ∷ [])
     ∷ rule (Goes c dir ∷ Carries (step dir c) k ∷ []) (HalfOn (step dir c) ∷ Carries c k ∷ [])

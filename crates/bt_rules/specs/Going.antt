@@ -31,8 +31,7 @@ abbrev pub takers : Cell → Dir → List Fact
 takers c dir = BeltOn c ∷ holds c shape.Entrance dir ∷ map (λ half. holds c (shape.Half half) dir) halves
 
 -- to a cell inside the rectangle: only a belt, an exit or a half hands on, what is there takes, a belt and an exit do
--- hand
--- on, and a half does so unless nothing is there
+-- hand on, and a half does so unless nothing is there
 abbrev pub inner_rules : Cell → Dir → List Rule
 inner_rules c dir = rule (Goes c dir ∷ []) (map (λ of. holds c of dir) givers)
     ∷ rule (Goes c dir ∷ []) (takers (step dir c) dir)

@@ -1,6 +1,5 @@
 -- Rules of ports: a splitter takes and gives by its halves the classes of its edges, each as often as it has them, and
--- its
--- other halves take and give nothing.
+-- its other halves take and give nothing.
 use Rattle.std.specs.List.{flat_map, filter}
 use Rattle.std.specs.Prelude.{ℕ, List, [], ◌∷◌, ◌++◌, map, if◌then◌else◌}
 use Rattle.bt_parts.specs.declared.part.Cell.{Cell}
@@ -26,8 +25,8 @@ abbrev pub carries_into : Rect → Cell → Dir → Class → List Fact
 carries_into rect c dir k = where_inside rect (behind dir c) (Carries (behind dir c) k ∷ [])
 
 -- of the two edges into a splitter, whose lesser half stands on the cell, this half takes its class: each half one
--- class
--- where it is the same, and else the half by which the first comes in takes the first, and the other one the second
+-- class where it is the same, and else the half by which the first comes in takes the first, and the other one the
+-- second
 abbrev pub two_in_rules : Rect → ℕ → Fact → Cell → Dir → Half → Class → Class → List Rule
 two_in_rules rect t at c dir half k l = if same_class k l
     then rule (at ∷ []) (carries_into rect (half_at half dir c) dir k) ∷ []
@@ -35,8 +34,7 @@ two_in_rules rect t at c dir half k l = if same_class k l
     ∷ rule_by half (EntersLesser t) (at ∷ []) (carries_into rect (half_at (other_half half) dir c) dir l) ∷ []
 
 -- what a half takes: nothing where no edge goes into the splitter; where one does, by one half its class, and nothing
--- by the
--- other; where two do, something by each
+-- by the other; where two do, something by each
 abbrev pub in_rules : Rect → ℕ → Fact → Cell → Dir → List Class → Half → List Rule
 in_rules rect t at c dir [] half = map (λ going. not_all (at ∷ going ∷ [])) (goes_into rect (half_at half dir c) dir)
 in_rules rect t at c dir (k ∷ []) half = rule_by half (EntersLesser t) (at ∷ []) (goes_into rect (half_at half dir c) dir)
@@ -50,8 +48,7 @@ abbrev pub in_front : LayoutRequest → ℕ → Cell → List Fact
 in_front r s c = where_inside r.rect c (map (λ t. Carries c (Split t)) (onward r s))
 
 -- what a half gives: nothing where no edge leaves the splitter; where one does, something by one half, and nothing by
--- the
--- other; where two do, something by each
+-- the other; where two do, something by each
 abbrev pub out_rules : LayoutRequest → ℕ → Fact → Cell → Dir → List Edge → Half → List Rule
 out_rules r s at c dir [] half = not_all (at ∷ Goes (half_at half dir c) dir ∷ []) ∷ []
 out_rules r s at c dir (edge ∷ []) half = rule_by half (LeavesLesser s) (at ∷ []) (Goes (half_at half dir c) dir ∷ [])

@@ -1,6 +1,5 @@
 -- Rules of underground pairs: each entrance has its exit within reach, each exit its entrance, and no piece of their
--- axis
--- stands between.
+-- axis stands between.
 use Rattle.std.specs.List.{range_with_len, flat_map}
 use Rattle.std.specs.Prelude.{ℕ, ◌+◌, ◌-◌, List, [], ◌∷◌, ◌++◌, map}
 use Rattle.bt_parts.specs.declared.part.Cell.{Cell}
@@ -27,8 +26,7 @@ abbrev pub tunnel_into : Rect → Cell → Dir → List Fact
 tunnel_into rect c dir = where_inside rect (behind dir c) (Tunnel (behind dir c) dir ∷ [])
 
 -- an entrance begins a tunnel and an exit has one behind it; a tunnel comes from an entrance or from a tunnel behind,
--- ends
--- at an exit, doesn't leave the rectangle, and passes no entrance and no piece that points back
+-- ends at an exit, doesn't leave the rectangle, and passes no entrance and no piece that points back
 abbrev pub tunnel_rules : Rect → Cell → Dir → List Rule
 tunnel_rules rect c dir = rule (holds c shape.Entrance dir ∷ []) (Tunnel c dir ∷ [])
     ∷ rule (holds c shape.Exit dir ∷ []) (tunnel_into rect c dir)

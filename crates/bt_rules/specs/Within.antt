@@ -7,6 +7,7 @@ use Rattle.bt_facts.specs.declared.fact.Fact.{Fact}
 use Rattle.bt_facts.specs.declared.fact.Fact.TheVariants as fact
 use Rattle.bt_demands.specs.Classes.{classes_of}
 use Rattle.bt_demands.specs.Counting.{halves_of}
+use Rattle.bt_demands.specs.Rows.{lining}
 use Rattle.bt_demands.specs.Stopping.{stopping}
 use Rattle.bt_facts.specs.Rules.{Rule}
 use Rattle.bt_facts.specs.Spots.{cells_of}
@@ -25,6 +26,7 @@ IsWithin r (fact.BeltOn c) = IsInside r.rect c
 IsWithin r (fact.Begins c) = IsInside r.rect c
 IsWithin r (fact.Starts c i) = IsInside r.rect c × (i < r.net.inputs)
 IsWithin r (fact.Stops c o) = IsInside r.rect c × (o < stopping r)
+IsWithin r (fact.Lies c l) = IsInside r.rect c × (0 < lining r)
 IsWithin r (fact.Pair c dir k) = IsInside r.rect c × ((1 ≤ k) × (k ≤ most_distance r))
 IsWithin r (fact.Tunnel c dir) = IsInside r.rect c
 IsWithin r (fact.Goes c dir) = IsInside r.rect c

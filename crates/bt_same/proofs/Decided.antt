@@ -1,6 +1,5 @@
 -- Two networks behave the same exactly where no pair shows a difference, since whether two flows are equal is decided,
--- and any
--- two states can be put over one denominator.
+-- and any two states can be put over one denominator.
 use Rattle.std.proofs.Common.{◌≡◌, ℕ, ◌<◌, ℤ, pos, ◌*ℤ◌, List, [], ◌∷◌, map, inl, inr, ap, sym, ◌∙◌, refl, subst}
 use Rattle.std.specs.List.{AllZip}
 use Rattle.std.proofs.Math.Nat.{mul_comm}

@@ -16,8 +16,7 @@ use Rattle.bt_same.specs.Sameness.{HaveEqualEnds, AreSame, ShowsDifference}
 use Rattle.bt_same.specs.SameFormula.{shifted, first_shift, second_columns, second_vars, same_formula}
 
 -- an assignment with values that meets the formula of two networks: its marks are those of two states, and its values
--- are
--- their flows, loads and rooms
+-- are their flows, loads and rooms
 pub record IsMetByBoth (a b : Network) (s t : Flows) : Type 0 where
   pub assignment : ℕ → Bool
   pub values : ℕ → Ratio
@@ -33,8 +32,7 @@ abbrev pub ShowingMeets : Type 0
 ShowingMeets = (a b : Network) (s t : Flows) → IsNetwork a → IsNetwork b → HaveEqualEnds a b → ShowsDifference a b s t → IsMetByBoth a b s t
 
 -- where an assignment with values, which may be any fractions, meets the formula of two networks, each two states over
--- one
--- denominator with these marks and values show a difference
+-- one denominator with these marks and values show a difference
 abbrev pub MeetingShows : Type 0
 MeetingShows = (a b : Network) (assignment : ℕ → Bool) (values : ℕ → Ratio) (s t : Flows) → IsNetwork a → IsNetwork b → HaveEqualEnds a b
     → AreValues values → Meets (same_formula a b) assignment values → s.denominator ≡ t.denominator

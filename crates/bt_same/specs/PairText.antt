@@ -27,8 +27,7 @@ abbrev pub printed_pair : Pair → List ℕ
 printed_pair pair = flat_map line (pair_lines pair)
 
 -- the bytes are the text of the pair, of which each fraction is in lowest terms, and the loads and rooms of the second
--- state
--- are those of the first; the last line feed may be missing, and blanks may follow it
+-- state are those of the first; the last line feed may be missing, and blanks may follow it
 pub record IsPairText (pair : Pair) (bytes : List ℕ) : Type 0 where
   pub first : AreLowest pair.first
   pub second : AreLowest pair.second

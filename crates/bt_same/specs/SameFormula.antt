@@ -47,10 +47,8 @@ abbrev pub difference_formula : Network → Network → ℕ → FormulaParts
 difference_formula a b vars = formula_of (λ pair. 0) vars (difference a b ∷ [])
 
 -- the formula of two networks. Its columns are the flows of the first, those of the second, the loads and the rooms;
--- its
--- variables the marks of the first, those of the second, and the atoms in the order of mention. Its clauses are those
--- of
--- the steady states of the first, those of the second, and that they differ.
+-- its variables the marks of the first, those of the second, and the atoms in the order of mention. Its clauses are
+-- those of the steady states of the first, those of the second, and that they differ.
 abbrev pub same_formula : Network → Network → FormulaParts
 same_formula a b =
     let first = steady_formula a in

@@ -4,6 +4,7 @@ pub mod Atoms
 pub mod Columns
 pub mod Bases
 pub mod Reached
+pub mod Trails
 pub mod Scoped
 pub mod Rounds
 pub mod Goals

@@ -9,7 +9,13 @@ use Rattle.bt_simplex.specs.Tableaus.{TableauParts}
 use Rattle.bt_simplex.specs.Turns.{Follows}
 use Rattle.bt_simplex.specs.Runs.{LeadsTo}
 use Rattle.bt_simplex.specs.declared.tableau.Turn.{Turn}
-use Rattle.bt_theory.specs.Reaching.{atom_vars, IsTableauOf, IsGuided, IsReachable, turns_on, IsReached}
+use Rattle.bt_theory.specs.Reaching.{atom_vars, IsTableauOf, IsGuided, IsReachable, turns_on}
+
+-- a tableau of the formula at a reachable basis, with such rows bound
+pub record IsReached (f : FormulaParts) (t : TableauParts) : Type 0 where
+  pub tableau : IsTableauOf f t
+  pub guided : IsGuided f t
+  pub reachable : IsReachable f (basis_of t.slots)
 
 module _ (f : FormulaParts) where
   reach_on : (turns : List Turn) (t t' : TableauParts) → IsTableauOf f t → IsGuided f t → IsReachable f (basis_of t.slots) → Follows t turns t'

@@ -25,7 +25,7 @@ use Rattle.bt_simplex.specs.Weights.{weighted_rows}
 use Rattle.bt_simplex.specs.Tableaus.{TableauParts}
 use Rattle.bt_simplex.specs.Runs.{LeadsTo}
 use Rattle.bt_simplex.specs.Checks.{IsBound, MeetsBoundRows, RefutesBoundRows}
-use Rattle.bt_theory.specs.Reaching.{atom_rows, atom_vars, IsTableauOf, IsReachable, IsReached}
+use Rattle.bt_theory.specs.Reaching.{atom_rows, atom_vars, IsTableauOf, IsReachable}
 use Rattle.bt_theory.specs.Outcomes.{IsSolution, FitsLemma, Fits, IsSound, IsUsedUp}
 use Rattle.bt_theory.specs.declared.base.Base.{Base}
 use Rattle.bt_theory.specs.inner.Bases.{base_in, IsBase}
@@ -37,7 +37,7 @@ use Rattle.bt_theory.specs.declared.round.End.{End}
 use Rattle.bt_theory.specs.declared.round.End.TheVariants as end
 use Rattle.bt_theory.proofs.Truths.{below_true}
 use Rattle.bt_theory.proofs.Chosen.{chosen_meets}
-use Rattle.bt_theory.proofs.Reached.{reached_on, bound_reached}
+use Rattle.bt_theory.proofs.Reached.{reached_on, bound_reached, IsReached}
 
 -- what holds of all of a list holds of all of its front
 pub all_front : {X : Type 0} (P : X → Type 0) (xs ys : List X) → All P (xs ++ ys) → All P xs

@@ -1,3 +1,4 @@
 pub mod Reaching
+pub mod Trails
 pub mod Outcomes
 pub mod inner

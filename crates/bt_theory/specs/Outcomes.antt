@@ -16,10 +16,6 @@ use Rattle.bt_log.specs.Validity.{NegatesAtom, IsValidStep, AreValid}
 use Rattle.bt_log.specs.Refuting.{Refutes}
 use Rattle.bt_sat.specs.Freshness.{IsFreshStep}
 use Rattle.bt_sat.specs.Solving.{AreFresh, AreNonempty}
-use Rattle.bt_simplex.specs.Tableaus.{TableauParts}
-use Rattle.bt_simplex.specs.Checks.{IsPivots, IsWideCheck}
-use Rattle.bt_simplex.specs.declared.answers.Trail.{Trail}
-use Rattle.bt_simplex.specs.declared.answers.Wide as wide
 use Rattle.bt_cnf.specs.declared.limits.Limits.{Limits}
 use Rattle.bt_trim.specs.Trimming.{IsTightOver}
 use Rattle.bt_theory.specs.declared.outcome.Outcome.{Outcome}
@@ -27,7 +23,8 @@ use Rattle.bt_theory.specs.declared.outcome.Outcome.TheVariants as outcome
 use Rattle.bt_theory.specs.declared.outcome.Solution.{Solution}
 use Rattle.bt_theory.specs.declared.outcome.GaveUp.{GaveUp}
 use Rattle.bt_theory.specs.declared.outcome.GaveUp.TheVariants.{Spent, Pivots, Wide}
-use Rattle.bt_theory.specs.Reaching.{columns_of, IsReached}
+use Rattle.bt_theory.specs.Reaching.{columns_of}
+use Rattle.bt_theory.specs.Trails.{TurnsOn, IsTooWide}
 
 -- each column has a value and each variable a truth value, and together they meet the formula
 pub record IsSolution (f : FormulaParts) (values : List Ratio) (assignment : List Bool) : Type 0 where
@@ -64,8 +61,7 @@ pub record IsRefutation (f : FormulaParts) (steps : List Step) : Type 0 where
   pub refutes : Refutes f steps
 
 -- the log is sound and has so many steps, of which none is empty, and one more would be valid and fresh; over v
--- variables
--- these are fewer than 3 ^ v
+-- variables these are fewer than 3 ^ v
 pub record IsUsedUp (f : FormulaParts) (limit : ℕ) (steps : List Step) : Type 0 where
   pub sound : IsSound f steps
   pub full : length steps ≡ limit
@@ -75,23 +71,8 @@ pub record IsUsedUp (f : FormulaParts) (limit : ℕ) (steps : List Step) : Type 
   pub valid : IsValidStep f (f.clauses ++ map clause_of steps) more
   pub fresh : IsFreshStep (f.clauses ++ map clause_of steps) more
 
--- the trail begins at a reachable basis of the formula's rows, has so many turns, which are fewer than there are bases,
--- and
--- ends at a basis that isn't final
-pub record TurnsOn (f : FormulaParts) (pivots : ℕ) (trail : Trail) : Type 0 where
-  pub tableau : TableauParts
-  pub reached : IsReached f tableau
-  pub turned : IsPivots pivots tableau trail
-
--- the trail begins at a reachable basis of the formula's rows and leads to one with these two numbers
-pub record IsTooWide (f : FormulaParts) (pivots : ℕ) (at : wide.Wide) : Type 0 where
-  pub tableau : TableauParts
-  pub reached : IsReached f tableau
-  pub wide : IsWideCheck pivots tableau at
-
 -- it is right to give up: the log over the further formula is used up, or the turns for one assignment of the formula
--- are,
--- or a number leaves 128 bits
+-- are, or a number leaves 128 bits
 abbrev pub IsGivenUpOver : FormulaParts → FormulaParts → Limits → GaveUp → Type 0
 IsGivenUpOver f g limits (Spent log) = IsUsedUp g limits.learnt log.steps
 IsGivenUpOver f g limits (Pivots trail) = TurnsOn f limits.pivots trail
@@ -102,9 +83,8 @@ abbrev pub AreRowsOf : FormulaParts → List ℕ → Type 0
 AreRowsOf f rows = All (λ row. row < length f.atoms) rows
 
 -- what is right to say of a formula within limits, where the search is over a further formula: a solution, turns and
--- numbers
--- are those of the formula, and logs are over the further one; of a log that refutes it each step but the last is
--- needed
+-- numbers are those of the formula, and logs are over the further one; of a log that refutes it each step but the last
+-- is needed
 abbrev pub IsOutcomeOver : FormulaParts → FormulaParts → Limits → Outcome → Type 0
 IsOutcomeOver f g limits (outcome.Sat values assignment) = IsSolution f values.items assignment.items
 IsOutcomeOver f g limits (outcome.Refuted log) = IsRefutation g log.steps × (length log.steps ≤ limits.learnt) × IsTightOver g log

@@ -40,9 +40,3 @@ pub data IsReachable (f : FormulaParts) : List ℕ → Type 0 where
   begins : IsReachable f (positions_from (columns_of f) (atom_rows f))
   turns_on : (t t' : TableauParts) (turn : Turn) → IsReachable f (basis_of t.slots) → IsTableauOf f t → IsGuided f t → IsBlandTurn t turn
       → IsTurnedBy turn t t' → IsReachable f (basis_of t'.slots)
-
--- a tableau of the formula at a reachable basis, with such rows bound
-pub record IsReached (f : FormulaParts) (t : TableauParts) : Type 0 where
-  pub tableau : IsTableauOf f t
-  pub guided : IsGuided f t
-  pub reachable : IsReachable f (basis_of t.slots)

@@ -40,7 +40,7 @@ use std::alloc::{AllocError, Global};
 /// `Pivots` and `Wide` come of the check of all rows.
 pub fn solve<C: Chooser>(
     alloc: Global,
-    mut formula: Formula,
+    formula: Formula,
     definitions: &mut Vec<Definition>,
     scopes: &[Vec<usize>],
     goals: &[Goal],
@@ -51,7 +51,7 @@ pub fn solve<C: Chooser>(
     ensures outcome { IfOk result (IsOutcome formula definitions.new.items limits) }
 {
     let base = base_of(alloc, &formula)?;
-    extend_all(alloc, &mut formula, definitions)?;
+    let formula = extend_all(alloc, formula, definitions)?;
     search(alloc, formula, &base, scopes, goals, choosers, limits)
 }
 

@@ -1,17 +1,21 @@
 -- What `smallest` asks for: bytes have one request, or one refusal, and it may be asked of any grid.
-use Rattle.std.proofs.Common.{◌≡◌, ℕ, List, [], Option, Ok, inl, inr, refl, ap, sym, subst, ◌∙◌}
+use Rattle.std.proofs.Common.{◌≡◌, ℕ, Bool, true, false, List, [], Option, Ok, inl, inr, refl, ap, sym, subst, ◌∙◌, arith}
+use Rattle.std.specs.Prelude.{◌↔◌, IfSome, IsTrue, None, Some, unwrap_or}
+use Rattle.std.proofs.lemmas.Bool.{false≢true}
+use Rattle.bt_place.specs.PlaceFormula.{HasFormula}
 use Rattle.bt_answers.specs.Answers.{HasOneAnswer}
 use Rattle.bt_parts.specs.declared.part.Rect.{Rect}
 use Rattle.bt_parts.specs.declared.part.Tier.{Tier}
 use Rattle.std.specs.List.{All as Each}
 use Rattle.std.proofs.lemmas.List.Elements.{All-nil}
 use Rattle.bt_net.specs.declared.network.Admitted.TheVariants.{Sides}
-use Rattle.bt_model.specs.Requests.{LayoutRequest, IsRequest}
+use Rattle.bt_model.specs.Requests.{LayoutRequest, IsGrid, IsRequest}
 use Rattle.bt_layout.specs.Smallest.{NamesNoCell, NamesNoCells}
 use Rattle.bt_words.specs.declared.command.AskedSides.{AskedSides}
 use Rattle.bt_words.specs.declared.command.AskedSides.TheVariants.{Any, Kept}
 use Rattle.bt_designs.specs.Alone.{IsAlone}
-use Rattle.bt_top.specs.Finding.{IsDesignRequest, IsDrawnRequest}
+use Rattle.bt_words.specs.Commands.{usual_grid}
+use Rattle.bt_top.specs.Finding.{IsDesignRequest, IsDrawnRequest, greatest_grid}
 use Rattle.bt_designs.specs.Kept.{IsKeptRequest}
 use Rattle.bt_designs.proofs.OneRequest.{one_lone_request, one_kept_request, one_sided_request}
 use Rattle.bt_designs.specs.Designs.{IsJsonText}
@@ -22,17 +26,32 @@ use Rattle.bt_designs.proofs.InTurns.{same_value, not_both}
 use Rattle.bt_top.proofs.SidesRead.{sides_read}
 use Rattle.bt_top.proofs.OwnSides.{own_sides_name_no_cells}
 
+-- what the test says of a request tells whether it has a formula
+pub has_formula_then : (r : LayoutRequest) (has : Bool) → IsTrue has ↔ HasFormula r → has ≡ true → HasFormula r
+has_formula_then r has is e = is.0 e
+
+pub has_none_else : (r : LayoutRequest) (has : Bool) → IsTrue has ↔ HasFormula r → has ≡ false → HasFormula r → ⊥
+has_none_else r has is e there = false≢true (sym e ∙ is.1 there)
+
+-- a grid that is given, or else another one, is a grid
+pub given_grid : (most : Option Rect) (other : Rect) → IfSome most IsGrid → IsGrid other → IsGrid (unwrap_or most other)
+given_grid None other is at_least = at_least
+given_grid (Some grid) other is at_least = is
+
+pub greatest_is_grid : IsGrid greatest_grid
+greatest_is_grid = record { some_width = omega arith; few_across = omega arith; some_height = omega arith; few_down = omega arith }
+
 -- two right answers to the bytes of a request for a blueprint alone are equal
 one_drawn_request : (sides : AskedSides) (rect : Rect) (tier : Option Tier) (bytes : List ℕ) → HasOneAnswer (IsDrawnRequest sides rect tier bytes)
 one_drawn_request Any rect tier bytes = one_lone_request rect tier bytes
 one_drawn_request Kept rect tier bytes = one_kept_request rect tier bytes
 
 -- and of a request for a design alone
-pub one_design_request : (sides : AskedSides) (most : Rect) (tier : Option Tier) (bytes : List ℕ) → HasOneAnswer (IsDesignRequest sides most tier bytes)
-one_design_request sides most tier bytes a b (inl h) (inl k) = one_drawn_request sides most tier bytes a b h.1 k.1
+pub one_design_request : (sides : AskedSides) (most : Option Rect) (tier : Option Tier) (bytes : List ℕ) → HasOneAnswer (IsDesignRequest sides most tier bytes)
+one_design_request sides most tier bytes a b (inl h) (inl k) = one_drawn_request sides (unwrap_or most greatest_grid) tier bytes a b h.1 k.1
 one_design_request sides most tier bytes a b (inl h) (inr k) = absurd (k.0 h.0)
 one_design_request sides most tier bytes a b (inr h) (inl k) = absurd (h.0 k.0)
-one_design_request sides most tier bytes a b (inr h) (inr k) = one_sided_request most tier bytes a b h.1 k.1
+one_design_request sides most tier bytes a b (inr h) (inr k) = one_sided_request (unwrap_or most usual_grid) tier bytes a b h.1 k.1
 
 -- a network whose request may be asked of any grid: it names no cells
 record IsSided (n : PinnedNet) : Type 0 where
@@ -94,7 +113,10 @@ kept most tier bytes r json (went_on n h (stays, own, went_on made k e)) =
     subst (IsForAll most) (sym (same_value r made e ∙ k.0))
     (for_all most tier (record n { demands = stays }) (record { cells = own_sides_name_no_cells bytes stays own; blocks = is.blocks }) (subst IsRequest k.0 k.1))
 
-pub design_request : (sides : AskedSides) (most : Rect) (tier : Option Tier) (bytes : List ℕ) (r : LayoutRequest) → IsDesignRequest sides most tier bytes (Ok r) → IsForAll most r
-design_request Any most tier bytes r (inl h) = drawn most tier bytes r h.0 h.1
-design_request Kept most tier bytes r (inl h) = kept most tier bytes r h.0 h.1
-design_request sides most tier bytes r (inr h) = sided_request most tier bytes r h.1
+of_own : (most : Rect) (r : LayoutRequest) → IsForAll most r → IsForAll r.rect r
+of_own most r is = record { request = is.request; rect = refl; cells = is.cells }
+
+pub design_request : (sides : AskedSides) (most : Option Rect) (tier : Option Tier) (bytes : List ℕ) (r : LayoutRequest) → IsDesignRequest sides most tier bytes (Ok r) → IsForAll r.rect r
+design_request Any most tier bytes r (inl h) = of_own (unwrap_or most greatest_grid) r (drawn (unwrap_or most greatest_grid) tier bytes r h.0 h.1)
+design_request Kept most tier bytes r (inl h) = of_own (unwrap_or most greatest_grid) r (kept (unwrap_or most greatest_grid) tier bytes r h.0 h.1)
+design_request sides most tier bytes r (inr h) = of_own (unwrap_or most usual_grid) r (sided_request (unwrap_or most usual_grid) tier bytes r h.1)

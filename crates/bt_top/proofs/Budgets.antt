@@ -9,14 +9,15 @@ use Rattle.bt_parts.specs.declared.part.Tier.{Tier}
 use Rattle.bt_net.specs.Network.{Network}
 use Rattle.bt_flow.specs.declared.property.Property.{Property}
 use Rattle.bt_flow.specs.declared.property.Property.TheVariants.{Balanced}
+use Rattle.std.specs.Global.{Vec}
+use Rattle.bt_hands.specs.declared.hand.Priority.{Priority}
 use Rattle.bt_extend.specs.Extending.{extended}
 use Rattle.bt_extend.specs.declared.definition.Definition.{Definition}
 use Rattle.bt_fenc.specs.FlowFormula.{flow_formula}
 use Rattle.bt_same.specs.SameFormula.{same_formula}
-use Rattle.bt_simplex.specs.Counting.{most_bases}
 use Rattle.bt_simplex.specs.declared.answers.Trail.{Trail}
-use Rattle.bt_theory.specs.Reaching.{atom_rows, columns_of}
-use Rattle.bt_theory.specs.Outcomes.{IsUsedUp, TurnsOn}
+use Rattle.bt_theory.specs.Outcomes.{IsUsedUp}
+use Rattle.bt_theory.specs.Trails.{TurnsOn}
 use Rattle.bt_theory.specs.declared.outcome.GaveUp.{GaveUp}
 use Rattle.bt_theory.specs.declared.outcome.GaveUp.TheVariants as gave
 use Rattle.bt_cnf.specs.declared.limits.Limits.{Limits}
@@ -40,7 +41,7 @@ use Rattle.bt_model.specs.Requests.{LayoutRequest}
 use Rattle.bt_place.specs.PlaceFormula.{place_formula}
 use Rattle.bt_words.specs.declared.command.Command.{Command}
 use Rattle.bt_words.specs.Commands.{IsCommand}
-use Rattle.bt_words.specs.declared.command.Command.TheVariants.{FlowCheck, Recover, Check, Decide, Make, Layout, CheckLayout, Smallest, FindSmall, FlowFormula, PlaceFormula, Same, CheckSame}
+use Rattle.bt_words.specs.declared.command.Command.TheVariants.{FlowCheck, Recover, Check, Decide, Make, Layout, CheckLayout, Smallest, FindSmall, FlowFormula, PlaceFormula, Same, CheckSame, Build}
 use Rattle.bt_words.specs.declared.command.NetworkFamily.{NetworkFamily}
 use Rattle.bt_words.specs.declared.command.NetworkFamily.TheVariants.{Butterfly, Chain}
 use Rattle.bt_top.specs.declared.answer.Answer.{Answer}
@@ -58,7 +59,7 @@ use Rattle.bt_top.specs.Deciding.{verdict_told}
 use Rattle.bt_designs.specs.Alone.{IsLoneNet}
 use Rattle.bt_top.specs.Endings.{IsTold, status_after, Ends}
 use Rattle.bt_top.specs.Inputs.{IsInput}
-use Rattle.bt_top.specs.LayingOut.{layout_told}
+use Rattle.bt_top.specs.LayingOut.{IsLayoutTold}
 use Rattle.bt_top.specs.Making.{made_of, gen_told, balance_told}
 use Rattle.bt_top.specs.Replies.{Reply, design_told}
 use Rattle.bt_designs.specs.Steps.{stopped, went_on}
@@ -75,10 +76,7 @@ never_used_up f learnt steps ample used = omega (arith, ample, used.few)
 
 -- the turns of an ample budget are never all made
 never_all_made : (f : FormulaParts) (pivots : ℕ) (trail : Trail) → IsAmpleOfTurns f pivots → TurnsOn f pivots trail → ⊥
-never_all_made f pivots trail ample turned =
-    let bases : most_bases turned.tableau.columns turned.tableau.rows ≡ most_bases (columns_of f) (atom_rows f) =
-    ap (λ n. most_bases n turned.tableau.rows) turned.reached.tableau.columns ∙ ap (λ rows. most_bases (columns_of f) rows) turned.reached.tableau.rows in
-    omega (arith, ample, turned.turned.few, bases)
+never_all_made f pivots trail ample turned = omega (arith, ample, turned.few)
 
 -- a status above those of verdicts and refusals, which a search that is given up may have
 module _ (due : ℕ) (high : 4 ≤ due) where
@@ -158,37 +156,40 @@ steps_never splitters f limits ample definitions (gave.Spent log) is = absurd (n
 steps_never splitters f limits ample definitions (gave.Pivots trail) is = λ e. omega (arith, e)
 steps_never splitters f limits ample definitions (gave.Wide wide) is = λ e. omega (arith, e)
 
-layout_never : (r : LayoutRequest) (learnt : ℕ) (found : ALayout) → IsAmple (place_formula r) learnt → IsLayout r learnt found → IsOther 4 high_four (Ok (layout_told found))
-layout_never r learnt (layout.Found parts) ample is = other_status 4 high_four (answer.LaidOut parts) (λ e. omega (arith, e))
-layout_never r learnt (layout.Nowhere log) ample is = other_status 4 high_four (answer.Nowhere log) (λ e. omega (arith, e))
-layout_never r learnt (layout.Spent log) ample is = absurd (never_used_up (place_formula r) learnt log.steps ample is)
+layout_never : (r : LayoutRequest) (learnt : ℕ) (found : ALayout) (a : Answer) → IsAmple (place_formula r) learnt → IsLayout r learnt found → IsLayoutTold r found (Ok a) → status_of a ≢ 4
+layout_never r learnt (layout.Found parts) a ample is (priorities, lays, again, e) = other_status 4 high_four (answer.LaidOut parts priorities) (λ is. omega (arith, is)) a (sym e)
+layout_never r learnt (layout.Nowhere log) a ample is e = other_status 4 high_four (answer.Nowhere log) (λ is. omega (arith, is)) a (sym e)
+layout_never r learnt (layout.Spent log) a ample is e = absurd (never_used_up (place_formula r) learnt log.steps ample is.1)
 
 lay_never : (rect : Rect) (tier : Option Tier) (learnt : ℕ) (bytes : List ℕ) (a : Answer) → HasAmple (Layout rect tier learnt) bytes
     → IsRightTo (Layout rect tier learnt) bytes (Ok a) → status_of a ≢ 4
 lay_never rect tier learnt bytes a ample (stopped fault h e) = design_other 4 high_four fault a (sym e)
-lay_never rect tier learnt bytes a (r, alone, ample) (went_on s h (found, is, again, e)) =
+lay_never rect tier learnt bytes a (r, alone, ample) (went_on s h (inl (found, is, told))) =
     let same = same_value s r (one_lone_request rect tier bytes (Ok s) (Ok r) h alone) in
-    layout_never s learnt found (subst (λ x. IsAmple (place_formula x) learnt) (sym same) ample) is a (sym e)
+    layout_never s learnt found a (subst (λ x. IsAmple (place_formula x) learnt) (sym same) ample) is told
+lay_never rect tier learnt bytes a ample (went_on s h (inr (none, e))) = other_status 4 high_four answer.NotFound (λ is. omega (arith, is)) a (sym e)
 
 -- with ample steps for each grid that isn't passed by none is given up
 abbrev AmpleOn : Option Rect → LayoutRequest → ℕ → Type 0
 AmpleOn first r learnt = (grid : Rect) → IsWithin r.rect grid → (IsSkipped first grid → ⊥) → IsAmple (place_formula (request_on r grid)) learnt
 
-least_never : (first : Option Rect) (r : LayoutRequest) (learnt : ℕ) (found : ASmallest) → AmpleOn first r learnt → IsSmallest first r learnt found
-    → IsOther 4 high_four (Ok (answer.Least first found))
-least_never first r learnt (smallest.Found earlier grid parts) ample is = other_status 4 high_four (answer.Least first (smallest.Found earlier grid parts)) (λ e. omega (arith, e))
-least_never first r learnt (smallest.Nowhere earlier) ample is = other_status 4 high_four (answer.Least first (smallest.Nowhere earlier)) (λ e. omega (arith, e))
-least_never first r learnt (smallest.Spent earlier grid log) ample is =
+least_never : (first : Option Rect) (r : LayoutRequest) (learnt : ℕ) (found : ASmallest) (priorities : Vec Priority) → AmpleOn first r learnt → IsSmallest first r learnt found
+    → IsOther 4 high_four (Ok (answer.Least first found priorities))
+least_never first r learnt (smallest.Found earlier grid parts) priorities ample is =
+    other_status 4 high_four (answer.Least first (smallest.Found earlier grid parts) priorities) (λ e. omega (arith, e))
+least_never first r learnt (smallest.Nowhere earlier) priorities ample is = other_status 4 high_four (answer.Least first (smallest.Nowhere earlier) priorities) (λ e. omega (arith, e))
+least_never first r learnt (smallest.Spent earlier grid log) priorities ample is =
     absurd (never_used_up (place_formula (request_on r grid)) learnt log.steps
     (ample grid (left_within first r learnt earlier.items grid is.0) (left_taken first r learnt earlier.items grid is.0)) is.1)
 
 search_never : (first : Option Rect) (most : Rect) (tier : Option Tier) (learnt : ℕ) (bytes : List ℕ) (a : Answer) → HasAmple (Smallest first most tier learnt) bytes
     → IsRightTo (Smallest first most tier learnt) bytes (Ok a) → status_of a ≢ 4
 search_never first most tier learnt bytes a ample (stopped fault h e) = design_other 4 high_four fault a (sym e)
-search_never first most tier learnt bytes a (r, alone, ample) (went_on s h (found, is, again, e)) =
+search_never first most tier learnt bytes a ample (went_on s h (inr (none, e))) = design_other 4 high_four (design.Refused refusal.TooLarge) a (sym e)
+search_never first most tier learnt bytes a (r, alone, ample) (went_on s h (inl (has, (found, is, (priorities, are, again, e))))) =
     let same = same_value s r (one_sided_request most tier bytes (Ok s) (Ok r) h alone) in
     let greatest = (sided_request most tier bytes r alone).rect in
-    least_never first s learnt found (subst (λ x. AmpleOn first x learnt) (sym same)
+    least_never first s learnt found priorities (subst (λ x. AmpleOn first x learnt) (sym same)
     (subst (λ rect. (grid : Rect) → IsWithin rect grid → (IsSkipped first grid → ⊥) → IsAmple (place_formula (request_on r grid)) learnt) (sym greatest) ample)) is a (sym e)
 
 pub ample_is_never_spent : AmpleIsNeverSpent
@@ -207,6 +208,7 @@ ample_is_never_spent (PlaceFormula rect tier) bytes a ample h = absurd ample
 ample_is_never_spent (Same limits) bytes a (nets, alone, ample) h =
     compare_other 4 high_four limits bytes nets a alone (steps_never (splitters_of_both nets.0 nets.1) (same_formula nets.0 nets.1) limits ample) h
 ample_is_never_spent CheckSame bytes a ample h = absurd ample
+ample_is_never_spent (Build wish inputs outputs limits text) bytes a ample h = absurd ample
 
 -- ---- turns
 
@@ -236,6 +238,7 @@ ample_turns_are_never_made (PlaceFormula rect tier) bytes a ample h = absurd amp
 ample_turns_are_never_made (Same limits) bytes a (nets, alone, ample) h =
     compare_other 10 high_ten limits bytes nets a alone (turns_never (splitters_of_both nets.0 nets.1) (same_formula nets.0 nets.1) limits ample) h
 ample_turns_are_never_made CheckSame bytes a ample h = absurd ample
+ample_turns_are_never_made (Build wish inputs outputs limits text) bytes a ample h = absurd ample
 
 -- ---- how the program ends
 

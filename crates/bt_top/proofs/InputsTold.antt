@@ -5,7 +5,7 @@ use Rattle.bt_io.specs.Passages.{Passage}
 use Rattle.bt_io.specs.declared.fault.ReadAll.TheVariants.{TooLong, Memory}
 use Rattle.bt_io.proofs.Told.{all_told, takes_told}
 use Rattle.bt_words.specs.declared.command.Command.{Command}
-use Rattle.bt_words.specs.declared.command.Command.TheVariants.{FlowCheck, Recover, Check, Decide, Make, Layout, CheckLayout, Smallest, FindSmall, FlowFormula, PlaceFormula, Same, CheckSame}
+use Rattle.bt_words.specs.declared.command.Command.TheVariants.{FlowCheck, Recover, Check, Decide, Make, Layout, CheckLayout, Smallest, FindSmall, FlowFormula, PlaceFormula, Same, CheckSame, Build}
 use Rattle.bt_top.specs.Inputs.{ReadsInput, IsInput, input_limit}
 
 read_before_in : (limit : ℕ) (source : Passage) (bytes : List ℕ) → ReadsAll limit source (Ok bytes) → ReadsAll limit source (Err Memory)
@@ -25,6 +25,7 @@ read_before (FindSmall most tier sides learnt) source bytes h = read_before_in (
 read_before (FlowFormula p) source bytes h = read_before_in (input_limit (FlowFormula p)) source bytes h
 read_before (PlaceFormula rect tier) source bytes h = read_before_in (input_limit (PlaceFormula rect tier)) source bytes h
 read_before (Same limits) source bytes h = read_before_in (input_limit (Same limits)) source bytes h
+read_before (Build wish inputs outputs limits text) source bytes h = h.0
 read_before CheckSame source bytes h = read_before_in (input_limit CheckSame) source bytes h
 
 told_in : (limit : ℕ) (source : Passage) (bytes all : List ℕ) → source.before ≡ Some bytes → ReadsAll limit source (Ok all) → all ≡ bytes
@@ -44,6 +45,7 @@ input_told (FindSmall most tier sides learnt) source bytes all is r = told_in (i
 input_told (FlowFormula p) source bytes all is r = told_in (input_limit (FlowFormula p)) source bytes all is.0 r
 input_told (PlaceFormula rect tier) source bytes all is r = told_in (input_limit (PlaceFormula rect tier)) source bytes all is.0 r
 input_told (Same limits) source bytes all is r = told_in (input_limit (Same limits)) source bytes all is.0 r
+input_told (Build wish inputs outputs limits text) source bytes all is r = r.1 ∙ sym is
 input_told CheckSame source bytes all is r = told_in (input_limit CheckSame) source bytes all is.0 r
 
 few_in : (limit : ℕ) (source : Passage) (bytes : List ℕ) → source.before ≡ Some bytes → length bytes ≤ limit → ReadsAll limit source (Err TooLong) → ⊥
@@ -64,6 +66,7 @@ not_too_long (FindSmall most tier sides learnt) source bytes is r = few_in (inpu
 not_too_long (FlowFormula p) source bytes is r = few_in (input_limit (FlowFormula p)) source bytes is.0 is.1 r
 not_too_long (PlaceFormula rect tier) source bytes is r = few_in (input_limit (PlaceFormula rect tier)) source bytes is.0 is.1 r
 not_too_long (Same limits) source bytes is r = few_in (input_limit (Same limits)) source bytes is.0 is.1 r
+not_too_long (Build wish inputs outputs limits text) source bytes is r = r
 not_too_long CheckSame source bytes is r = few_in (input_limit CheckSame) source bytes is.0 is.1 r
 
 within_in : (limit : ℕ) (source : Passage) (bytes : List ℕ) → ReadsAll limit source (Ok bytes) → length bytes ≤ limit
@@ -76,6 +79,7 @@ within_limit Recover source bytes r = within_in (input_limit Recover) source byt
 within_limit (Check p) source bytes r = within_in (input_limit (Check p)) source bytes r
 within_limit (Decide p limits) source bytes r = within_in (input_limit (Decide p limits)) source bytes r
 within_limit (Make family order limits) source bytes r = subst (λ xs. length xs ≤ 0) (sym r.1) (omega arith)
+within_limit (Build wish inputs outputs limits text) source bytes r = subst (λ xs. length xs ≤ 0) (sym r.1) (omega arith)
 within_limit (Layout rect tier learnt) source bytes r = within_in (input_limit (Layout rect tier learnt)) source bytes r
 within_limit (CheckLayout rect tier) source bytes r = within_in (input_limit (CheckLayout rect tier)) source bytes r
 within_limit (Smallest first most tier learnt) source bytes r = within_in (input_limit (Smallest first most tier learnt)) source bytes r

@@ -14,8 +14,8 @@ pub mod SameFronts
 pub mod RecheckedPairs
 pub mod NoneCertified
 pub mod Grids
-pub mod LaidOut
 pub mod LeastFound
+pub mod LesserGrids
 pub mod SmallFound
 pub mod Spanning
 pub mod Formed

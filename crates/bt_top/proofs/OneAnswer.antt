@@ -5,6 +5,8 @@ use Rattle.bt_text.proofs.FirstLines.{IsFirstLine-unique}
 use Rattle.bt_net.specs.Network.{Network, IsNetwork}
 use Rattle.bt_fenc.specs.FlowFormula.{flow_formula}
 use Rattle.bt_fenc.proofs.Formulas.{is_formula}
+use Rattle.std.specs.Global.{Vec}
+use Rattle.bt_hands.specs.declared.hand.Priority.{Priority}
 use Rattle.bt_cert.specs.Certificates.{IsCertRead}
 use Rattle.bt_parts.specs.declared.part.Rect.{Rect}
 use Rattle.bt_parts.specs.declared.part.Tier.{Tier}
@@ -21,7 +23,7 @@ use Rattle.bt_top.specs.declared.answer.Answer.{Answer}
 use Rattle.bt_top.specs.declared.answer.Answer.TheVariants as answer
 use Rattle.bt_top.specs.declared.answer.Brief.{Brief}
 use Rattle.bt_top.specs.declared.answer.Brief.TheVariants as brief
-use Rattle.bt_words.specs.declared.command.Command.TheVariants.{FlowCheck, Recover, Check, Decide, Make, Layout, CheckLayout, Smallest, FindSmall, FlowFormula, PlaceFormula, Same, CheckSame}
+use Rattle.bt_words.specs.declared.command.Command.TheVariants.{FlowCheck, Recover, Check, Decide, Make, Layout, CheckLayout, Smallest, FindSmall, FlowFormula, PlaceFormula, Same, CheckSame, Build}
 use Rattle.bt_words.specs.declared.command.NetworkFamily.TheVariants.{Butterfly, Chain}
 use Rattle.bt_theory.specs.declared.outcome.GaveUp.{GaveUp}
 use Rattle.bt_theory.specs.declared.outcome.GaveUp.TheVariants as gave
@@ -49,15 +51,15 @@ use Rattle.bt_top.specs.Answers.{status_of}
 use Rattle.bt_top.specs.Comparing.{IsCompared, same_told}
 use Rattle.bt_top.specs.Deciding.{IsDecided, verdict_told}
 use Rattle.bt_top.specs.Finding.{IsDesignRequest, IsFound}
-use Rattle.bt_top.specs.Formulas.{IsFlowFormulaFrom, IsPlaceFormulaFrom}
-use Rattle.bt_top.specs.LayingOut.{IsLaidOut, layout_told}
+use Rattle.bt_top.specs.Formulas.{IsFlowFormulaFrom, IsPlaceFormulaFrom, place_formula_told}
+use Rattle.bt_top.specs.LayingOut.{IsLaidOut, IsLayoutTold}
 use Rattle.bt_top.specs.Making.{IsSaidBalanced, IsBalanceDecided, balance_told, gen_told}
 use Rattle.bt_top.specs.NoneCertificates.{IsNoneChecked, IsNoneTextChecked, IsNoneCertificateChecked, IsLayoutChecked}
 use Rattle.bt_top.specs.Recovering.{IsRecoveredFrom}
 use Rattle.bt_designs.specs.Requested.{IsSidedRequest}
-use Rattle.bt_top.specs.Searching.{IsSearched}
+use Rattle.bt_top.specs.Searching.{IsLeastTold, IsSearched}
 use Rattle.bt_designs.specs.Requested.{IsFrontRequest, IsLoneRequest}
-use Rattle.bt_top.specs.Replies.{Reply, design_told}
+use Rattle.bt_top.specs.Replies.{Reply, UnlessLarge, design_told}
 use Rattle.bt_top.specs.States.{verdict, state_told, IsJudged, IsStateJudged, IsStateChecked, IsFlowChecked}
 use Rattle.bt_designs.specs.Steps.{InTurn, stopped, went_on}
 use Rattle.bt_designs.specs.TwoDesigns.{IsTwoNets}
@@ -119,6 +121,15 @@ one_checked p bytes =
     one_in_turn_of (IsDesign bytes) design_told _ (one_design bytes)
     (λ found is. one_certificate found.0 p (design_network bytes found is) (drop found.1 bytes))
 
+-- ---- requests without a formula
+
+-- where one thing is answered to a request that has a formula, one is to any
+one_unless_large : (IsAnswered : LayoutRequest → Reply → Type 0) (r : LayoutRequest) → HasOneAnswer (IsAnswered r) → HasOneAnswer (UnlessLarge IsAnswered r)
+one_unless_large IsAnswered r one a b (inl h) (inl k) = one a b h.1 k.1
+one_unless_large IsAnswered r one a b (inl h) (inr k) = absurd (k.0 h.0)
+one_unless_large IsAnswered r one a b (inr h) (inl k) = absurd (h.0 k.0)
+one_unless_large IsAnswered r one a b (inr h) (inr k) = h.1 ∙ sym k.1
+
 -- ---- check-layout
 
 one_none : (r : LayoutRequest) → IsRequest r → (lines : List ℕ) → HasOneAnswer (IsNoneChecked r lines)
@@ -139,7 +150,8 @@ one_none_certificate r is rest a b h k =
 one_layout_checked : (rect : Rect) (tier : Option Tier) (bytes : List ℕ) → HasOneAnswer (IsLayoutChecked rect tier bytes)
 one_layout_checked rect tier bytes =
     one_in_turn_of (IsFrontRequest rect tier bytes) design_told _ (one_front_request rect tier bytes)
-    (λ found is. one_none_certificate found.0 (front_request rect tier bytes found is) (drop found.1 bytes))
+    (λ found is. one_unless_large (λ r. IsNoneCertificateChecked r (drop found.1 bytes)) found.0
+    (one_none_certificate found.0 (front_request rect tier bytes found is) (drop found.1 bytes)))
 
 -- ---- formula
 
@@ -147,17 +159,27 @@ one_flow_formula : (p : Property) (bytes : List ℕ) → HasOneAnswer (IsFlowFor
 one_flow_formula p bytes = one_in_turn (IsLoneNet bytes) design_told _ (one_lone_net bytes) (λ n a b h k. h ∙ sym k)
 
 one_place_formula : (rect : Rect) (tier : Option Tier) (bytes : List ℕ) → HasOneAnswer (IsPlaceFormulaFrom rect tier bytes)
-one_place_formula rect tier bytes = one_in_turn (IsLoneRequest rect tier bytes) design_told _ (one_lone_request rect tier bytes) (λ r a b h k. h ∙ sym k)
+one_place_formula rect tier bytes = one_in_turn (IsLoneRequest rect tier bytes) design_told _ (one_lone_request rect tier bytes)
+    (λ r. one_unless_large (λ r reply. reply ≡ Ok (place_formula_told r)) r (λ a b h k. h ∙ sym k))
 
 -- ---- what is refused
 
--- where the first of two steps has one answer, and no answer of the second is a refusal, a refusal is the one answer
+-- where the first of two steps has one answer, and a refusal of the second is the one answer to what it is of, a refusal
+-- is the one answer
+refused_alone : {A E : Type 0} (First : Result A E → Type 0) (refused : E → Reply) (Second : A → Reply → Type 0) → HasOneAnswer First
+    → ((value : A) (a b : Answer) → status_of b ≡ 3 → Second value (Ok a) → Second value (Ok b) → a ≡ b) → (a b : Answer) → status_of b ≡ 3
+    → InTurn First refused Second (Ok a) → InTurn First refused Second (Ok b) → a ≡ b
+refused_alone First refused Second one alone a b is (stopped e h i) (stopped f k j) = same_value a b (i ∙ ap refused (same_fault e f (one (Err e) (Err f) h k)) ∙ sym j)
+refused_alone First refused Second one alone a b is (went_on v h i) (stopped f k j) = absurd (not_both v f (one (Ok v) (Err f) h k))
+refused_alone First refused Second one alone a b is (stopped e h i) (went_on w k j) = absurd (not_both w e (one (Ok w) (Err e) k h))
+refused_alone First refused Second one alone a b is (went_on v h i) (went_on w k j) =
+    alone v a b is i (subst (λ x. Second x (Ok b)) (sym (same_value v w (one (Ok v) (Ok w) h k))) j)
+
+-- and so it is where no answer of the second is a refusal
 refused_only : {A E : Type 0} (First : Result A E → Type 0) (refused : E → Reply) (Second : A → Reply → Type 0) → HasOneAnswer First
     → ((value : A) (c : Answer) → Second value (Ok c) → status_of c ≢ 3) → (a b : Answer) → status_of b ≡ 3
     → InTurn First refused Second (Ok a) → InTurn First refused Second (Ok b) → a ≡ b
-refused_only First refused Second one other a b is (stopped e h i) (stopped f k j) = same_value a b (i ∙ ap refused (same_fault e f (one (Err e) (Err f) h k)) ∙ sym j)
-refused_only First refused Second one other a b is (went_on v h i) (stopped f k j) = absurd (not_both v f (one (Ok v) (Err f) h k))
-refused_only First refused Second one other a b is h (went_on v k j) = absurd (other v b j is)
+refused_only First refused Second one other a b is h k = refused_alone First refused Second one (λ value c d of_d i j. absurd (other value d j of_d)) a b is h k
 
 -- an answer with another status than this one
 apart : (c d : Answer) → ◌≡◌ {A = Reply} (Ok c) (Ok d) → status_of d ≢ 3 → status_of c ≢ 3
@@ -183,19 +205,40 @@ balance_apart order n (verdict.Yes definitions log) is = omega (arith, is)
 balance_apart order n (verdict.No state) is = omega (arith, is)
 balance_apart order n (verdict.GaveUp definitions cause) is = gave_up_apart cause is
 
-layout_apart : (found : ALayout) → status_of (layout_told found) ≢ 3
-layout_apart (layout.Found parts) is = omega (arith, is)
-layout_apart (layout.Nowhere log) is = omega (arith, is)
-layout_apart (layout.Spent log) is = omega (arith, is)
+not_found_apart : (c : Answer) → ◌≡◌ {A = Reply} (Ok c) (Ok answer.NotFound) → status_of c ≢ 3
+not_found_apart c e = apart c answer.NotFound e (λ is. omega (arith, is))
 
-least_apart : (first : Option Rect) (found : ASmallest) → status_of (answer.Least first found) ≢ 3
-least_apart first (smallest.Found earlier grid parts) is = omega (arith, is)
-least_apart first (smallest.Nowhere earlier) is = omega (arith, is)
-least_apart first (smallest.Spent earlier grid log) is = omega (arith, is)
+layout_apart : (r : LayoutRequest) (found : ALayout) (c : Answer) → IsLayoutTold r found (Ok c) → status_of c ≢ 3
+layout_apart r (layout.Found parts) c (priorities, lays, again, e) = apart c (answer.LaidOut parts priorities) e (λ is. omega (arith, is))
+layout_apart r (layout.Nowhere log) c e = apart c (answer.Nowhere log) e (λ is. omega (arith, is))
+layout_apart r (layout.Spent log) c e = apart c (answer.GaveUp (gave.Spent log)) e (λ is. omega (arith, is))
 
-small_apart : (found : ASmall) → status_of (answer.Small found) ≢ 3
-small_apart (small.Found grid parts) is = omega (arith, is)
-small_apart (small.Spent steps) is = omega (arith, is)
+laid_apart : (learnt : ℕ) (r : LayoutRequest) (c : Answer) → IsLaidOut learnt r (Ok c) → status_of c ≢ 3
+laid_apart learnt r c (inl (found, is, told)) = layout_apart r found c told
+laid_apart learnt r c (inr (none, e)) = not_found_apart c e
+
+least_apart : (first : Option Rect) (found : ASmallest) (priorities : Vec Priority) → status_of (answer.Least first found priorities) ≢ 3
+least_apart first (smallest.Found earlier grid parts) priorities is = omega (arith, is)
+least_apart first (smallest.Nowhere earlier) priorities is = omega (arith, is)
+least_apart first (smallest.Spent earlier grid log) priorities is = omega (arith, is)
+
+least_told_apart : (first : Option Rect) (r : LayoutRequest) (found : ASmallest) (c : Answer) → IsLeastTold first r found (Ok c) → status_of c ≢ 3
+least_told_apart first r found c (priorities, are, again, e) = apart c (answer.Least first found priorities) e (least_apart first found priorities)
+
+-- a request without a formula is refused, and no other
+least_alone : (first : Option Rect) (learnt : ℕ) (r : LayoutRequest) (a b : Answer) → status_of b ≡ 3
+    → UnlessLarge (IsSearched first learnt) r (Ok a) → UnlessLarge (IsSearched first learnt) r (Ok b) → a ≡ b
+least_alone first learnt r a b is h (inl (has, (found, right, told))) = absurd (least_told_apart first r found b told is)
+least_alone first learnt r a b is (inl h) (inr k) = absurd (k.0 h.0)
+least_alone first learnt r a b is (inr h) (inr k) = same_value a b (h.1 ∙ sym k.1)
+
+small_apart : (found : ASmall) (priorities : Vec Priority) → status_of (answer.Small found priorities) ≢ 3
+small_apart (small.Found grid parts) priorities is = omega (arith, is)
+small_apart (small.Spent steps) priorities is = omega (arith, is)
+
+found_apart : (bytes : List ℕ) (learnt : ℕ) (r : LayoutRequest) (c : Answer) → IsFound bytes learnt r (Ok c) → status_of c ≢ 3
+found_apart bytes learnt r c (own, is, inl (found, right, (priorities, are, again, e))) = apart c (answer.Small found priorities) e (small_apart found priorities)
+found_apart bytes learnt r c (own, is, inr (beyond, e)) = not_found_apart c e
 
 -- ---- make
 
@@ -216,14 +259,16 @@ only_right (Make Chain order limits) bytes a b only h k =
     refused_only (IsGenerated MOST_IN_CHAIN chain_net order) gen_told (IsBalanceDecided order limits) (one_made MOST_IN_CHAIN chain_net order)
     (λ n c d. apart c (balance_told order n d.0) d.2 (balance_apart order n d.0)) a b only h k
 only_right (Layout rect tier learnt) bytes a b only h k =
-    refused_only (IsLoneRequest rect tier bytes) design_told (IsLaidOut learnt) (one_lone_request rect tier bytes) (λ r c d. apart c (layout_told d.0) d.3 (layout_apart d.0)) a b only h k
+    refused_only (IsLoneRequest rect tier bytes) design_told (IsLaidOut learnt) (one_lone_request rect tier bytes) (laid_apart learnt) a b only h k
 only_right (CheckLayout rect tier) bytes a b only h k = same_value a b (one_layout_checked rect tier bytes (Ok a) (Ok b) h k)
 only_right (Smallest first most tier learnt) bytes a b only h k =
-    refused_only (IsSidedRequest most tier bytes) design_told (IsSearched first learnt) (one_sided_request most tier bytes) (λ r c d. apart c (answer.Least first d.0) d.3 (least_apart first d.0)) a b only h k
+    refused_alone (IsSidedRequest most tier bytes) design_told (UnlessLarge (IsSearched first learnt)) (one_sided_request most tier bytes) (least_alone first learnt) a b only h k
 only_right (FindSmall most tier sides learnt) bytes a b only h k =
-    refused_only (IsDesignRequest sides most tier bytes) design_told (IsFound bytes learnt) (one_design_request sides most tier bytes) (λ r c d. apart c (answer.Small d.1) d.5 (small_apart d.1)) a b only h k
+    refused_only (IsDesignRequest sides most tier bytes) design_told (IsFound bytes learnt) (one_design_request sides most tier bytes) (found_apart bytes learnt) a b only h k
 only_right (FlowFormula p) bytes a b only h k = same_value a b (one_flow_formula p bytes (Ok a) (Ok b) h k)
 only_right (PlaceFormula rect tier) bytes a b only h k = same_value a b (one_place_formula rect tier bytes (Ok a) (Ok b) h k)
 only_right (Same limits) bytes a b only h k =
     refused_only (IsTwoNets bytes) design_told (IsCompared limits) (one_two_nets bytes) (λ nets c d. apart c (same_told d.0) d.2 (same_apart d.0)) a b only h k
+only_right (Build wish inputs outputs limits text) bytes a b only h (inl (n, is, e)) = absurd (omega (arith, only, ap status_of (same_value b (answer.Built n text) e)))
+only_right (Build wish inputs outputs limits text) bytes a b only h (inr e) = absurd (omega (arith, only, ap status_of (same_value b answer.NotFound e)))
 only_right CheckSame bytes a b only h k = same_value a b (one_same_certified bytes (Ok a) (Ok b) h k)

@@ -24,4 +24,4 @@ list_names parts end_of number (i ∷ more) stays (part, first, rest, at, is, ar
 pub own_sides_name_no_cells : (bytes : List ℕ) (stays : List Demand) → AreOwnSides bytes stays → Each NamesNoCell stays
 own_sides_name_no_cells bytes stays (read, is, parts, are, (found, recovered, (ins, outs, h, k, e))) =
     subst (Each NamesNoCell) (sym e)
-    (All-append NamesNoCell ins outs (list_names parts Input 0 found.1.inputs ins h) (list_names parts Output 0 found.1.outputs outs k))
+    (All-append NamesNoCell ins outs (list_names parts.0 Input 0 found.1.inputs ins h) (list_names parts.0 Output 0 found.1.outputs outs k))

@@ -1,10 +1,11 @@
 -- What `check-layout` answers to what `layout` wrote.
-use Rattle.std.proofs.Common.{◌≡◌, ℕ, ◌≤◌, List, [], ◌∷◌, ◌++◌, length, Ok, Option, refl, subst, inl, arith}
+use Rattle.std.proofs.Common.{◌≡◌, ℕ, ◌≤◌, List, [], ◌∷◌, ◌++◌, length, Ok, Option, refl, subst, inl, inr, arith}
 use Rattle.bt_parts.specs.declared.part.Rect.{Rect}
 use Rattle.bt_parts.specs.declared.part.Tier.{Tier}
 use Rattle.bt_log.specs.declared.log.Log.{Log}
 use Rattle.bt_log.specs.LogText.{log_text}
 use Rattle.bt_model.specs.Requests.{LayoutRequest}
+use Rattle.bt_theory.specs.declared.outcome.GaveUp.TheVariants as gave
 use Rattle.bt_layout.specs.declared.outcome.Layout.{Layout}
 use Rattle.bt_layout.specs.declared.outcome.Layout.TheVariants as layout
 use Rattle.bt_layout.specs.Layouts.{IsLayout}
@@ -13,7 +14,7 @@ use Rattle.bt_top.specs.declared.answer.Answer.TheVariants as answer
 use Rattle.bt_top.specs.declared.answer.Brief.TheVariants as brief
 use Rattle.bt_designs.specs.declared.held.TheConstants.{MOST_CHECKED}
 use Rattle.bt_top.specs.Answers.{none_word, nowhere_text}
-use Rattle.bt_top.specs.LayingOut.{layout_told, IsLaidOut}
+use Rattle.bt_top.specs.LayingOut.{IsLaidOut, IsLayoutTold}
 use Rattle.bt_top.specs.NoneCertificates.{IsLayoutChecked}
 use Rattle.bt_top.specs.RecheckingLayouts.{NoneIsChecked}
 use Rattle.bt_designs.specs.Requested.{PinnedNet, IsPinned, IsRequestFor, IsFrontRequest}
@@ -25,10 +26,10 @@ use Rattle.bt_designs.proofs.LongerRequests.{pinned_stays, pinned_within}
 use Rattle.bt_top.proofs.NoneCertified.{says_none, none_told}
 use Rattle.bt_designs.proofs.OneRequest.{front_request}
 
-told_nowhere : (found : Layout) (log : Log) → answer.Nowhere log ≡ layout_told found → found ≡ layout.Nowhere log
-told_nowhere (layout.Found parts) log e = cc
-told_nowhere (layout.Nowhere other) log e = cc
-told_nowhere (layout.Spent other) log e = cc
+told_nowhere : (r : LayoutRequest) (found : Layout) (log : Log) → IsLayoutTold r found (Ok (answer.Nowhere log)) → found ≡ layout.Nowhere log
+told_nowhere r (layout.Found parts) log (priorities, lays, again, e) = let same = same_value (answer.Nowhere log) (answer.LaidOut parts priorities) e in cc
+told_nowhere r (layout.Nowhere other) log e = let same = same_value (answer.Nowhere log) (answer.Nowhere other) e in cc
+told_nowhere r (layout.Spent other) log e = let same = same_value (answer.Nowhere log) (answer.GaveUp (gave.Spent other)) e in cc
 
 module _ (rect : Rect) (tier : Option Tier) (learnt : ℕ) (bytes : List ℕ) (log : Log) (short : length (bytes ++ 10 ∷ nowhere_text log.steps) ≤ MOST_CHECKED) where
   -- what follows the request is the certificate
@@ -37,13 +38,14 @@ module _ (rect : Rect) (tier : Option Tier) (learnt : ℕ) (bytes : List ℕ) (l
   certificate_follows n r on made right =
       let front : IsFrontRequest rect tier (bytes ++ 10 ∷ nowhere_text log.steps) (Ok (r, on.used)) = went_on (n, on.used) on.front (Ok r, made, refl) in
       let is = front_request rect tier (bytes ++ 10 ∷ nowhere_text log.steps) (r, on.used) front in
-      let certificate = nowhere_is_certificate r log.steps is right.1 (few_printed bytes none_word [] log.steps short) in
-      went_on (r, on.used) front (nowhere_text log.steps, on.rest, inl (log_text log.steps, says_none log.steps, none_told r (log_text log.steps) is certificate))
+      let certificate = nowhere_is_certificate r log.steps is right.2 (few_printed bytes none_word [] log.steps short) in
+      went_on (r, on.used) front (inl (right.0, (nowhere_text log.steps, on.rest, inl (log_text log.steps, says_none log.steps, none_told r (log_text log.steps) is certificate))))
 
   none_checked : (n : PinnedNet) (r : LayoutRequest) → IsFollowed IsPinned bytes (nowhere_text log.steps) n → IsRequestFor rect tier n (Ok r) → IsLaidOut learnt r (Ok (answer.Nowhere log))
       → IsLayoutChecked rect tier (bytes ++ 10 ∷ nowhere_text log.steps) (Ok (answer.Brief brief.NoLayout))
-  none_checked n r on made (found, right, again, e) =
-      let same = told_nowhere found log (same_value (answer.Nowhere log) (layout_told found) e) in
+  none_checked n r on made (inr (none, e)) = absurd (let same = same_value (answer.Nowhere log) answer.NotFound e in cc)
+  none_checked n r on made (inl (found, right, told)) =
+      let same = told_nowhere r found log told in
       certificate_follows n r on made (subst (IsLayout r learnt) same right)
 
 -- a request and what is written where it has no layout

@@ -1,14 +1,17 @@
 -- What `check-layout` answers to what `smallest` wrote.
-use Rattle.std.proofs.Common.{◌≡◌, ℕ, List, [], ◌∷◌, ◌++◌, drop, Ok, refl, ap, sym, ◌∙◌, subst, inr, arith}
+use Rattle.std.proofs.Common.{◌≡◌, ℕ, List, [], ◌∷◌, ◌++◌, drop, Ok, refl, ap, sym, ◌∙◌, subst, inl, inr, arith}
 use Rattle.std.specs.Prelude.{codes}
 use Rattle.std.specs.List.{All}
 use Rattle.std.specs.declared.option.Option.{Option}
 use Rattle.std.proofs.lemmas.List.{append_assoc, append-nil}
 use Rattle.std.proofs.lemmas.List.Elements.{All-nil, All-cons, All-head, All-tail}
+use Rattle.std.specs.Global.{Vec}
+use Rattle.bt_hands.specs.declared.hand.Priority.{Priority}
 use Rattle.bt_net.specs.declared.network.Admitted.TheVariants.{Sides}
 use Rattle.bt_parts.specs.declared.part.Rect.{Rect}
 use Rattle.bt_parts.specs.declared.part.Tier.{Tier}
 use Rattle.bt_model.specs.Requests.{LayoutRequest, IsRequest}
+use Rattle.bt_place.specs.PlaceFormula.{HasFormula}
 use Rattle.bt_layout.specs.declared.outcome.RuledOut.{RuledOut}
 use Rattle.bt_layout.specs.declared.outcome.Smallest.{Smallest}
 use Rattle.bt_layout.specs.declared.outcome.Smallest.TheVariants.{Found, Nowhere, Spent}
@@ -34,20 +37,23 @@ use Rattle.bt_top.proofs.Printed.{no_refusal}
 use Rattle.bt_designs.proofs.InTurns.{same_value, not_both}
 use Rattle.bt_designs.proofs.LongerDesigns.{other_text_stays, net_first}
 use Rattle.bt_designs.proofs.LongerRequests.{pinned_within, pinned_stays}
+use Rattle.bt_designs.specs.declared.fault.DesignFault.TheVariants as design
+use Rattle.bt_designs.specs.declared.refusal.Refusal.TheVariants as refusal
+use Rattle.bt_top.proofs.LesserGrids.{formula_on}
 use Rattle.bt_top.proofs.RecheckedLayouts.{certificate_follows}
 
 -- a network text behind whose edges sides alone stand is read alike where pins and blocks may stand too
 text_pinned : (bytes : List ℕ) (n : PinnedNet) (used : ℕ) → IsPinnedText Sides bytes (Ok (n, used)) → IsPinned bytes (Ok (n, used))
 text_pinned bytes n used (stopped fault h e) = absurd (not_both (n, used) (net_told fault) e)
 text_pinned bytes n used (went_on read h e) =
-    let other = net_first bytes (drop read.used bytes) read.net (h.begins.edge_lines ++ (h.begins.demand_lines ++ (h.begins.block_lines ++ codes "end" ∷ []))) h.begins.begins in
+    let other = net_first bytes (drop read.used bytes) read.net (h.begins.edge_lines ++ (h.begins.priority_lines ++ (h.begins.demand_lines ++ (h.begins.block_lines ++ codes "end" ∷ [])))) h.begins.begins in
     inr (subst (λ b. IsJsonText b → ⊥) (append-nil bytes) (other_text_stays bytes [] other), went_on read (wider_is_read Sides bytes read h) e)
 
-same_found : (first other_first : Option Rect) (found other : Smallest) → answer.Least first found ≡ answer.Least other_first other → found ≡ other
-same_found first other_first found other e = cc
+same_found : (first other_first : Option Rect) (found other : Smallest) (priorities others : Vec Priority) → answer.Least first found priorities ≡ answer.Least other_first other others → found ≡ other
+same_found first other_first found other priorities others e = cc
 
 module _ (first : Option Rect) (most : Rect) (tier : Option Tier) (learnt : ℕ) (bytes : List ℕ) (n : PinnedNet) (whole : IsAlone (IsPinnedText Sides) bytes (Ok n))
-    (asked : IsRequest (asked_for most tier n)) (none : NamesNoCells (asked_for most tier n)) where
+    (asked : IsRequest (asked_for most tier n)) (none : NamesNoCells (asked_for most tier n)) (has : HasFormula (asked_for most tier n)) where
   abbrev asks : LayoutRequest
   asks = asked_for most tier n
 
@@ -59,7 +65,7 @@ module _ (first : Option Rect) (most : Rect) (tier : Option Tier) (learnt : ℕ)
       let on = is_followed IsPinned bytes (nowhere_text one.log.steps) n (λ some. other_than 110 (λ x. omega (arith, x)) (λ x. omega (arith, x)) (λ x. omega (arith, x)) (λ x. omega (arith, x)))
       stands.used front (pinned_within bytes n stands.used front) stands.blanks (pinned_stays bytes n stands.used front) in
       let made : IsRequestFor one.grid tier n (Ok (request_on asks one.grid)) = went_on (request_on asks one.grid) (refl, asked_on asks one.grid asked none within) refl in
-      certificate_follows one.grid tier learnt bytes one.log short n (request_on asks one.grid) on made (ruled.none, ruled.refuted, ruled.few, ruled.tight)
+      certificate_follows one.grid tier learnt bytes one.log short n (request_on asks one.grid) on made (formula_on asks one.grid has within, ruled.none, ruled.refuted, ruled.few, ruled.tight)
 
   all_accepted : (ones : List RuledOut) (later : List Rect) → All (IsRuledOut asks learnt) ones → All (IsWithin most) (grids_of ones ++ later) → All (IsAccepted tier bytes) ones
   all_accepted [] later ruled within = All-nil (IsAccepted tier bytes)
@@ -74,28 +80,32 @@ module _ (first : Option Rect) (most : Rect) (tier : Option Tier) (learnt : ℕ)
   found_accepted (Spent earlier grid log) is = All-nil (IsAccepted tier bytes)
 
 -- the text begins with their lines and certificates
-begins_with : (first : Option Rect) (found : Smallest) → BeginsWithGrids first (text_of (answer.Least first found)) (certified_in found)
-begins_with first (Found earlier grid parts) = (
-  grid_line grid ++ blueprint_text parts.items,
-  ap (λ text. from_line first ++ text) (append_assoc (earlier_text earlier.items) (grid_line grid) (blueprint_text parts.items))
-      ∙ sym (append_assoc (from_line first) (earlier_text earlier.items) (grid_line grid ++ blueprint_text parts.items)),
+begins_with : (first : Option Rect) (found : Smallest) (priorities : Vec Priority) → BeginsWithGrids first (text_of (answer.Least first found priorities)) (certified_in found)
+begins_with first (Found earlier grid parts) priorities = (
+  grid_line grid ++ blueprint_text parts.items priorities.items,
+  ap (λ text. from_line first ++ text) (append_assoc (earlier_text earlier.items) (grid_line grid) (blueprint_text parts.items priorities.items))
+      ∙ sym (append_assoc (from_line first) (earlier_text earlier.items) (grid_line grid ++ blueprint_text parts.items priorities.items)),
 )
-begins_with first (Nowhere earlier) = ([], sym (append-nil (from_line first ++ earlier_text earlier.items)))
-begins_with first (Spent earlier grid log) = (spent_on_text grid log.steps, ap (λ front. front ++ spent_on_text grid log.steps) (sym (append-nil (from_line first))))
+begins_with first (Nowhere earlier) priorities = ([], sym (append-nil (from_line first ++ earlier_text earlier.items)))
+begins_with first (Spent earlier grid log) priorities = (spent_on_text grid log.steps, ap (λ front. front ++ spent_on_text grid log.steps) (sym (append-nil (from_line first))))
 
 -- what is searched for is the network of the text, with its sides
-searched : (first : Option Rect) (most : Rect) (tier : Option Tier) (learnt : ℕ) (bytes : List ℕ) (found : Smallest) (r : LayoutRequest) → IsSidedRequest most tier bytes (Ok r) → NamesNoCells r → IsSmallest first r learnt found
+searched : (first : Option Rect) (most : Rect) (tier : Option Tier) (learnt : ℕ) (bytes : List ℕ) (found : Smallest) (r : LayoutRequest) → IsSidedRequest most tier bytes (Ok r) → NamesNoCells r → HasFormula r → IsSmallest first r learnt found
     → All (IsAccepted tier bytes) (certified_in found)
-searched first most tier learnt bytes found r (stopped fault h e) none is = absurd (not_both r fault e)
-searched first most tier learnt bytes found r (went_on n whole (stopped fault h e)) none is = absurd (not_both r (request_told fault) e)
-searched first most tier learnt bytes found r (went_on n whole (went_on made h e)) none is =
+searched first most tier learnt bytes found r (stopped fault h e) none has is = absurd (not_both r fault e)
+searched first most tier learnt bytes found r (went_on n whole (stopped fault h e)) none has is = absurd (not_both r (request_told fault) e)
+searched first most tier learnt bytes found r (went_on n whole (went_on made h e)) none has is =
     let same : r ≡ asked_for most tier n = same_value r made e ∙ h.0 in
-    found_accepted first most tier learnt bytes n whole (subst IsRequest h.0 h.1) (subst NamesNoCells same none) found
+    found_accepted first most tier learnt bytes n whole (subst IsRequest h.0 h.1) (subst NamesNoCells same none) (subst HasFormula same has) found
     (subst (λ (x : LayoutRequest). IsSmallest first x learnt found) same is)
 
 -- a network text and what is written of its least grid
 pub least_is_checked : LeastIsChecked
-least_is_checked first most tier learnt bytes found (stopped fault h e) = absurd (no_refusal (answer.Least first found) fault (λ r same. cc) e)
-least_is_checked first most tier learnt bytes found (went_on r asked (other, is, again, e)) =
-    let same = same_found first first found other (same_value (answer.Least first found) (answer.Least first other) e) in
-    (begins_with first found, searched first most tier learnt bytes found r asked (sided_request most tier bytes r asked).cells (subst (IsSmallest first r learnt) (sym same) is))
+least_is_checked first most tier learnt bytes found priorities (stopped fault h e) = absurd (no_refusal (answer.Least first found priorities) fault (λ r same. cc) e)
+least_is_checked first most tier learnt bytes found priorities (went_on r asked (inr (none, e))) =
+    absurd (no_refusal (answer.Least first found priorities) (design.Refused refusal.TooLarge) (λ r same. cc) e)
+least_is_checked first most tier learnt bytes found priorities (went_on r asked (inl (has, (other, is, (others, are, again, e))))) =
+    let same = same_found first first found other priorities others (same_value (answer.Least first found priorities) (answer.Least first other others) e) in (
+      begins_with first found priorities,
+      searched first most tier learnt bytes found r asked (sided_request most tier bytes r asked).cells has (subst (IsSmallest first r learnt) (sym same) is),
+    )

@@ -1,15 +1,31 @@
 -- What looking for small layouts finds is found again in what is written of it.
-use Rattle.std.proofs.Common.{ℕ}
-use Rattle.std.specs.Prelude.{Option}
+use Rattle.std.proofs.Common.{ℕ, List, Result, Ok, Err}
+use Rattle.std.specs.Global.{Vec}
+use Rattle.std.specs.declared.alloc.AllocError.{AllocError}
+use Rattle.std.specs.Prelude.{IfOk, Option}
+use Rattle.bt_hands.specs.declared.hand.Priority.{Priority}
+use Rattle.bt_parts.specs.declared.part.Part.{Part}
+use Rattle.bt_parts.specs.declared.part.Rect.{Rect}
+use Rattle.bt_model.specs.Laying.{LaysPreferring}
 use Rattle.bt_model.specs.Requests.{LayoutRequest, IsRequest}
+use Rattle.bt_write.specs.ReadBack.{IsReadBack, SplittersPrefer}
 use Rattle.bt_layout.proofs.Passing.{asked_on}
 use Rattle.bt_layout.proofs.Written.{laid_is_read_back}
-use Rattle.bt_layout.specs.declared.outcome.Small.{Small}
-use Rattle.bt_layout.specs.declared.outcome.Small.TheVariants.{Found, Spent}
+use Rattle.bt_layout.specs.declared.outcome.Small.TheVariants.{Found}
 use Rattle.bt_layout.specs.Small.{IsSmall}
 use Rattle.bt_layout.specs.Smallest.{NamesNoCells, request_on}
-use Rattle.bt_top.specs.Finding.{IsFoundAgain}
 
-pub found_again : (cells : Option ℕ) (learnt : ℕ) (r : LayoutRequest) (small : Small) → IsRequest r → NamesNoCells r → IsSmall r cells learnt small → IsFoundAgain small
-found_again cells learnt r (Found grid parts) is none h = laid_is_read_back (request_on r grid) parts.items (asked_on r grid is none h.0.0) h.1
-found_again cells learnt r (Spent steps) is none h = tt
+module _ (cells : Option ℕ) (learnt : ℕ) (r : LayoutRequest) (grid : Rect) (parts : Vec Part) (is : IsRequest r) (none : NamesNoCells r)
+    (h : IsSmall r cells learnt (Found grid parts)) where
+  pub found_asked : IsRequest (request_on r grid)
+  found_asked = asked_on r grid is none h.0.0
+
+  pub found_again : (priorities : List Priority) → SplittersPrefer parts.items priorities → IsReadBack parts.items priorities
+  found_again priorities may = laid_is_read_back (request_on r grid) parts.items priorities found_asked h.3 h.1 may
+
+  -- so what priorities of the parts are told of is right to say
+  pub found_told : (told : Result (Vec Priority) AllocError) → IfOk told (λ priorities. LaysPreferring parts.items priorities.items (request_on r grid))
+      → IfOk told (λ priorities. SplittersPrefer parts.items priorities.items)
+      → IfOk told (λ priorities. LaysPreferring parts.items priorities.items (request_on r grid) × IsReadBack parts.items priorities.items)
+  found_told (Ok priorities) lays may = (lays, found_again priorities.items may)
+  found_told (Err fault) lays may = lays

@@ -1,10 +1,11 @@
 -- What a command answers to the bytes of its input.
 use Rattle.std.specs.Prelude.{◌≡◌, ℕ, List, Ok}
 use Rattle.bt_words.specs.declared.command.Command.{Command}
-use Rattle.bt_words.specs.declared.command.Command.TheVariants.{FlowCheck, Recover, Check, Decide, Make, Layout, CheckLayout, Smallest, FindSmall, FlowFormula, PlaceFormula, Same, CheckSame}
+use Rattle.bt_words.specs.declared.command.Command.TheVariants.{FlowCheck, Recover, Check, Decide, Make, Layout, CheckLayout, Smallest, FindSmall, FlowFormula, PlaceFormula, Same, CheckSame, Build}
 use Rattle.bt_words.specs.declared.command.NetworkFamily.TheVariants.{Butterfly, Chain}
 use Rattle.bt_top.specs.declared.answer.Answer.{Answer}
 use Rattle.bt_top.specs.Answers.{status_of}
+use Rattle.bt_top.specs.Building.{IsBuiltFor}
 use Rattle.bt_top.specs.Certificates.{IsChecked}
 use Rattle.bt_top.specs.Comparing.{IsComparedFrom}
 use Rattle.bt_top.specs.Deciding.{IsDecidedFrom}
@@ -34,9 +35,10 @@ IsRightTo (FlowFormula p) bytes = IsFlowFormulaFrom p bytes
 IsRightTo (PlaceFormula rect tier) bytes = IsPlaceFormulaFrom rect tier bytes
 IsRightTo (Same limits) bytes = IsComparedFrom limits bytes
 IsRightTo CheckSame bytes = IsSameCertified bytes
+IsRightTo (Build wish inputs outputs limits text) bytes = IsBuiltFor wish inputs outputs text
 
 -- where it is right, it is the one right answer: what is refused has no other answer, and of most commands nothing has;
--- of `decide`, `make` of a chain, `layout`, `smallest` and `same` others may be right, with other evidence
+-- of `decide`, `make` of a chain, `layout`, `smallest`, `same` and `build` others may be right
 abbrev pub IsOnly : Command → Answer → Type 0
 IsOnly (FlowCheck p) a = Unit {0}
 IsOnly Recover a = Unit {0}
@@ -52,6 +54,7 @@ IsOnly (FlowFormula p) a = Unit {0}
 IsOnly (PlaceFormula rect tier) a = Unit {0}
 IsOnly (Same limits) a = status_of a ≡ 3
 IsOnly CheckSame a = Unit {0}
+IsOnly (Build wish inputs outputs limits text) a = status_of a ≡ 3
 
 -- an answer that is the one right answer is equal to each right answer
 abbrev pub OneRightAnswer : Type 0

@@ -1,6 +1,7 @@
 -- The statuses and the texts of answers.
 use Rattle.std.specs.Prelude.{ℕ, Bool, if◌then◌else◌, List, [], ◌++◌, length, codes, decimal}
 use Rattle.bt_net.specs.NetText.{line, net_text}
+use Rattle.bt_net.specs.Network.{Network}
 use Rattle.bt_cert.specs.declared.fault.Cause.{Cause}
 use Rattle.bt_cert.specs.declared.fault.Cause.TheVariants.{Literal, Weight, Sum, Hint, Unit}
 use Rattle.bt_flow.specs.declared.property.Property.{Property}
@@ -24,11 +25,14 @@ use Rattle.bt_trail.specs.TrailText.{pivots_text, wide_text}
 use Rattle.bt_write.specs.Written.{blueprint_text}
 use Rattle.bt_words.specs.declared.command.NetworkFamily.{NetworkFamily}
 use Rattle.bt_words.specs.declared.command.NetworkFamily.TheVariants.{Butterfly, Chain}
+use Rattle.bt_words.specs.declared.command.BuiltText.{BuiltText}
+use Rattle.bt_words.specs.declared.command.BuiltText.TheVariants as built
+use Rattle.bt_print.specs.Texts.{text_with}
 use Rattle.bt_top.specs.declared.make.Made as making
 use Rattle.bt_extend.specs.Texts.{definitions_text}
 use Rattle.bt_extend.specs.declared.definition.Definition.{Definition}
 use Rattle.bt_top.specs.declared.answer.Answer.{Answer}
-use Rattle.bt_top.specs.declared.answer.Answer.TheVariants.{Brief, Usage, TooLong, Recovered, Proved, Broken, GaveUp, Undecided, Made, LaidOut, Nowhere, Least, Small, FlowFormula, PlaceFormula, Same, Differ}
+use Rattle.bt_top.specs.declared.answer.Answer.TheVariants.{Brief, Usage, TooLong, Recovered, Proved, Broken, GaveUp, Undecided, Made, LaidOut, Nowhere, NotFound, Least, Small, FlowFormula, PlaceFormula, Same, Differ, Built}
 use Rattle.bt_top.specs.declared.answer.Brief as short
 use Rattle.bt_top.specs.declared.answer.Brief.TheVariants.{Breaks, Yes, No, NoLayout, ShownSame, ShownDiffer, Refused, WideState, WidePair, CertLine, BadStep, NoVerdict, CertWide, NotBreaking, NotDiffering}
 use Rattle.bt_designs.specs.Refusals.{refusal_text}
@@ -83,14 +87,16 @@ status_of (Broken p state) = 1
 status_of (GaveUp cause) = gave_up_status cause
 status_of (Undecided definitions cause) = gave_up_status cause
 status_of (Made made) = made_status made
-status_of (LaidOut parts) = 0
+status_of (LaidOut parts priorities) = 0
 status_of (Nowhere log) = 1
-status_of (Least first found) = least_status found
-status_of (Small found) = small_status found
+status_of NotFound = 12
+status_of (Least first found priorities) = least_status found
+status_of (Small found priorities) = small_status found
 status_of (FlowFormula columns f) = 0
 status_of (PlaceFormula starts f) = 0
 status_of (Same definitions log) = 0
 status_of (Differ pair) = 1
+status_of (Built n text) = 0
 
 -- the word for why a step isn't valid
 abbrev pub cause_name : Cause → List ℕ
@@ -162,6 +168,15 @@ brief_text (CertWide k row column) = line (codes "refused 53 CertWide " ++ decim
 brief_text (NotBreaking t a) = line (codes "refused 54 NotBreaking " ++ test_name t ++ codes " " ++ decimal a)
 brief_text (NotDiffering which t a) = line (codes "refused 54 NotBreaking " ++ which_text which ++ test_name t ++ codes " " ++ decimal a)
 
+-- the lines by which a layout of a network has its inputs side by side in the south, and its outputs in the north
+abbrev pub row_lines : List ℕ
+row_lines = line (codes "side inputs south") ++ line (codes "side outputs north") ++ line (codes "row inputs") ++ line (codes "row outputs")
+
+-- the text of a network that is built, which may be a request for a layout
+abbrev pub built_text : BuiltText → Network → List ℕ
+built_text built.Network n = net_text n
+built_text built.Request n = text_with n row_lines
+
 -- the text of an answer
 abbrev pub text_of : Answer → List ℕ
 text_of (Brief b) = brief_text b
@@ -173,11 +188,13 @@ text_of (Broken p state) = printed_state p state
 text_of (GaveUp cause) = gave_up_text [] cause
 text_of (Undecided definitions cause) = gave_up_text definitions.items cause
 text_of (Made made) = made_text made
-text_of (LaidOut parts) = blueprint_text parts.items
+text_of (LaidOut parts priorities) = blueprint_text parts.items priorities.items
 text_of (Nowhere log) = nowhere_text log.steps
-text_of (Least first found) = smallest_text first found
-text_of (Small found) = small_text found
+text_of NotFound = line (codes "not found")
+text_of (Least first found priorities) = smallest_text first found priorities.items
+text_of (Small found priorities) = small_text found priorities.items
 text_of (FlowFormula columns f) = flow_formula_text columns f
 text_of (PlaceFormula starts f) = place_formula_text starts f
 text_of (Same definitions log) = same_text definitions.items log.steps
 text_of (Differ pair) = printed_pair pair
+text_of (Built n text) = built_text text n

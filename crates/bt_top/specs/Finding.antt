@@ -1,5 +1,7 @@
 -- What `smallest --found` answers.
-use Rattle.std.specs.Prelude.{◌≡◌, ℕ, ◌≤◌, ◌-ℤ◌, ◌⊎◌, List, All, Option, Some, None, Result, Ok}
+use Rattle.std.specs.Prelude.{◌≡◌, ℕ, ◌≤◌, ◌-ℤ◌, ◌⊎◌, List, [], All, unwrap_or, Option, Some, None, Result, Ok}
+use Rattle.std.specs.Global.{Vec}
+use Rattle.bt_hands.specs.declared.hand.Priority.{Priority}
 use Rattle.bt_parts.specs.declared.part.Cell.{Cell}
 use Rattle.bt_parts.specs.declared.part.Part.{Part}
 use Rattle.bt_parts.specs.declared.part.Rect.{Rect}
@@ -7,13 +9,17 @@ use Rattle.bt_parts.specs.declared.part.Tier.{Tier}
 use Rattle.bt_parts.specs.Cells.{Covers, IsInside}
 use Rattle.bt_json.specs.Json.{Json}
 use Rattle.bt_json.specs.Answers.{IsRead}
-use Rattle.bt_entities.specs.Answers.{IsPartsOf}
+use Rattle.bt_entities.specs.Answers.{IsPrioritisedOf}
+use Rattle.bt_model.specs.Laying.{LaysPreferring}
 use Rattle.bt_model.specs.Requests.{LayoutRequest}
 use Rattle.bt_write.specs.ReadBack.{IsReadBack}
 use Rattle.bt_layout.specs.declared.outcome.Small.{Small}
 use Rattle.bt_layout.specs.declared.outcome.Small.TheVariants.{Found, Spent}
 use Rattle.bt_layout.specs.Grids.{area_of}
-use Rattle.bt_layout.specs.Small.{IsSmall}
+use Rattle.bt_layout.specs.Small.{IsBeyond, IsSmall}
+use Rattle.bt_layout.specs.Smallest.{request_on}
+use Rattle.bt_model.specs.declared.request.TheConstants.{MOST_ACROSS}
+use Rattle.bt_words.specs.Commands.{usual_grid}
 use Rattle.bt_words.specs.declared.command.AskedSides.{AskedSides}
 use Rattle.bt_words.specs.declared.command.AskedSides.TheVariants.{Any, Kept}
 use Rattle.bt_top.specs.declared.answer.Answer.TheVariants as answer
@@ -24,19 +30,25 @@ use Rattle.bt_designs.specs.Kept.{IsKeptRequest}
 use Rattle.bt_designs.specs.Requested.{IsLoneRequest, IsSidedRequest}
 use Rattle.bt_designs.specs.Steps.{InTurn}
 
+-- the greatest grid of all
+abbrev pub greatest_grid : Rect
+greatest_grid = record { width = MOST_ACROSS; height = MOST_ACROSS }
+
 -- what comes of bytes that are to be a blueprint alone, whose ends are asked to stand at these sides
 abbrev pub IsDrawnRequest : AskedSides → Rect → Option Tier → List ℕ → Result LayoutRequest DesignFault → Type 0
 IsDrawnRequest Any rect tier bytes = IsLoneRequest rect tier bytes
 IsDrawnRequest Kept rect tier bytes = IsKeptRequest rect tier bytes
 
--- what comes of bytes that are to be a design alone, for parts of a tier on the greatest grid: what `layout` takes or
--- refuses of a blueprint, whose ends are asked to stand at these sides, and what `smallest` does of a network text
-abbrev pub IsDesignRequest : AskedSides → Rect → Option Tier → List ℕ → Result LayoutRequest DesignFault → Type 0
-IsDesignRequest sides most tier bytes answer = (IsJsonText bytes × IsDrawnRequest sides most tier bytes answer) ⊎ ((IsJsonText bytes → ⊥) × IsSidedRequest most tier bytes answer)
+-- what comes of bytes that are to be a design alone, for parts of a tier on the greatest grid, which is, where none is
+-- given, the greatest of all for a blueprint and the usual one for a network text: what `layout` takes or refuses of a
+-- blueprint, whose ends are asked to stand at these sides, and what `smallest` does of a network text
+abbrev pub IsDesignRequest : AskedSides → Option Rect → Option Tier → List ℕ → Result LayoutRequest DesignFault → Type 0
+IsDesignRequest sides most tier bytes answer = (IsJsonText bytes × IsDrawnRequest sides (unwrap_or most greatest_grid) tier bytes answer)
+    ⊎ ((IsJsonText bytes → ⊥) × IsSidedRequest (unwrap_or most usual_grid) tier bytes answer)
 
--- the JSON value at the front of the bytes is a blueprint of these parts
+-- the JSON value at the front of the bytes is a blueprint of these parts, whatever their priorities
 abbrev pub AreLaidOut : List ℕ → List Part → Type 0
-AreLaidOut bytes parts = (read : Json × ℕ) × IsRead bytes (Ok read) × IsPartsOf read.0 (Ok parts)
+AreLaidOut bytes parts = (read : Json × ℕ) × IsRead bytes (Ok read) × (priorities : List Priority) × IsPrioritisedOf read.0 (Ok (parts, priorities))
 
 -- all cells of the parts lie in the rectangle, where its first cell is this corner
 abbrev pub Holds : Cell → Rect → List Part → Type 0
@@ -56,18 +68,33 @@ abbrev pub IsOwn : List ℕ → Option ℕ → Type 0
 IsOwn bytes None = IsJsonText bytes → ⊥
 IsOwn bytes (Some cells) = (parts : List Part) × AreLaidOut bytes parts × IsSpanned cells parts
 
--- the blueprint that is written of the parts is read as these parts
-abbrev pub IsFoundAgain : Small → Type 0
-IsFoundAgain (Found grid parts) = IsReadBack parts.items
-IsFoundAgain (Spent steps) = Unit {0}
+-- the blueprint that is written of the parts is read as these parts with these priorities
+abbrev pub IsFoundAgain : Small → List Priority → Type 0
+IsFoundAgain (Found grid parts) priorities = IsReadBack parts.items priorities
+IsFoundAgain (Spent steps) priorities = Unit {0}
 
--- what is answered to a request on the greatest grid: a grid that may be asked, which is within that and lesser than a
--- design that is laid out, and parts that lay the request there, whose blueprint is read as these parts; or that none
--- was found
+-- the parts lay the request on their grid with these priorities, and so with what its splitters prefer; where none are
+-- found there are no priorities
+abbrev pub IsPreferred : LayoutRequest → Small → List Priority → Type 0
+IsPreferred r (Found grid parts) priorities = LaysPreferring parts.items priorities (request_on r grid)
+IsPreferred r (Spent steps) priorities = priorities ≡ []
+
+-- what is answered to what looking for small grids comes to: it, with priorities of the parts that are found
+abbrev pub IsSmallTold : LayoutRequest → Small → Reply → Type 0
+IsSmallTold r small reply =
+    (priorities : Vec Priority) × IsPreferred r small priorities.items × IsFoundAgain small priorities.items × (reply ≡ Ok (answer.Small small priorities))
+
+-- what is answered to a request on the greatest grid, where the number of cells of a design that is laid out is given: a
+-- grid that may be asked, which is within that one and has fewer, and parts that lay the request there, whose blueprint
+-- is read as these parts; or that none was found; and this with nothing more, where the network or the grids are beyond
+-- those of which formulas are written
+abbrev pub IsSmallFound : Option ℕ → ℕ → LayoutRequest → Reply → Type 0
+IsSmallFound own learnt r reply = ((small : Small) × IsSmall r own learnt small × IsSmallTold r small reply) ⊎ (IsBeyond r own × (reply ≡ Ok answer.NotFound))
+
+-- what is answered to a request on the greatest grid, where the bytes are the design
 abbrev pub IsFound : List ℕ → ℕ → LayoutRequest → Reply → Type 0
-IsFound bytes learnt r reply =
-    (own : Option ℕ) × (small : Small) × IsOwn bytes own × IsSmall r own learnt small × IsFoundAgain small × (reply ≡ Ok (answer.Small small))
+IsFound bytes learnt r reply = (own : Option ℕ) × IsOwn bytes own × IsSmallFound own learnt r reply
 
 -- what `smallest --found` answers to bytes: what is answered to the request that they are, or the first refusal
-abbrev pub IsFoundFrom : Rect → Option Tier → AskedSides → ℕ → List ℕ → Reply → Type 0
+abbrev pub IsFoundFrom : Option Rect → Option Tier → AskedSides → ℕ → List ℕ → Reply → Type 0
 IsFoundFrom most tier sides learnt bytes = InTurn (IsDesignRequest sides most tier bytes) design_told (IsFound bytes learnt)

@@ -12,7 +12,7 @@ use Rattle.bt_dimacs.specs.declared.columns.Columns.{Columns}
 use Rattle.bt_top.specs.declared.answer.Answer.{Answer}
 use Rattle.bt_top.specs.declared.answer.Answer.TheVariants as answer
 use Rattle.bt_designs.specs.Alone.{IsLoneNet}
-use Rattle.bt_top.specs.Replies.{Reply, design_told}
+use Rattle.bt_top.specs.Replies.{Reply, UnlessLarge, design_told}
 use Rattle.bt_designs.specs.Requested.{IsLoneRequest}
 use Rattle.bt_designs.specs.Steps.{InTurn}
 
@@ -24,7 +24,7 @@ columns_of n = record { edges = length n.edges; inputs = n.inputs; outputs = n.o
 abbrev pub flow_formula_told : Property → Network → Answer
 flow_formula_told p n = answer.FlowFormula (columns_of n) (flow_formula n p)
 
--- what is answered to a request: its placement formula, and where the blocks of its variables begin
+-- what is answered to a request that has a formula: its placement formula, and where the blocks of its variables begin
 abbrev pub place_formula_told : LayoutRequest → Answer
 place_formula_told r = answer.PlaceFormula (starts_of (sizes_of r)) (place_formula r)
 
@@ -33,6 +33,7 @@ place_formula_told r = answer.PlaceFormula (starts_of (sizes_of r)) (place_formu
 abbrev pub IsFlowFormulaFrom : Property → List ℕ → Reply → Type 0
 IsFlowFormulaFrom p bytes = InTurn (IsLoneNet bytes) design_told (λ n reply. reply ≡ Ok (flow_formula_told p n))
 
--- what `formula` answers to bytes about layouts: what is answered to the request that they are, or the first refusal
+-- what `formula` answers to bytes about layouts: what is answered to the request that they are, or the first refusal, of
+-- which the last is that it has no formula
 abbrev pub IsPlaceFormulaFrom : Rect → Option Tier → List ℕ → Reply → Type 0
-IsPlaceFormulaFrom rect tier bytes = InTurn (IsLoneRequest rect tier bytes) design_told (λ r reply. reply ≡ Ok (place_formula_told r))
+IsPlaceFormulaFrom rect tier bytes = InTurn (IsLoneRequest rect tier bytes) design_told (UnlessLarge (λ r reply. reply ≡ Ok (place_formula_told r)))

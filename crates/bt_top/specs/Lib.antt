@@ -3,6 +3,7 @@ pub mod Inputs
 pub mod Replies
 pub mod States
 pub mod Recovering
+pub mod Building
 pub mod Certificates
 pub mod Deciding
 pub mod Making

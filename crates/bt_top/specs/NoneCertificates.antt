@@ -14,7 +14,7 @@ use Rattle.bt_top.specs.declared.answer.Answer.TheVariants as answer
 use Rattle.bt_top.specs.declared.answer.Brief.TheVariants as brief
 use Rattle.bt_top.specs.Answers.{none_word, nowhere_text}
 use Rattle.bt_top.specs.Certificates.{cert_told}
-use Rattle.bt_top.specs.Replies.{Reply, design_told}
+use Rattle.bt_top.specs.Replies.{Reply, UnlessLarge, design_told}
 use Rattle.bt_designs.specs.Requested.{IsFrontRequest}
 use Rattle.bt_designs.specs.Steps.{InTurn}
 
@@ -37,10 +37,10 @@ IsNoneTextChecked r text reply = ((lines : List ℕ) × SaysNone text lines × I
 abbrev pub IsNoneCertificateChecked : LayoutRequest → List ℕ → Reply → Type 0
 IsNoneCertificateChecked r rest reply = (text : List ℕ) × SkipsBlanks rest text × IsNoneTextChecked r text reply
 
--- what `check-layout` answers to bytes: the refusal of the request at their front, or what is answered to what follows
--- it
+-- what `check-layout` answers to bytes: the refusal of the request at their front, of which the last is that it has no
+-- formula, or what is answered to what follows it
 abbrev pub IsLayoutChecked : Rect → Option Tier → List ℕ → Reply → Type 0
-IsLayoutChecked rect tier bytes = InTurn (IsFrontRequest rect tier bytes) design_told (λ found. IsNoneCertificateChecked found.0 (drop found.1 bytes))
+IsLayoutChecked rect tier bytes = InTurn (IsFrontRequest rect tier bytes) design_told (λ found. UnlessLarge (λ r. IsNoneCertificateChecked r (drop found.1 bytes)) found.0)
 
 -- what is written where a log soundly refutes the placement formula of a request is accepted behind that request and a
 -- line feed, where the log has fewer than 10 ^ 17 steps

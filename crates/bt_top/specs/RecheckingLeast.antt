@@ -1,5 +1,7 @@
 -- What `check-layout` answers to what `smallest` wrote.
 use Rattle.std.specs.Prelude.{◌≡◌, ℕ, ◌≤◌, List, [], ◌∷◌, ◌++◌, All, length, Option, Ok}
+use Rattle.std.specs.Global.{Vec}
+use Rattle.bt_hands.specs.declared.hand.Priority.{Priority}
 use Rattle.bt_parts.specs.declared.part.Rect.{Rect}
 use Rattle.bt_parts.specs.declared.part.Tier.{Tier}
 use Rattle.bt_layout.specs.declared.outcome.RuledOut.{RuledOut}
@@ -32,5 +34,5 @@ BeginsWithGrids first text ones = (rest : List ℕ) × (text ≡ from_line first
 -- what `smallest` writes begins with the line of the grid with which it begins, where one is named, and the lines of
 -- grids and their certificates, and each certificate is accepted behind the network text
 abbrev pub LeastIsChecked : Type 0
-LeastIsChecked = (first : Option Rect) (most : Rect) (tier : Option Tier) (learnt : ℕ) (bytes : List ℕ) (found : Smallest)
-    → IsSearchedFrom first most tier learnt bytes (Ok (answer.Least first found)) → BeginsWithGrids first (text_of (answer.Least first found)) (certified_in found) × All (IsAccepted tier bytes) (certified_in found)
+LeastIsChecked = (first : Option Rect) (most : Rect) (tier : Option Tier) (learnt : ℕ) (bytes : List ℕ) (found : Smallest) (priorities : Vec Priority)
+    → IsSearchedFrom first most tier learnt bytes (Ok (answer.Least first found priorities)) → BeginsWithGrids first (text_of (answer.Least first found priorities)) (certified_in found) × All (IsAccepted tier bytes) (certified_in found)

@@ -10,6 +10,7 @@ use bt_designs::{DesignFault, Refusal};
 use bt_dimacs::Columns;
 use bt_extend::Definition;
 use bt_flow::{Property, State, Test};
+use bt_hands::Priority;
 use bt_layout::{Small, Smallest};
 use bt_log::Log;
 use bt_net::Net;
@@ -17,6 +18,7 @@ use bt_parts::{Part, Rect};
 use bt_place::Starts;
 use bt_same::{Pair, Which};
 use bt_theory::GaveUp;
+use bt_words::BuiltText;
 use std::alloc::AllocError;
 
 /// An answer whose text is one line that has to be formed: words, and numbers and names that are said with them.
@@ -75,15 +77,18 @@ pub enum Answer {
     Undecided(Vec<Definition>, GaveUp),
     /// Whether a network that was made is balanced.
     Made(Made),
-    /// The parts lay the request.
-    LaidOut(Vec<Part>),
+    /// The parts with these priorities lay the request.
+    LaidOut(Vec<Part>, Vec<Priority>),
     /// No parts lay the request, which the log shows.
     Nowhere(Log),
+    /// No layout was found of a request without a formula, or of one for which greater grids are searched than those of which
+    /// formulas are written; or no network is known that is shown to be as a wish wants it. There may be one.
+    NotFound,
     /// With which grid a search for the least grid began on which parts show a network, where one was named, and what it
-    /// came to.
-    Least(Option<Rect>, Smallest),
-    /// What looking for small grids on which parts show a network comes to.
-    Small(Small),
+    /// came to; and the priorities of the parts that it found.
+    Least(Option<Rect>, Smallest, Vec<Priority>),
+    /// What looking for small grids on which parts show a network comes to, and the priorities of the parts that it found.
+    Small(Small, Vec<Priority>),
     /// The flow formula of the design's network and a property.
     FlowFormula(Columns, Formula),
     /// The placement formula of the request, and where the blocks of its variables begin.
@@ -92,6 +97,8 @@ pub enum Answer {
     Same(Vec<Definition>, Log),
     /// The pair of states shows that the networks of the designs differ.
     Differ(Pair),
+    /// A network that has each wished property, and as what it is written.
+    Built(Net, BuiltText),
 }
 
 impl Brief {
@@ -123,17 +130,19 @@ impl Answer {
             Answer::Brief(brief) => brief.status(),
             Answer::Usage => 2,
             Answer::TooLong => 11,
+            Answer::NotFound => 12,
             Answer::Recovered(_)
             | Answer::Proved(..)
-            | Answer::LaidOut(_)
+            | Answer::LaidOut(..)
             | Answer::FlowFormula(..)
             | Answer::PlaceFormula(..)
-            | Answer::Same(..) => 0,
+            | Answer::Same(..)
+            | Answer::Built(..) => 0,
             Answer::Broken(..) | Answer::Nowhere(_) | Answer::Differ(_) => 1,
             Answer::GaveUp(cause) | Answer::Undecided(_, cause) => gave_up_status(cause),
             Answer::Made(made) => made.status(),
-            Answer::Least(_, found) => least_status(found),
-            Answer::Small(found) => small_status(found),
+            Answer::Least(_, found, _) => least_status(found),
+            Answer::Small(found, _) => small_status(found),
         }
     }
 }

@@ -3,17 +3,18 @@ ghost use Rattle.std.specs.Prelude.{◌≡◌, alloc_error, Ok};
 ghost use Rattle.bt_answers.specs.Answers.{UnlessMemory};
 ghost use Rattle.bt_model.specs.Requests.{IsGrid};
 ghost use Rattle.bt_top.specs.Formulas.{IsFlowFormulaFrom, IsPlaceFormulaFrom};
+ghost use Rattle.bt_top.specs.Replies.{UnlessLarge};
 ghost use Rattle.bt_top.specs.Formulas.{columns_of, flow_formula_told, place_formula_told};
 
 use crate::answer::{Answer, refused};
-use bt_designs::{read_alone, read_lone_request};
+use bt_designs::{DesignFault, Refusal, read_alone, read_lone_request};
 use bt_dimacs::Columns;
 use bt_fenc::encode;
 use bt_flow::Property;
 use bt_model::Request;
 use bt_net::Net;
 use bt_parts::{Rect, Tier};
-use bt_place::{Numbers, encode_place};
+use bt_place::{Numbers, encode_place, has_formula};
 use std::alloc::{AllocError, Global};
 
 /// The answer of `formula` to the bytes of its input, about a property.
@@ -37,7 +38,7 @@ pub fn place_formula(
     ensures { UnlessMemory alloc_error (IsPlaceFormulaFrom rect tier bytes.now) result }
 {
     match read_lone_request(alloc, rect, tier, bytes) {
-        Ok(request) => place_formula_of(alloc, &request),
+        Ok(request) => place_formula_unless_large(alloc, &request),
         Err(fault) => refused(fault),
     }
 }
@@ -60,6 +61,19 @@ fn columns_of(net: &Net) -> Columns
         edges: net.edges().len(),
         inputs: net.inputs() as usize,
         outputs: net.outputs() as usize,
+    }
+}
+
+/// The answer to a request, where it has a formula.
+fn place_formula_unless_large(alloc: Global, request: &Request) -> Result<Answer, AllocError>
+    ensures { UnlessMemory alloc_error
+        (UnlessLarge (λ r reply. reply ≡ Ok (place_formula_told r)) request.now) result }
+{
+    let has = has_formula(alloc, request)?;
+    if has {
+        place_formula_of(alloc, request)
+    } else {
+        refused(DesignFault::Refused(Refusal::TooLarge))
     }
 }
 

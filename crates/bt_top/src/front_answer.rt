@@ -56,7 +56,7 @@ fn known_from<S: Source>(
 /// The answer to steps whose lines go on in the source.
 fn steps_from<S: Source>(
     alloc: Global,
-    mut steps: Steps<'_>,
+    steps: Steps<'_>,
     ended: bool,
     source: &mut S,
     limit: usize,
@@ -70,18 +70,18 @@ fn steps_from<S: Source>(
         return steps_at_hand(alloc, steps);
     }
     let lines = steps.lines;
-    let judged = check_log(alloc, &mut steps.formula, lines, source, limit);
+    let judged = check_log(alloc, steps.formula, lines, source, limit);
     steps_answer(steps.accepted, judged)
 }
 
 /// The answer to steps whose lines were all read.
-fn steps_at_hand(alloc: Global, mut steps: Steps<'_>) -> Result<Answer, ReadAll>
+fn steps_at_hand(alloc: Global, steps: Steps<'_>) -> Result<Answer, ReadAll>
     ensures answer { IfOk result (λ answer. IsStepsReply steps.entry [] (Ok answer)) }
     ensures memory { IfErr result (λ fault. fault ≡ Memory) }
 {
     let mut source = SliceSource::new(&[]);
     let lines = steps.lines;
-    let judged = check_log(alloc, &mut steps.formula, lines, &mut source, 0);
+    let judged = check_log(alloc, steps.formula, lines, &mut source, 0);
     steps_answer(steps.accepted, judged)
 }
 

@@ -30,11 +30,11 @@ fn input_limit(command: Command) -> usize
         | Command::FlowFormula(_)
         | Command::PlaceFormula(..) => MOST_OF_DESIGN,
         Command::Same(_) => MOST_OF_TWO,
-        Command::Make(..) => 0,
+        Command::Make(..) | Command::Build(..) => 0,
     }
 }
 
-/// The bytes of a command's input, of which `make` reads none.
+/// The bytes of a command's input, of which `make` and `build` read none.
 pub fn read_input<S: Source>(
     alloc: Global,
     command: Command,
@@ -45,7 +45,7 @@ pub fn read_input<S: Source>(
     ensures unread { ReadsNothing command → source.new ≡ source.old }
 {
     match command {
-        Command::Make(..) => Ok(Vec::new(alloc)),
+        Command::Make(..) | Command::Build(..) => Ok(Vec::new(alloc)),
         _ => read_all(alloc, source, input_limit(command)),
     }
 }

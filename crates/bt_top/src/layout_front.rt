@@ -3,6 +3,7 @@ ghost use Rattle.std.specs.Prelude.{◌≡◌, ◌+◌, ◌≤◌, ◌↔◌, �
 ghost use Rattle.bt_model.specs.Requests.{IsGrid, IsRequest};
 ghost use Rattle.bt_designs.specs.declared.held.TheConstants.{MOST_CHECKED};
 ghost use Rattle.bt_top.specs.Answers.{none_word};
+ghost use Rattle.bt_top.specs.Replies.{UnlessLarge};
 ghost use Rattle.bt_top.specs.NoneCertificates.{IsLayoutChecked, IsNoneCertificateChecked, IsNoneTextChecked};
 ghost use Rattle.bt_designs.specs.Found.{pinned_of};
 ghost use Rattle.bt_designs.specs.Told.{TellsLine};
@@ -11,10 +12,10 @@ ghost use Rattle.bt_top.specs.inner.RequestParts.{IsRequestChecked};
 
 use crate::answer::Brief;
 use crate::front::{Front, Steps, known_refusal};
-use bt_designs::{Held, PinnedDesign, request_for, told_line, told_pinned};
+use bt_designs::{DesignFault, Held, PinnedDesign, Refusal, request_for, told_line, told_pinned};
 use bt_model::Request;
 use bt_parts::{Rect, Tier};
-use bt_place::encode_place;
+use bt_place::{encode_place, has_formula};
 use bt_text::skip_blanks;
 use std::alloc::{AllocError, Global};
 
@@ -52,12 +53,31 @@ fn behind_design<'a>(
     ensures { GivesFront (IsRequestChecked rect tier (pinned_of design)) ended rest.now result }
 {
     match request_for(rect, tier, design) {
-        Ok(request) => behind_request(alloc, &request, rest, ended),
+        Ok(request) => behind_large(alloc, &request, rest, ended),
         Err(fault) => known_refusal(fault),
     }
 }
 
-/// The same of what follows a request.
+/// The same of what follows a request, or that this has no formula.
+fn behind_large<'a>(
+    alloc: Global,
+    request: &Request,
+    rest: &'a [u8],
+    ended: bool,
+) -> Result<Option<Front<'a>>, AllocError>
+    requires { IsRequest request.now }
+    ensures { GivesFront (λ text. UnlessLarge (λ r. IsNoneCertificateChecked r text) request.now)
+        ended rest.now result }
+{
+    let has = has_formula(alloc, request)?;
+    if has {
+        behind_request(alloc, request, rest, ended)
+    } else {
+        known_refusal(DesignFault::Refused(Refusal::TooLarge))
+    }
+}
+
+/// The same of what follows a request that has a formula.
 fn behind_request<'a>(
     alloc: Global,
     request: &Request,

@@ -2,16 +2,18 @@
 ghost use Rattle.bt_io.specs.Bytes.{WritesText};
 ghost use Rattle.bt_io.specs.Passages.{passage};
 ghost use Rattle.std.specs.Prelude.{◌≡◌};
-ghost use Rattle.bt_top.specs.Answers.{balance_word, family_name, gave_up_text, made_text, proved_text, same_text, spent_text, steps_text};
+ghost use Rattle.bt_top.specs.Answers.{balance_word, built_text, family_name, gave_up_text, made_text, proved_text, same_text, spent_text, steps_text};
 
 use crate::make::Made;
 use bt_extend::{Definition, print_definitions};
 use bt_flow::Property;
 use bt_io::{Sink, WriteFault, write_all_of, write_pieces};
 use bt_log::Log;
+use bt_net::Net;
+use bt_print::{print, print_with};
 use bt_theory::GaveUp;
 use bt_trail::{print_pivots, print_wide};
-use bt_words::NetworkFamily;
+use bt_words::{BuiltText, NetworkFamily};
 use itoa::Buffer;
 
 /// Writes the yes certificate for a property.
@@ -114,6 +116,20 @@ pub fn print_made<K: Sink>(made: &Made, sink: &mut K) -> Result<(), WriteFault>
             b" balanced\n",
         ],
     )
+}
+
+/// Writes a network that is built, which may be as a request for a layout.
+pub fn print_built<K: Sink>(net: &Net, text: BuiltText, sink: &mut K) -> Result<(), WriteFault>
+    ensures { WritesText (passage K.held K.faults sink.old sink.new) (built_text text net.now) result }
+{
+    match text {
+        BuiltText::Network => print(net, sink),
+        BuiltText::Request => print_with(
+            net,
+            b"side inputs south\nside outputs north\nrow inputs\nrow outputs\n",
+            sink,
+        ),
+    }
 }
 
 /// The word for a kind of network.

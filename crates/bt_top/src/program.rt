@@ -14,6 +14,7 @@ ghost use Rattle.bt_top.specs.inner.Telling.{IsAnswered, IsAnsweredTo, IsToldUnl
 
 use crate::answer::Answer;
 use crate::blocks::claim_answer;
+use crate::build::build;
 use crate::choosers::Choosers;
 use crate::claim::CertificateClaim;
 use crate::decide::decide;
@@ -22,7 +23,7 @@ use crate::formula::{flow_formula, place_formula};
 use crate::input::read_input;
 use crate::layout::layout;
 use crate::make::make;
-use crate::printing::{print_gave_up, print_made, print_proof, print_same};
+use crate::printing::{print_built, print_gave_up, print_made, print_proof, print_same};
 use crate::recover::recover;
 use crate::same::same;
 use crate::smallest::smallest;
@@ -174,6 +175,9 @@ fn right_answer(
         Command::FlowFormula(property) => flow_formula(alloc, property, bytes),
         Command::PlaceFormula(rect, tier) => place_formula(alloc, rect, tier, bytes),
         Command::Same(limits) => same(alloc, limits, bytes, choosers.take_decisions(alloc)),
+        Command::Build(wish, inputs, outputs, limits, text) => {
+            build(alloc, wish, inputs, outputs, limits, text)
+        }
         Command::Check(_) | Command::CheckLayout(..) | Command::CheckSame => unreachable!(),
     }
 }
@@ -204,11 +208,12 @@ fn print_answer<K: Sink>(answer: &Answer, formed: &[u8], sink: &mut K) -> Result
 {
     match answer {
         Answer::Brief(_) => write_all_of(sink, formed),
-        Answer::LaidOut(_) => write_all_of(sink, formed),
-        Answer::Least(first, found) => bt_layout::print_smallest(*first, found, formed, sink),
-        Answer::Small(found) => bt_layout::print_small(found, formed, sink),
+        Answer::LaidOut(..) => write_all_of(sink, formed),
+        Answer::Least(first, found, _) => bt_layout::print_smallest(*first, found, formed, sink),
+        Answer::Small(found, _) => bt_layout::print_small(found, formed, sink),
         Answer::Usage => write_all_of(sink, b"usage\n"),
         Answer::TooLong => write_all_of(sink, b"too long\n"),
+        Answer::NotFound => write_all_of(sink, b"not found\n"),
         Answer::Recovered(net) => print(net, sink),
         Answer::Proved(property, definitions, log) => {
             print_proof(*property, definitions, log, sink)
@@ -222,6 +227,7 @@ fn print_answer<K: Sink>(answer: &Answer, formed: &[u8], sink: &mut K) -> Result
         Answer::PlaceFormula(starts, formula) => print_place_formula(*starts, formula, sink),
         Answer::Same(definitions, log) => print_same(definitions, log, sink),
         Answer::Differ(pair) => print_pair(pair, sink),
+        Answer::Built(net, text) => print_built(net, *text, sink),
     }
 }
 

@@ -1,14 +1,22 @@
 //! `smallest`: the least grid on which parts show a network.
-ghost use Rattle.std.specs.Prelude.{alloc_error};
+ghost use Rattle.std.specs.Prelude.{◌≤◌, ℕ, IfOk, Option, alloc_error};
 ghost use Rattle.bt_answers.specs.Answers.{UnlessMemory};
+ghost use Rattle.bt_parts.specs.declared.part.Rect.{Rect as ARect};
 ghost use Rattle.bt_model.specs.Requests.{IsGrid, IsRequest};
-ghost use Rattle.bt_layout.specs.Smallest.{NamesNoCells};
-ghost use Rattle.bt_top.specs.Searching.{IsSearched, IsSearchedFrom};
+ghost use Rattle.bt_model.specs.declared.request.TheConstants.{MOST_CELLS};
+ghost use Rattle.bt_layout.specs.Grids.{area_of};
+ghost use Rattle.bt_layout.specs.Smallest.{IsSmallest, NamesNoCells};
+ghost use Rattle.bt_words.specs.Commands.{HasFewCells};
+ghost use Rattle.bt_top.specs.Replies.{UnlessLarge};
+ghost use Rattle.bt_top.specs.Searching.{IsFoundAgain, IsPreferred, IsSearched, IsSearchedFrom};
 
 use crate::answer::{Answer, refused};
-use bt_designs::read_sided_request;
+use bt_designs::{DesignFault, Refusal, read_sided_request};
+use bt_hands::Priority;
+use bt_layout::{Smallest, priorities_on};
 use bt_model::Request;
 use bt_parts::{Rect, Tier};
+use bt_place::has_formula;
 use std::alloc::{AllocError, Global};
 
 /// The answer of `smallest` to the bytes of its input.
@@ -20,12 +28,33 @@ pub fn smallest(
     learnt: u64,
     bytes: &[u8],
 ) -> Result<Answer, AllocError>
-    requires { IsGrid most }
+    requires grid { IsGrid most }
+    requires few { HasFewCells most }
     ensures { UnlessMemory alloc_error (IsSearchedFrom first most tier learnt bytes.now) result }
 {
     match read_sided_request(alloc, most, tier, bytes) {
-        Ok(request) => smallest_of(alloc, first, learnt, &request),
+        Ok(request) => smallest_unless_large(alloc, first, learnt, &request),
         Err(fault) => refused(fault),
+    }
+}
+
+/// The answer to a request on the greatest grid, where it has a formula there.
+fn smallest_unless_large(
+    alloc: Global,
+    first: Option<Rect>,
+    learnt: u64,
+    request: &Request,
+) -> Result<Answer, AllocError>
+    requires request { IsRequest request.now }
+    requires cells { NamesNoCells request.now }
+    requires few { area_of request.now.rect ≤ MOST_CELLS }
+    ensures { UnlessMemory alloc_error (UnlessLarge (IsSearched first learnt) request.now) result }
+{
+    let has = has_formula(alloc, request)?;
+    if has {
+        smallest_of(alloc, first, learnt, request)
+    } else {
+        refused(DesignFault::Refused(Refusal::TooLarge))
     }
 }
 
@@ -38,10 +67,28 @@ fn smallest_of(
 ) -> Result<Answer, AllocError>
     requires request { IsRequest request.now }
     requires cells { NamesNoCells request.now }
+    requires few { area_of request.now.rect ≤ MOST_CELLS }
     ensures { UnlessMemory alloc_error (IsSearched first learnt request.now) result }
 {
-    match bt_layout::smallest(alloc, first, request, learnt) {
-        Ok(found) => Ok(Answer::Least(first, found)),
-        Err(_) => Err(AllocError),
+    let found = bt_layout::smallest(alloc, first, request, learnt)?;
+    let priorities = priorities_in(alloc, request, &found)?;
+    Ok(Answer::Least(first, found, priorities))
+}
+
+/// The priorities of the parts that a search for the least grid found.
+fn priorities_in(
+    alloc: Global,
+    request: &Request,
+    found: &Smallest,
+) -> Result<Vec<Priority>, AllocError>
+    requires request { IsRequest request.now }
+    requires cells { NamesNoCells request.now }
+    requires found { (first : Option ARect) × (learnt : ℕ) × IsSmallest first request.now learnt found.now }
+    ensures { IfOk result (λ priorities. IsPreferred request.now found.now priorities.items
+        × IsFoundAgain found.now priorities.items) }
+{
+    match found {
+        Smallest::Found { grid, parts, .. } => priorities_on(alloc, request, *grid, parts),
+        Smallest::Nowhere(_) | Smallest::Spent { .. } => Ok(Vec::new(alloc)),
     }
 }

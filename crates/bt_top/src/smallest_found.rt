@@ -1,33 +1,47 @@
 //! `smallest --found`: small grids on which parts that show a design's network are found.
-ghost use Rattle.std.specs.Prelude.{[], ◌∷◌, ◌++◌, Contains, IfOk, List, alloc_error};
+ghost use Rattle.std.specs.Prelude.{[], ◌∷◌, ◌++◌, ℕ, Contains, IfOk, IfSome, List, Option, alloc_error};
 ghost use Rattle.bt_answers.specs.Answers.{UnlessMemory};
 ghost use Rattle.bt_parts.specs.Cells.{IsInRange};
 ghost use Rattle.bt_parts.specs.Layouts.{AreInRange};
 ghost use Rattle.bt_parts.specs.declared.part.Part.{Part as APart};
 ghost use Rattle.bt_model.specs.Requests.{IsGrid, IsRequest};
 ghost use Rattle.bt_layout.specs.Smallest.{NamesNoCells};
-ghost use Rattle.bt_top.specs.Finding.{IsDesignRequest, IsDrawnRequest, IsFound, IsFoundFrom, IsOwn, IsSpanned};
+ghost use Rattle.bt_layout.specs.Small.{IsSmall};
+ghost use Rattle.bt_top.specs.Finding.{IsDesignRequest, IsDrawnRequest, IsFound, IsFoundAgain, IsFoundFrom, IsOwn, IsPreferred, IsSmallFound, IsSmallTold, IsSpanned};
 ghost use Rattle.bt_top.specs.inner.Spans.{Encloses, IsNear, IsSpanOf};
 
 use crate::answer::{Answer, refused};
 use bt_designs::{DesignFault, is_json, read_kept_request, read_lone_request, read_sided_request};
-use bt_entities::parts_of;
-use bt_layout::find_small;
-use bt_model::Request;
+use bt_entities::parts_and_priorities;
+use bt_hands::Priority;
+use bt_layout::{Small, find_small, priorities_on};
+use bt_model::{MOST_ACROSS, Request};
 use bt_parts::{Cell, Part, Rect, Tier, cells_of};
-use bt_words::AskedSides;
+use bt_words::{AskedSides, USUAL_ACROSS};
 use std::alloc::{AllocError, Global};
+
+/// The greatest grid of all: so great a grid is searched for a blueprint, where none is given.
+const GREATEST_GRID: Rect = Rect {
+    width: MOST_ACROSS,
+    height: MOST_ACROSS,
+};
+
+/// The greatest grid that is searched for a network text, where none is given.
+const USUAL_GRID: Rect = Rect {
+    width: USUAL_ACROSS,
+    height: USUAL_ACROSS,
+};
 
 /// The answer of `smallest --found` to the bytes of its input.
 pub fn smallest_found(
     alloc: Global,
-    most: Rect,
+    most: Option<Rect>,
     tier: Option<Tier>,
     sides: AskedSides,
     learnt: u64,
     bytes: &[u8],
 ) -> Result<Answer, AllocError>
-    requires { IsGrid most }
+    requires { IfSome most IsGrid }
     ensures { UnlessMemory alloc_error (IsFoundFrom most tier sides learnt bytes.now) result }
 {
     match read_design_request(alloc, sides, most, tier, bytes) {
@@ -41,17 +55,19 @@ pub fn smallest_found(
 fn read_design_request(
     alloc: Global,
     sides: AskedSides,
-    most: Rect,
+    most: Option<Rect>,
     tier: Option<Tier>,
     bytes: &[u8],
 ) -> Result<Request, DesignFault>
-    requires { IsGrid most }
+    requires { IfSome most IsGrid }
     ensures { UnlessMemory DesignFault.Memory (IsDesignRequest sides most tier bytes.now) result }
 {
     if is_json(bytes) {
-        read_drawn_request(alloc, sides, most, tier, bytes)
+        let greatest = most.unwrap_or(GREATEST_GRID);
+        read_drawn_request(alloc, sides, greatest, tier, bytes)
     } else {
-        read_sided_request(alloc, most, tier, bytes)
+        let usual = most.unwrap_or(USUAL_GRID);
+        read_sided_request(alloc, usual, tier, bytes)
     }
 }
 
@@ -84,8 +100,54 @@ fn found_of(
     ensures { UnlessMemory alloc_error (IsFound bytes.now learnt request.now) result }
 {
     let cells = own_cells(alloc, bytes)?;
-    let small = find_small(alloc, request, cells, learnt)?;
-    Ok(Answer::Small(small))
+    small_of(alloc, learnt, request, cells)
+}
+
+/// The answer to a request on the greatest grid, where the number of cells of a design that is laid out is given.
+fn small_of(
+    alloc: Global,
+    learnt: u64,
+    request: &Request,
+    cells: Option<u64>,
+) -> Result<Answer, AllocError>
+    requires request { IsRequest request.now }
+    requires cells { NamesNoCells request.now }
+    ensures { UnlessMemory alloc_error (IsSmallFound cells learnt request.now) result }
+{
+    match find_small(alloc, request, cells, learnt) {
+        Ok(Some(small)) => small_told(alloc, request, small),
+        Ok(None) => Ok(Answer::NotFound),
+        Err(_) => Err(AllocError),
+    }
+}
+
+/// What is answered to what looking for small grids comes to.
+fn small_told(alloc: Global, request: &Request, small: Small) -> Result<Answer, AllocError>
+    requires request { IsRequest request.now }
+    requires cells { NamesNoCells request.now }
+    requires small { (own : Option ℕ) × (learnt : ℕ) × IsSmall request.now own learnt small }
+    ensures { UnlessMemory alloc_error (IsSmallTold request.now small) result }
+{
+    let priorities = priorities_in(alloc, request, &small)?;
+    Ok(Answer::Small(small, priorities))
+}
+
+/// The priorities of the parts that looking for small grids found.
+fn priorities_in(
+    alloc: Global,
+    request: &Request,
+    small: &Small,
+) -> Result<Vec<Priority>, AllocError>
+    requires request { IsRequest request.now }
+    requires cells { NamesNoCells request.now }
+    requires small { (own : Option ℕ) × (learnt : ℕ) × IsSmall request.now own learnt small.now }
+    ensures { IfOk result (λ priorities. IsPreferred request.now small.now priorities.items
+        × IsFoundAgain small.now priorities.items) }
+{
+    match small {
+        Small::Found { grid, parts } => priorities_on(alloc, request, *grid, parts),
+        Small::Spent(_) => Ok(Vec::new(alloc)),
+    }
 }
 
 /// How many cells a design has where it is laid out: those of the least rectangle that holds its parts. The bytes
@@ -99,10 +161,10 @@ fn own_cells(alloc: Global, bytes: &[u8]) -> Result<Option<u64>, AllocError>
     let Ok((tree, _)) = bt_json::read(alloc, bytes) else {
         return Err(AllocError);
     };
-    let parts = parts_of(alloc, &tree);
+    let read = parts_and_priorities(alloc, &tree);
     drop(tree);
-    match parts {
-        Ok(parts) => Ok(Some(spanned(&parts))),
+    match read {
+        Ok(read) => Ok(Some(spanned(&read.parts))),
         Err(_) => Err(AllocError),
     }
 }

@@ -33,8 +33,7 @@ pub record IsOrdered (all : List (List Lit)) (s : Search) : Type 0 where
   pub levels : AreLevels s
 
 -- where a clause that was given is kept: it is one of the watched ones, or it has one literal alone, which is true
--- before
--- the first choice
+-- before the first choice
 pub data IsHeld (s : Search) (clause : List Lit) : Type 0 where
   among_watched : (id : ℕ) → id < length s.clauses → AreSame clause (kept_at s.clauses id) → IsHeld s clause
   alone : (l : Lit) → Contains clause l → All (λ m. m ≡ l) clause → Contains (front_of s 0) l → IsHeld s clause

@@ -5,7 +5,7 @@ use Rattle.bt_text.specs.Lines.{Lacks, SplitsAt}
 use Rattle.bt_text.proofs.Lacking.{lacks}
 use Rattle.bt_text.proofs.FirstLines.{split_apart, SplitsAt-lacks}
 use Rattle.bt_words.specs.declared.argument.Argument.{Argument}
-use Rattle.bt_words.specs.declared.argument.Argument.TheVariants.{Named, Order, Chain, Learnt, Pivots, Grid, OfTier, Most, From, Found, Sides}
+use Rattle.bt_words.specs.declared.argument.Argument.TheVariants.{Wished, Number, Chain, Learnt, Pivots, Grid, OfTier, Most, From, Found, Sides, Request}
 use Rattle.bt_words.specs.Arguments.{IsPlain, IsValued}
 use Rattle.bt_words.specs.inner.Reading.{BeginsWith}
 
@@ -61,11 +61,12 @@ name_lacks (Grid grid) name value (e, is) = subst (Lacks 61) (sym e) (lacks 61 (
 name_lacks (OfTier tier) name value (e, is) = subst (Lacks 61) (sym e) (lacks 61 (codes "tier") refl)
 name_lacks (Most grid) name value (e, is) = subst (Lacks 61) (sym e) (lacks 61 (codes "most") refl)
 name_lacks (From grid) name value (e, is) = subst (Lacks 61) (sym e) (lacks 61 (codes "from") refl)
-name_lacks (Named p) name value v = absurd v
-name_lacks (Order k) name value v = absurd v
+name_lacks (Wished w) name value v = absurd v
+name_lacks (Number k) name value v = absurd v
 name_lacks Chain name value v = absurd v
 name_lacks Found name value v = absurd v
 name_lacks Sides name value v = absurd v
+name_lacks Request name value v = absurd v
 
 -- the two bytes in front of an option's name
 after_dashes : (word option other : List ℕ) → word ≡ codes "--" ++ option → word ≡ codes "--" ++ other → option ≡ other

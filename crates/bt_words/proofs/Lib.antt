@@ -3,3 +3,4 @@ pub mod Fronts
 pub mod OneFront
 pub mod Readings
 pub mod OneCommand
+pub mod Placed

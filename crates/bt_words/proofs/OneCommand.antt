@@ -1,6 +1,6 @@
 -- Words are one command at most.
 use Rattle.std.proofs.Common.{◌≡◌, ℕ, Bool, true, false, List, [], ◌∷◌, length, get_or, nat_eq, Some, None, refl, sym, ◌∙◌, ap, subst, inl, inr, arith}
-use Rattle.std.specs.Prelude.{cond, unwrap_or, MatchOption}
+use Rattle.std.specs.Prelude.{cond, unwrap_or, IfSome, MatchOption}
 use Rattle.std.specs.declared.option.Option.{Option}
 use Rattle.std.specs.Option.{option_to_list}
 use Rattle.std.specs.List.{filter_map}
@@ -8,8 +8,16 @@ use Rattle.bt_model.specs.Requests.{IsGrid}
 use Rattle.bt_parts.specs.declared.part.Rect.{Rect}
 use Rattle.bt_parts.specs.declared.part.Tier.{Tier}
 use Rattle.bt_words.specs.declared.argument.Argument.{Argument}
-use Rattle.bt_words.specs.declared.argument.Argument.TheVariants.{Named, Order, Chain, Learnt, Pivots, Grid, OfTier, Most, From, Found, Sides}
+use Rattle.bt_words.specs.declared.argument.Argument.TheVariants.{Wished, Number, Chain, Learnt, Pivots, Grid, OfTier, Most, From, Found, Sides, Request}
+use Rattle.bt_flow.specs.declared.property.Property.{Property}
+use Rattle.bt_wish.specs.declared.wish.Wish.{Wish}
+use Rattle.bt_wish.specs.Wishes.{only}
+use Rattle.bt_wish.proofs.OneWish.{same_only}
 use Rattle.bt_words.specs.declared.given.Given.{Given}
+use Rattle.bt_words.specs.declared.given.Places.{Places}
+use Rattle.bt_words.specs.declared.given.Places.TheVariants as places
+use Rattle.bt_words.specs.declared.command.BuiltText.{BuiltText}
+use Rattle.bt_words.specs.declared.command.BuiltText.TheVariants as text
 use Rattle.bt_words.specs.declared.verb.Verb.{Verb}
 use Rattle.bt_words.specs.declared.verb.Verb.TheVariants as verb
 use Rattle.bt_words.specs.declared.command.NetworkFamily.{NetworkFamily}
@@ -17,16 +25,16 @@ use Rattle.bt_words.specs.declared.command.NetworkFamily.TheVariants as family
 use Rattle.bt_words.specs.declared.command.AskedSides.{AskedSides}
 use Rattle.bt_words.specs.declared.command.AskedSides.TheVariants as asked
 use Rattle.bt_words.specs.declared.command.Command.{Command}
-use Rattle.bt_words.specs.declared.command.Command.TheVariants.{FlowCheck, Recover, Check, Decide, Make, Layout, CheckLayout, Smallest, FindSmall, FlowFormula, PlaceFormula, Same, CheckSame}
+use Rattle.bt_words.specs.declared.command.Command.TheVariants.{FlowCheck, Recover, Check, Decide, Make, Layout, CheckLayout, Smallest, FindSmall, FlowFormula, PlaceFormula, Same, CheckSame, Build}
 use Rattle.bt_words.specs.Arguments.{AreArguments}
 use Rattle.bt_words.specs.Verbs.{verb_name, verb_of}
-use Rattle.bt_words.specs.Commands.{Gives, IsGiven, Suits, IsCommand, IsUsage, IsToDecide, IsToMake, IsToLay, IsToCheckLayout, IsToSearch, IsToFind, greatest_grid, is_chain, are_kept, nothing, mark, grid_in, most_in}
+use Rattle.bt_words.specs.Commands.{Gives, HasFewCells, IsGiven, Suits, IsCommand, IsUsage, IsToDecide, IsToMake, IsToLay, IsToCheckLayout, IsToSearch, IsToFind, IsToBuild, usual_grid, is_chain, is_request, are_kept, nothing, mark, grid_in, most_in, one_property, places_list}
 use Rattle.bt_words.proofs.Fronts.{some_word}
 use Rattle.bt_words.proofs.OneFront.{one_front}
 
 -- the command whose word begins with this byte
 abbrev begun_by : ℕ → Verb
-begun_by byte = cond (nat_eq byte 102) verb.Formula (cond (nat_eq byte 114) verb.Recover (cond (nat_eq byte 99) verb.Check (cond (nat_eq byte 100) verb.Decide (cond (nat_eq byte 109) verb.Make (cond (nat_eq byte 115) verb.Same verb.Layout)))))
+begun_by byte = cond (nat_eq byte 98) verb.Build (cond (nat_eq byte 102) verb.Formula (cond (nat_eq byte 114) verb.Recover (cond (nat_eq byte 99) verb.Check (cond (nat_eq byte 100) verb.Decide (cond (nat_eq byte 109) verb.Make (cond (nat_eq byte 115) verb.Same verb.Layout))))))
 
 -- the command with this word: those that begin as others do are the longest
 abbrev named_by : List ℕ → Verb
@@ -44,6 +52,7 @@ begins verb.Smallest = refl
 begins verb.Formula = refl
 begins verb.Same = refl
 begins verb.CheckSame = refl
+begins verb.Build = refl
 
 -- a word is one command's at most
 same_verb : (v w : Verb) → verb_name v ≡ verb_name w → v ≡ w
@@ -74,13 +83,30 @@ same_mark true false e = cc
 same_mark false true e = cc
 same_mark false false e = refl
 
+-- the properties and numbers of a list
+abbrev places_of : List Argument → Places
+places_of (Wished w ∷ []) = places.Wish w
+places_of (Number k ∷ []) = places.Number k
+places_of (Wished w ∷ Number k ∷ []) = places.WishAndNumber w k
+places_of (Wished w ∷ Number i ∷ Number o ∷ []) = places.Whole w i o
+places_of other = places.Nothing
+
+listed : (p : Places) → places_of (places_list p) ≡ p
+listed places.Nothing = refl
+listed (places.Wish w) = refl
+listed (places.Number k) = refl
+listed (places.WishAndNumber w k) = refl
+listed (places.Whole w i o) = refl
+
+pub same_places : (p q : Places) → places_list p ≡ places_list q → p ≡ q
+same_places p q e = sym (listed p) ∙ ap places_of e ∙ listed q
+
 -- words give one thing
 same_given : (g h : Given) (words : List (List ℕ)) → IsGiven g words → IsGiven h words → g ≡ h
 same_given g h words (ones, are, gives) (others, be, give) =
     let same = same_arguments ones others words are be in
     let give = subst (λ x. Gives x h) (sym same) give in
-    let p = same_option g.property h.property (sym gives.property ∙ give.property) in
-    let o = same_option g.order h.order (sym gives.order ∙ give.order) in
+    let p = same_places g.places h.places (sym gives.places ∙ give.places) in
     let c = same_mark g.chain h.chain (sym gives.chain ∙ give.chain) in
     let l = same_option g.learnt h.learnt (sym gives.learnt ∙ give.learnt) in
     let v = same_option g.pivots h.pivots (sym gives.pivots ∙ give.pivots) in
@@ -90,14 +116,15 @@ same_given g h words (ones, are, gives) (others, be, give) =
     let b = same_option g.from h.from (sym gives.from ∙ give.from) in
     let f = same_mark g.found h.found (sym gives.found ∙ give.found) in
     let s = same_mark g.sides h.sides (sym gives.sides ∙ give.sides) in
-    λ i. record { property = p i; order = o i; chain = c i; learnt = l i; pivots = v i; grid = r i; tier = t i; most = m i; from = b i; found = f i; sides = s i }
+    let q = same_mark g.request h.request (sym gives.request ∙ give.request) in
+    λ i. record { places = p i; chain = c i; learnt = l i; pivots = v i; grid = r i; tier = t i; most = m i; from = b i; found = f i; sides = s i; request = q i }
 
 -- what no command of this word is given
-pub none_checks_flow : (g : Given) → ((p : _) → g ≡ record nothing { property = Some p } → ⊥) → (c : Command) → verb.FlowCheck ≡ verb_of c → Suits c g → ⊥
+pub none_checks_flow : (g : Given) → ((p : _) → g ≡ record nothing { places = one_property p } → ⊥) → (c : Command) → verb.FlowCheck ≡ verb_of c → Suits c g → ⊥
 none_checks_flow g none (FlowCheck p) v s = none p s
 none_checks_flow g none c v s = cc
 
-pub none_checks : (g : Given) → ((p : _) → g ≡ record nothing { property = Some p } → ⊥) → (c : Command) → verb.Check ≡ verb_of c → Suits c g → ⊥
+pub none_checks : (g : Given) → ((p : _) → g ≡ record nothing { places = one_property p } → ⊥) → (c : Command) → verb.Check ≡ verb_of c → Suits c g → ⊥
 none_checks g none (Check p) v s = none p s
 none_checks g none c v s = cc
 
@@ -122,10 +149,14 @@ none_searches g not none (Smallest b r t n) v s = none r s.0
 none_searches g not none (FindSmall r t a n) v s = not r s.0
 none_searches g not none c v s = cc
 
-pub none_formula : (g : Given) → ((p : _) → g ≡ record nothing { property = Some p } → ⊥) → ((r : _) → IsToCheckLayout r g → ⊥) → (c : Command) → verb.Formula ≡ verb_of c → Suits c g → ⊥
+pub none_formula : (g : Given) → ((p : _) → g ≡ record nothing { places = one_property p } → ⊥) → ((r : _) → IsToCheckLayout r g → ⊥) → (c : Command) → verb.Formula ≡ verb_of c → Suits c g → ⊥
 none_formula g none not (FlowFormula p) v s = none p s
 none_formula g none not (PlaceFormula r t) v s = not r s.0
 none_formula g none not c v s = cc
+
+pub none_builds : (g : Given) → ((w : Wish) (i o : ℕ) → IsToBuild w i o g → ⊥) → (c : Command) → verb.Build ≡ verb_of c → Suits c g → ⊥
+none_builds g none (Build w i o l t) v s = none w i o s.0
+none_builds g none c v s = cc
 
 -- words behind which nothing is given are no command
 pub none_given : (words : List (List ℕ)) (word : List ℕ) (behind : List (List ℕ)) → words ≡ word ∷ behind → ((g : Given) → IsGiven g behind → ⊥) → IsUsage words
@@ -157,14 +188,24 @@ same_sides asked.Any asked.Kept e = cc
 same_sides asked.Kept asked.Any e = cc
 same_sides asked.Kept asked.Kept e = refl
 
+same_text : (t u : BuiltText) → is_request t ≡ is_request u → t ≡ u
+same_text text.Network text.Network e = refl
+same_text text.Network text.Request e = cc
+same_text text.Request text.Network e = cc
+same_text text.Request text.Request e = refl
+
+-- one property is given
+same_one : (p q : Property) (g : Given) → g.places ≡ one_property p → g.places ≡ one_property q → p ≡ q
+same_one p q g h k = let e : places.Wish (only p) ≡ places.Wish (only q) = sym h ∙ k in let same : only p ≡ only q = cc in same_only p q same
+
 -- what is given to a word is one command
 same_suited : (c d : Command) (g : Given) → verb_of c ≡ verb_of d → Suits c g → Suits d g → c ≡ d
-same_suited (FlowCheck p) (FlowCheck q) g v h k = let e = ap (λ x. x.property) (sym h ∙ k) in cc
+same_suited (FlowCheck p) (FlowCheck q) g v h k = let e = same_one p q g (ap (λ x. x.places) h) (ap (λ x. x.places) k) in cc
 same_suited Recover Recover g v h k = refl
-same_suited (Check p) (Check q) g v h k = let e = ap (λ x. x.property) (sym h ∙ k) in cc
-same_suited (Decide p l) (Decide q m) g v (h, a) (k, b) = let e = ap (λ x. x.property) (sym h ∙ k) in cc
+same_suited (Check p) (Check q) g v h k = let e = same_one p q g (ap (λ x. x.places) h) (ap (λ x. x.places) k) in cc
+same_suited (Decide p l) (Decide q m) g v (h, a) (k, b) = let e = same_one p q g (ap (λ x. x.places) h) (ap (λ x. x.places) k) in cc
 same_suited (Make f i l) (Make n j m) g v (h, x, a) (k, y, b) =
-    let e = ap (λ x. x.order) (sym h ∙ k) in
+    let e = ap (λ x. x.places) (sym h ∙ k) in
     let kinds = same_family f n (x ∙ sym y) in
     cc
 same_suited (Layout r t n) (Layout s u m) g v (h, x, a) (k, y, b) = let e = ap (λ x. x.grid) (sym h ∙ k) in cc
@@ -176,12 +217,16 @@ same_suited (FindSmall r t a n) (FindSmall s u b m) g v (h, x, c, l) (k, y, d, o
     cc
 same_suited (Smallest i r t n) (FindSmall s u b m) g v (h, q, x, a) (k, y, d, o) = let e = ap (λ x. x.found) (sym h.0 ∙ k.0) in cc
 same_suited (FindSmall r t a n) (Smallest j s u m) g v (h, x, c, l) (k, w, y, b) = let e = ap (λ x. x.found) (sym h.0 ∙ k.0) in cc
-same_suited (FlowFormula p) (FlowFormula q) g v h k = let e = ap (λ x. x.property) (sym h ∙ k) in cc
+same_suited (FlowFormula p) (FlowFormula q) g v h k = let e = same_one p q g (ap (λ x. x.places) h) (ap (λ x. x.places) k) in cc
 same_suited (PlaceFormula r t) (PlaceFormula s u) g v (h, x) (k, y) = let e = ap (λ x. x.grid) (sym h ∙ k) in cc
 same_suited (FlowFormula p) (PlaceFormula s u) g v h (k, y) = let e = ap (λ x. x.grid) (sym h ∙ k) in cc
 same_suited (PlaceFormula r t) (FlowFormula q) g v (h, x) k = let e = ap (λ x. x.grid) (sym h ∙ k) in cc
 same_suited (Same l) (Same m) g v (h, a) (k, b) = cc
 same_suited CheckSame CheckSame g v h k = refl
+same_suited (Build w i o l t) (Build x j p m u) g v (h, a, b) (k, c, d) =
+    let e = ap (λ x. x.places) (sym h.0 ∙ k.0) in
+    let texts = same_text t u (a ∙ sym c) in
+    cc
 same_suited c d g v h k = cc
 
 -- words are one command at most
@@ -198,8 +243,8 @@ grid_given : (arguments : List Argument) (words : List (List ℕ)) (grid : Rect)
 grid_given [] words grid are e = cc
 grid_given (Grid r ∷ more) words grid (front, rest, inl (word, plain, is), at, are) e = absurd plain
 grid_given (Grid r ∷ more) words grid (front, rest, inr (name, value, valued, is), at, are) e = subst IsGrid (let same = e in cc) valued.1.0
-grid_given (Named p ∷ more) words grid (front, rest, is, at, are) e = grid_given more rest grid are e
-grid_given (Order k ∷ more) words grid (front, rest, is, at, are) e = grid_given more rest grid are e
+grid_given (Wished w ∷ more) words grid (front, rest, is, at, are) e = grid_given more rest grid are e
+grid_given (Number k ∷ more) words grid (front, rest, is, at, are) e = grid_given more rest grid are e
 grid_given (Chain ∷ more) words grid (front, rest, is, at, are) e = grid_given more rest grid are e
 grid_given (Learnt n ∷ more) words grid (front, rest, is, at, are) e = grid_given more rest grid are e
 grid_given (Pivots n ∷ more) words grid (front, rest, is, at, are) e = grid_given more rest grid are e
@@ -208,6 +253,7 @@ grid_given (Most r ∷ more) words grid (front, rest, is, at, are) e = grid_give
 grid_given (From r ∷ more) words grid (front, rest, is, at, are) e = grid_given more rest grid are e
 grid_given (Found ∷ more) words grid (front, rest, is, at, are) e = grid_given more rest grid are e
 grid_given (Sides ∷ more) words grid (front, rest, is, at, are) e = grid_given more rest grid are e
+grid_given (Request ∷ more) words grid (front, rest, is, at, are) e = grid_given more rest grid are e
 
 -- the grid of `layout`, of `check-layout` and of `formula` has from 1 to `MOST_ACROSS` cells each way
 pub grid_to_lay : (grid : Rect) (tier : Option Tier) (learnt : ℕ) (words : List (List ℕ)) → IsCommand (Layout grid tier learnt) words → IsGrid grid
@@ -223,8 +269,8 @@ most_given : (arguments : List Argument) (words : List (List ℕ)) (grid : Rect)
 most_given [] words grid are e = cc
 most_given (Most r ∷ more) words grid (front, rest, inl (word, plain, is), at, are) e = absurd plain
 most_given (Most r ∷ more) words grid (front, rest, inr (name, value, valued, is), at, are) e = subst IsGrid (let same = e in cc) valued.1.0
-most_given (Named p ∷ more) words grid (front, rest, is, at, are) e = most_given more rest grid are e
-most_given (Order k ∷ more) words grid (front, rest, is, at, are) e = most_given more rest grid are e
+most_given (Wished w ∷ more) words grid (front, rest, is, at, are) e = most_given more rest grid are e
+most_given (Number k ∷ more) words grid (front, rest, is, at, are) e = most_given more rest grid are e
 most_given (Chain ∷ more) words grid (front, rest, is, at, are) e = most_given more rest grid are e
 most_given (Learnt n ∷ more) words grid (front, rest, is, at, are) e = most_given more rest grid are e
 most_given (Pivots n ∷ more) words grid (front, rest, is, at, are) e = most_given more rest grid are e
@@ -233,23 +279,34 @@ most_given (From r ∷ more) words grid (front, rest, is, at, are) e = most_give
 most_given (OfTier t ∷ more) words grid (front, rest, is, at, are) e = most_given more rest grid are e
 most_given (Found ∷ more) words grid (front, rest, is, at, are) e = most_given more rest grid are e
 most_given (Sides ∷ more) words grid (front, rest, is, at, are) e = most_given more rest grid are e
+most_given (Request ∷ more) words grid (front, rest, is, at, are) e = most_given more rest grid are e
 
--- the greatest of all is a grid
-greatest_is_grid : IsGrid greatest_grid
-greatest_is_grid = record { some_width = omega arith; few_across = omega arith; some_height = omega arith; few_down = omega arith }
+-- the usual one is a grid
+pub usual_is_grid : IsGrid usual_grid
+usual_is_grid = record { some_width = omega arith; few_across = omega arith; some_height = omega arith; few_down = omega arith }
 
 -- and so is the one that is given, or else that one
-greatest_given : (arguments : List Argument) (words : List (List ℕ)) (most : Rect) (given : Option Rect) → AreArguments arguments words
-    → filter_map most_in arguments ≡ option_to_list given → most ≡ unwrap_or given greatest_grid → IsGrid most
-greatest_given arguments words most None are none is = subst IsGrid (sym is) greatest_is_grid
-greatest_given arguments words most (Some grid) are one is = subst IsGrid (sym is) (most_given arguments words grid are one)
+searched_grid : (arguments : List Argument) (words : List (List ℕ)) (most : Rect) (given : Option Rect) → AreArguments arguments words
+    → filter_map most_in arguments ≡ option_to_list given → most ≡ unwrap_or given usual_grid → IsGrid most
+searched_grid arguments words most None are none is = subst IsGrid (sym is) usual_is_grid
+searched_grid arguments words most (Some grid) are one is = subst IsGrid (sym is) (most_given arguments words grid are one)
 
--- and that of `smallest`, with `--found` or without
+-- and that of `smallest`
 pub grid_to_search : (first : Option Rect) (most : Rect) (tier : Option Tier) (learnt : ℕ) (words : List (List ℕ)) → IsCommand (Smallest first most tier learnt) words → IsGrid most
-grid_to_search first most tier learnt words (behind, g, e, (arguments, are, gives), suits) = greatest_given arguments behind most g.most are gives.most suits.0.1
+grid_to_search first most tier learnt words (behind, g, e, (arguments, are, gives), suits) = searched_grid arguments behind most g.most are gives.most suits.0.1
 
-pub grid_to_find : (most : Rect) (tier : Option Tier) (sides : AskedSides) (learnt : ℕ) (words : List (List ℕ)) → IsCommand (FindSmall most tier sides learnt) words → IsGrid most
-grid_to_find most tier sides learnt words (behind, g, e, (arguments, are, gives), suits) = greatest_given arguments behind most g.most are gives.most suits.0.1
+-- and that has few cells
+pub few_to_search : (first : Option Rect) (most : Rect) (tier : Option Tier) (learnt : ℕ) (words : List (List ℕ)) → IsCommand (Smallest first most tier learnt) words → HasFewCells most
+few_to_search first most tier learnt words (behind, g, e, given, suits) = suits.0.2
+
+-- where one is given with `--found`, it is a grid
+found_grid : (arguments : List Argument) (words : List (List ℕ)) (given : Option Rect) → AreArguments arguments words → filter_map most_in arguments ≡ option_to_list given → IfSome given IsGrid
+found_grid arguments words None are none = tt
+found_grid arguments words (Some grid) are one = most_given arguments words grid are one
+
+pub grid_to_find : (most : Option Rect) (tier : Option Tier) (sides : AskedSides) (learnt : ℕ) (words : List (List ℕ)) → IsCommand (FindSmall most tier sides learnt) words → IfSome most IsGrid
+grid_to_find most tier sides learnt words (behind, g, e, (arguments, are, gives), suits) =
+    subst (λ given. IfSome given IsGrid) (sym suits.0.1) (found_grid arguments behind g.most are gives.most)
 
 -- and that of `formula`
 pub grid_of_formula : (grid : Rect) (tier : Option Tier) (words : List (List ℕ)) → IsCommand (PlaceFormula grid tier) words → IsGrid grid

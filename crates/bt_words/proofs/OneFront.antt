@@ -1,93 +1,74 @@
 -- Words begin with one argument at most.
-use Rattle.std.proofs.Common.{◌≡◌, ◌≢◌, ℕ, ◌^◌, ◌<◌, List, [], ◌∷◌, ◌++◌, get_or, drop, nat_eq, refl, sym, ◌∙◌, ap, subst, arith}
-use Rattle.std.specs.Prelude.{codes, cond, decimal}
+use Rattle.std.proofs.Common.{◌≡◌, ◌≢◌, ℕ, ◌^◌, ◌<◌, List, [], ◌∷◌, ◌++◌, get_or, drop, refl, sym, ◌∙◌, ap, subst, arith}
+use Rattle.std.specs.Prelude.{codes, decimal}
 use Rattle.std.specs.Int.{IsInRange}
 use Rattle.std.proofs.lemmas.List.{append-nil}
 use Rattle.std.proofs.lemmas.List.Elements.{All-head}
-use Rattle.bt_flow.specs.declared.property.Property.{Property}
-use Rattle.bt_flow.specs.declared.property.Property.TheVariants.{Balanced, DrawnEvenly, Unlimited, Full, Fair, DrawnFairly}
-use Rattle.bt_flow.specs.Names.{property_name}
 use Rattle.bt_frac.proofs.Numerals.{decimal-lacks, decimal_apart}
 use Rattle.bt_text.specs.Lines.{Lacks, SplitsAt}
 use Rattle.bt_text.proofs.FirstLines.{split_apart, SplitsAt-lacks}
+use Rattle.bt_wish.specs.declared.wish.Wish.{Wish}
+use Rattle.bt_wish.specs.Wishes.{IsWishWord}
+use Rattle.bt_wish.proofs.OneWish.{same_wish, begins_with_letter}
 use Rattle.bt_words.specs.declared.argument.Argument.{Argument}
-use Rattle.bt_words.specs.declared.argument.Argument.TheVariants.{Named, Order, Chain, Learnt, Pivots, Grid, OfTier, Most, From, Found, Sides}
+use Rattle.bt_words.specs.declared.argument.Argument.TheVariants.{Wished, Number, Chain, Learnt, Pivots, Grid, OfTier, Most, From, Found, Sides, Request}
 use Rattle.bt_words.specs.Arguments.{IsPlain, IsValued}
 use Rattle.bt_words.proofs.Grids.{same_grid, same_tier}
 use Rattle.bt_words.specs.inner.Reading.{BeginsWith}
 use Rattle.bt_words.proofs.Fronts.{Front, alone, apart, joined, front_of, name_lacks, some_word}
-
--- the property whose name has these bytes as its first, second and seventh
-abbrev begun_by : ℕ → ℕ → ℕ → Property
-begun_by byte second seventh =
-    cond (nat_eq byte 98) Balanced
-    (cond (nat_eq byte 100) (cond (nat_eq seventh 101) DrawnEvenly DrawnFairly) (cond (nat_eq byte 117) Unlimited (cond (nat_eq second 117) Full Fair)))
-
-abbrev begun : List ℕ → Property
-begun name = begun_by (get_or name 0 0) (get_or name 1 0) (get_or name 6 0)
-
-begins : (p : Property) → begun (property_name p) ≡ p
-begins Balanced = refl
-begins DrawnEvenly = refl
-begins Unlimited = refl
-begins Full = refl
-begins Fair = refl
-begins DrawnFairly = refl
-
--- properties with one name are one
-same_property : (p q : Property) → property_name p ≡ property_name q → p ≡ q
-same_property p q e = sym (begins p) ∙ ap begun e ∙ begins q
 
 -- a numeral begins with a digit
 digit_first : (k byte : ℕ) (rest : List ℕ) → k < 10 ^ 64 → ¬ IsInRange 48 57 byte → byte ∷ rest ≡ decimal k → ⊥
 digit_first k byte rest small other e =
     All-head (λ other. other ≢ byte) byte rest (subst (Lacks byte) (sym e) (decimal-lacks k byte small other)) refl
 
--- no property's name is a numeral
-no_number : (p : Property) (k : ℕ) → k < 10 ^ 64 → property_name p ≡ decimal k → ⊥
-no_number Balanced k small e = digit_first k 98 (drop 1 (codes "balanced")) small (λ r. omega (arith, r.1)) e
-no_number DrawnEvenly k small e = digit_first k 100 (drop 1 (codes "drawn-evenly")) small (λ r. omega (arith, r.1)) e
-no_number Unlimited k small e = digit_first k 117 (drop 1 (codes "unlimited")) small (λ r. omega (arith, r.1)) e
-no_number Full k small e = digit_first k 102 (drop 1 (codes "full")) small (λ r. omega (arith, r.1)) e
-no_number Fair k small e = digit_first k 102 (drop 1 (codes "fair")) small (λ r. omega (arith, r.1)) e
-no_number DrawnFairly k small e = digit_first k 100 (drop 1 (codes "drawn-fairly")) small (λ r. omega (arith, r.1)) e
+-- no names of properties are a numeral
+no_number : (w : Wish) (word : List ℕ) (k : ℕ) → k < 10 ^ 64 → IsWishWord w word → word ≡ decimal k → ⊥
+no_number w word k small h e =
+    let b = begins_with_letter w word h in digit_first k b.byte b.rest small (λ r. omega (arith, r.1, b.low)) (sym b.is ∙ e)
 
--- no property's name begins with a dash
-no_dash : (p : Property) (rest : List ℕ) → property_name p ≡ 45 ∷ rest → ⊥
-no_dash Balanced rest e = omega (arith, ap (λ w. get_or w 0 0) e)
-no_dash DrawnEvenly rest e = omega (arith, ap (λ w. get_or w 0 0) e)
-no_dash Unlimited rest e = omega (arith, ap (λ w. get_or w 0 0) e)
-no_dash Full rest e = omega (arith, ap (λ w. get_or w 0 0) e)
-no_dash Fair rest e = omega (arith, ap (λ w. get_or w 0 0) e)
-no_dash DrawnFairly rest e = omega (arith, ap (λ w. get_or w 0 0) e)
+-- and none begin with a dash
+no_dash : (w : Wish) (word rest : List ℕ) → IsWishWord w word → word ≡ 45 ∷ rest → ⊥
+no_dash w word rest h e = let b = begins_with_letter w word h in omega (arith, b.low, ap (λ x. get_or x 0 0) (sym b.is ∙ e))
 
 -- a word is one argument for itself
 plain_apart : (a b : Argument) (word : List ℕ) → IsPlain a word → IsPlain b word → a ≡ b
-plain_apart (Named p) (Named q) word h k = ap Named (same_property p q (sym h ∙ k))
-plain_apart (Named p) (Order j) word h (small, k) = absurd (no_number p j (omega arith) (sym h ∙ k))
-plain_apart (Named p) Chain word h k = absurd (no_dash p (drop 1 (codes "--chain")) (sym h ∙ k))
-plain_apart (Order i) (Named q) word (small, h) k = absurd (no_number q i (omega arith) (sym k ∙ h))
-plain_apart (Order i) (Order j) word (small, h) (smaller, k) = ap Order (decimal_apart i j (omega arith) (omega arith) (sym h ∙ k))
-plain_apart (Order i) Chain word (small, h) k = absurd (digit_first i 45 (drop 1 (codes "--chain")) (omega arith) (λ r. omega (arith, r.0)) (sym k ∙ h))
-plain_apart Chain (Named q) word h k = absurd (no_dash q (drop 1 (codes "--chain")) (sym k ∙ h))
-plain_apart Chain (Order j) word h (small, k) = absurd (digit_first j 45 (drop 1 (codes "--chain")) (omega arith) (λ r. omega (arith, r.0)) (sym h ∙ k))
+plain_apart (Wished v) (Wished w) word h k = ap Wished (same_wish v w word h k)
+plain_apart (Wished w) (Number j) word h (small, k) = absurd (no_number w word j (omega arith) h k)
+plain_apart (Wished w) Chain word h k = absurd (no_dash w word (drop 1 (codes "--chain")) h k)
+plain_apart (Number i) (Wished w) word (small, h) k = absurd (no_number w word i (omega arith) k h)
+plain_apart (Number i) (Number j) word (small, h) (smaller, k) = ap Number (decimal_apart i j (omega arith) (omega arith) (sym h ∙ k))
+plain_apart (Number i) Chain word (small, h) k = absurd (digit_first i 45 (drop 1 (codes "--chain")) (omega arith) (λ r. omega (arith, r.0)) (sym k ∙ h))
+plain_apart Chain (Wished w) word h k = absurd (no_dash w word (drop 1 (codes "--chain")) k h)
+plain_apart Chain (Number j) word h (small, k) = absurd (digit_first j 45 (drop 1 (codes "--chain")) (omega arith) (λ r. omega (arith, r.0)) (sym h ∙ k))
 plain_apart Chain Chain word h k = refl
-plain_apart (Named p) Found word h k = absurd (no_dash p (drop 1 (codes "--found")) (sym h ∙ k))
-plain_apart (Order i) Found word (small, h) k = absurd (digit_first i 45 (drop 1 (codes "--found")) (omega arith) (λ r. omega (arith, r.0)) (sym k ∙ h))
-plain_apart Found (Named q) word h k = absurd (no_dash q (drop 1 (codes "--found")) (sym k ∙ h))
-plain_apart Found (Order j) word h (small, k) = absurd (digit_first j 45 (drop 1 (codes "--found")) (omega arith) (λ r. omega (arith, r.0)) (sym h ∙ k))
+plain_apart (Wished w) Found word h k = absurd (no_dash w word (drop 1 (codes "--found")) h k)
+plain_apart (Number i) Found word (small, h) k = absurd (digit_first i 45 (drop 1 (codes "--found")) (omega arith) (λ r. omega (arith, r.0)) (sym k ∙ h))
+plain_apart Found (Wished w) word h k = absurd (no_dash w word (drop 1 (codes "--found")) k h)
+plain_apart Found (Number j) word h (small, k) = absurd (digit_first j 45 (drop 1 (codes "--found")) (omega arith) (λ r. omega (arith, r.0)) (sym h ∙ k))
 plain_apart Chain Found word h k = absurd (omega (arith, ap (λ w. get_or w 2 0) (sym h ∙ k)))
 plain_apart Found Chain word h k = absurd (omega (arith, ap (λ w. get_or w 2 0) (sym h ∙ k)))
 plain_apart Found Found word h k = refl
-plain_apart (Named p) Sides word h k = absurd (no_dash p (drop 1 (codes "--sides")) (sym h ∙ k))
-plain_apart (Order i) Sides word (small, h) k = absurd (digit_first i 45 (drop 1 (codes "--sides")) (omega arith) (λ r. omega (arith, r.0)) (sym k ∙ h))
-plain_apart Sides (Named q) word h k = absurd (no_dash q (drop 1 (codes "--sides")) (sym k ∙ h))
-plain_apart Sides (Order j) word h (small, k) = absurd (digit_first j 45 (drop 1 (codes "--sides")) (omega arith) (λ r. omega (arith, r.0)) (sym h ∙ k))
+plain_apart (Wished w) Sides word h k = absurd (no_dash w word (drop 1 (codes "--sides")) h k)
+plain_apart (Number i) Sides word (small, h) k = absurd (digit_first i 45 (drop 1 (codes "--sides")) (omega arith) (λ r. omega (arith, r.0)) (sym k ∙ h))
+plain_apart Sides (Wished w) word h k = absurd (no_dash w word (drop 1 (codes "--sides")) k h)
+plain_apart Sides (Number j) word h (small, k) = absurd (digit_first j 45 (drop 1 (codes "--sides")) (omega arith) (λ r. omega (arith, r.0)) (sym h ∙ k))
 plain_apart Chain Sides word h k = absurd (omega (arith, ap (λ w. get_or w 2 0) (sym h ∙ k)))
 plain_apart Sides Chain word h k = absurd (omega (arith, ap (λ w. get_or w 2 0) (sym h ∙ k)))
 plain_apart Found Sides word h k = absurd (omega (arith, ap (λ w. get_or w 2 0) (sym h ∙ k)))
 plain_apart Sides Found word h k = absurd (omega (arith, ap (λ w. get_or w 2 0) (sym h ∙ k)))
 plain_apart Sides Sides word h k = refl
+plain_apart (Wished w) Request word h k = absurd (no_dash w word (drop 1 (codes "--request")) h k)
+plain_apart (Number i) Request word (small, h) k = absurd (digit_first i 45 (drop 1 (codes "--request")) (omega arith) (λ r. omega (arith, r.0)) (sym k ∙ h))
+plain_apart Request (Wished w) word h k = absurd (no_dash w word (drop 1 (codes "--request")) k h)
+plain_apart Request (Number j) word h (small, k) = absurd (digit_first j 45 (drop 1 (codes "--request")) (omega arith) (λ r. omega (arith, r.0)) (sym h ∙ k))
+plain_apart Chain Request word h k = absurd (omega (arith, ap (λ w. get_or w 2 0) (sym h ∙ k)))
+plain_apart Request Chain word h k = absurd (omega (arith, ap (λ w. get_or w 2 0) (sym h ∙ k)))
+plain_apart Found Request word h k = absurd (omega (arith, ap (λ w. get_or w 2 0) (sym h ∙ k)))
+plain_apart Request Found word h k = absurd (omega (arith, ap (λ w. get_or w 2 0) (sym h ∙ k)))
+plain_apart Request Request word h k = refl
+plain_apart Sides Request word h k = absurd (omega (arith, ap (λ w. get_or w 2 0) (sym h ∙ k)))
+plain_apart Request Sides word h k = absurd (omega (arith, ap (λ w. get_or w 2 0) (sym h ∙ k)))
 plain_apart (Learnt m) b word h k = absurd h
 plain_apart (Pivots m) b word h k = absurd h
 plain_apart (Grid m) b word h k = absurd h
@@ -118,11 +99,12 @@ has_name (Grid grid) name value v = v.0
 has_name (OfTier tier) name value v = v.0
 has_name (Most grid) name value v = v.0
 has_name (From grid) name value v = v.0
-has_name (Named p) name value v = absurd v
-has_name (Order k) name value v = absurd v
+has_name (Wished w) name value v = absurd v
+has_name (Number k) name value v = absurd v
 has_name Chain name value v = absurd v
 has_name Found name value v = absurd v
 has_name Sides name value v = absurd v
+has_name Request name value v = absurd v
 
 -- a name and a value are one option
 valued_apart : (a b : Argument) (name value : List ℕ) → IsValued a name value → IsValued b name value → a ≡ b
@@ -132,53 +114,69 @@ valued_apart (Grid one) (Grid other) name value (e, h) (f, k) = ap Grid (same_gr
 valued_apart (OfTier one) (OfTier other) name value (e, h) (f, k) = ap OfTier (same_tier one other (sym h ∙ k))
 valued_apart (Most one) (Most other) name value (e, h) (f, k) = ap Most (same_grid one other value h k)
 valued_apart (From one) (From other) name value (e, h) (f, k) = ap From (same_grid one other value h k)
-valued_apart (Named p) b name value h k = absurd h
-valued_apart (Order p) b name value h k = absurd h
+valued_apart (Wished p) b name value h k = absurd h
+valued_apart (Number p) b name value h k = absurd h
 valued_apart Chain b name value h k = absurd h
 valued_apart Found b name value h k = absurd h
 valued_apart Sides b name value h k = absurd h
-valued_apart a (Named p) name value h k = absurd k
-valued_apart a (Order p) name value h k = absurd k
+valued_apart Request b name value h k = absurd h
+valued_apart a (Wished p) name value h k = absurd k
+valued_apart a (Number p) name value h k = absurd k
 valued_apart a Chain name value h k = absurd k
 valued_apart a Found name value h k = absurd k
 valued_apart a Sides name value h k = absurd k
+valued_apart a Request name value h k = absurd k
 valued_apart a b name value h k = absurd (omega (arith, ap (λ w. get_or w 0 0) (sym (has_name a name value h) ∙ has_name b name value k)))
 
 -- the third byte of an option is none of `--chain`
 not_chain : (b : Argument) (name value more : List ℕ) → IsValued b name value → codes "--chain" ≡ codes "--" ++ name ++ more → ⊥
-not_chain (Named p) name value more v is = absurd v
-not_chain (Order p) name value more v is = absurd v
+not_chain (Wished p) name value more v is = absurd v
+not_chain (Number p) name value more v is = absurd v
 not_chain Chain name value more v is = absurd v
 not_chain Found name value more v is = absurd v
 not_chain Sides name value more v is = absurd v
+not_chain Request name value more v is = absurd v
 not_chain b name value more v is = omega (arith, ap (λ w. get_or w 2 0) (is ∙ ap (λ x. codes "--" ++ x ++ more) (has_name b name value v)))
 
 -- nor of `--found`
 not_found : (b : Argument) (name value more : List ℕ) → IsValued b name value → codes "--found" ≡ codes "--" ++ name ++ more → ⊥
-not_found (Named p) name value more v is = absurd v
-not_found (Order p) name value more v is = absurd v
+not_found (Wished p) name value more v is = absurd v
+not_found (Number p) name value more v is = absurd v
 not_found Chain name value more v is = absurd v
 not_found Found name value more v is = absurd v
 not_found Sides name value more v is = absurd v
+not_found Request name value more v is = absurd v
 not_found (From grid) name value more v is = omega (arith, ap (λ w. get_or w 3 0) (is ∙ ap (λ x. codes "--" ++ x ++ more) (has_name (From grid) name value v)))
 not_found b name value more v is = omega (arith, ap (λ w. get_or w 2 0) (is ∙ ap (λ x. codes "--" ++ x ++ more) (has_name b name value v)))
 
 -- nor of `--sides`
 not_sides : (b : Argument) (name value more : List ℕ) → IsValued b name value → codes "--sides" ≡ codes "--" ++ name ++ more → ⊥
-not_sides (Named p) name value more v is = absurd v
-not_sides (Order p) name value more v is = absurd v
+not_sides (Wished p) name value more v is = absurd v
+not_sides (Number p) name value more v is = absurd v
 not_sides Chain name value more v is = absurd v
 not_sides Found name value more v is = absurd v
 not_sides Sides name value more v is = absurd v
+not_sides Request name value more v is = absurd v
 not_sides b name value more v is = omega (arith, ap (λ w. get_or w 2 0) (is ∙ ap (λ x. codes "--" ++ x ++ more) (has_name b name value v)))
+
+-- nor of `--request`
+not_request : (b : Argument) (name value more : List ℕ) → IsValued b name value → codes "--request" ≡ codes "--" ++ name ++ more → ⊥
+not_request (Wished p) name value more v is = absurd v
+not_request (Number p) name value more v is = absurd v
+not_request Chain name value more v is = absurd v
+not_request Found name value more v is = absurd v
+not_request Sides name value more v is = absurd v
+not_request Request name value more v is = absurd v
+not_request b name value more v is = omega (arith, ap (λ w. get_or w 2 0) (is ∙ ap (λ x. codes "--" ++ x ++ more) (has_name b name value v)))
 
 -- a word that is an argument for itself begins no option
 plain_is_none : (a b : Argument) (word name value more : List ℕ) → IsPlain a word → IsValued b name value → word ≡ codes "--" ++ name ++ more → ⊥
-plain_is_none (Named p) b word name value more h k is = no_dash p (45 ∷ (name ++ more)) (sym h ∙ is)
-plain_is_none (Order i) b word name value more (small, h) k is = digit_first i 45 (45 ∷ (name ++ more)) (omega arith) (λ r. omega (arith, r.0)) (sym is ∙ h)
+plain_is_none (Wished w) b word name value more h k is = no_dash w word (45 ∷ (name ++ more)) h is
+plain_is_none (Number i) b word name value more (small, h) k is = digit_first i 45 (45 ∷ (name ++ more)) (omega arith) (λ r. omega (arith, r.0)) (sym is ∙ h)
 plain_is_none Chain b word name value more h k is = not_chain b name value more k (sym h ∙ is)
 plain_is_none Found b word name value more h k is = not_found b name value more k (sym h ∙ is)
 plain_is_none Sides b word name value more h k is = not_sides b name value more k (sym h ∙ is)
+plain_is_none Request b word name value more h k is = not_request b name value more k (sym h ∙ is)
 plain_is_none (Learnt n) b word name value more h k is = absurd h
 plain_is_none (Pivots n) b word name value more h k is = absurd h
 plain_is_none (Grid n) b word name value more h k is = absurd h

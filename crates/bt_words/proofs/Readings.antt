@@ -7,7 +7,7 @@ use Rattle.std.proofs.lemmas.List.{append-nil, append_assoc}
 use Rattle.bt_words.specs.declared.argument.Argument.{Argument}
 use Rattle.bt_words.specs.declared.given.Given.{Given}
 use Rattle.bt_words.specs.Arguments.{AreArguments}
-use Rattle.bt_words.specs.Commands.{IsGiven, nothing, mark, property_in, order_in, chain_in, learnt_in, pivots_in, grid_in, tier_in, most_in, from_in, found_in, sides_in}
+use Rattle.bt_words.specs.Commands.{IsGiven, nothing, mark, place_in, places_list, chain_in, learnt_in, pivots_in, grid_in, tier_in, most_in, from_in, found_in, sides_in, request_in}
 use Rattle.bt_words.specs.inner.Reading.{BeginsWith, Adds, Reads, LeadsTo}
 use Rattle.bt_words.proofs.Fronts.{some_word}
 use Rattle.bt_words.proofs.OneFront.{one_front}
@@ -37,8 +37,7 @@ put before now o xs e = ap (λ t. before ++ t) (in_front o xs) ∙ sym (append_a
 -- behind one argument, what comes of those that follow is what came of all
 adds_there : (before now g : Given) (a : Argument) (more : List Argument) → Adds before (a ∷ []) now → Adds before (a ∷ more) g → Adds now more g
 adds_there before now g a more one all = record {
-  property = sym (put (option_to_list before.property) (option_to_list now.property) (property_in a) (filter_map property_in more) one.property) ∙ all.property;
-  order = sym (put (option_to_list before.order) (option_to_list now.order) (order_in a) (filter_map order_in more) one.order) ∙ all.order;
+  places = sym (put (places_list before.places) (places_list now.places) (place_in a) (filter_map place_in more) one.places) ∙ all.places;
   chain = sym (put (option_to_list (mark before.chain)) (option_to_list (mark now.chain)) (chain_in a) (filter_map chain_in more) one.chain) ∙ all.chain;
   learnt = sym (put (option_to_list before.learnt) (option_to_list now.learnt) (learnt_in a) (filter_map learnt_in more) one.learnt) ∙ all.learnt;
   pivots = sym (put (option_to_list before.pivots) (option_to_list now.pivots) (pivots_in a) (filter_map pivots_in more) one.pivots) ∙ all.pivots;
@@ -48,12 +47,12 @@ adds_there before now g a more one all = record {
   from = sym (put (option_to_list before.from) (option_to_list now.from) (from_in a) (filter_map from_in more) one.from) ∙ all.from;
   found = sym (put (option_to_list (mark before.found)) (option_to_list (mark now.found)) (found_in a) (filter_map found_in more) one.found) ∙ all.found;
   sides = sym (put (option_to_list (mark before.sides)) (option_to_list (mark now.sides)) (sides_in a) (filter_map sides_in more) one.sides) ∙ all.sides;
+  request = sym (put (option_to_list (mark before.request)) (option_to_list (mark now.request)) (request_in a) (filter_map request_in more) one.request) ∙ all.request;
 }
 
 adds_back : (before now g : Given) (a : Argument) (more : List Argument) → Adds before (a ∷ []) now → Adds now more g → Adds before (a ∷ more) g
 adds_back before now g a more one rest = record {
-  property = put (option_to_list before.property) (option_to_list now.property) (property_in a) (filter_map property_in more) one.property ∙ rest.property;
-  order = put (option_to_list before.order) (option_to_list now.order) (order_in a) (filter_map order_in more) one.order ∙ rest.order;
+  places = put (places_list before.places) (places_list now.places) (place_in a) (filter_map place_in more) one.places ∙ rest.places;
   chain = put (option_to_list (mark before.chain)) (option_to_list (mark now.chain)) (chain_in a) (filter_map chain_in more) one.chain ∙ rest.chain;
   learnt = put (option_to_list before.learnt) (option_to_list now.learnt) (learnt_in a) (filter_map learnt_in more) one.learnt ∙ rest.learnt;
   pivots = put (option_to_list before.pivots) (option_to_list now.pivots) (pivots_in a) (filter_map pivots_in more) one.pivots ∙ rest.pivots;
@@ -63,12 +62,12 @@ adds_back before now g a more one rest = record {
   from = put (option_to_list before.from) (option_to_list now.from) (from_in a) (filter_map from_in more) one.from ∙ rest.from;
   found = put (option_to_list (mark before.found)) (option_to_list (mark now.found)) (found_in a) (filter_map found_in more) one.found ∙ rest.found;
   sides = put (option_to_list (mark before.sides)) (option_to_list (mark now.sides)) (sides_in a) (filter_map sides_in more) one.sides ∙ rest.sides;
+  request = put (option_to_list (mark before.request)) (option_to_list (mark now.request)) (request_in a) (filter_map request_in more) one.request ∙ rest.request;
 }
 
 adds_none : (before : Given) → Adds before [] before
 adds_none before = record {
-  property = append-nil (option_to_list before.property);
-  order = append-nil (option_to_list before.order);
+  places = append-nil (places_list before.places);
   chain = append-nil (option_to_list (mark before.chain));
   learnt = append-nil (option_to_list before.learnt);
   pivots = append-nil (option_to_list before.pivots);
@@ -78,16 +77,17 @@ adds_none before = record {
   from = append-nil (option_to_list before.from);
   found = append-nil (option_to_list (mark before.found));
   sides = append-nil (option_to_list (mark before.sides));
+  request = append-nil (option_to_list (mark before.request));
 }
 
 -- what is given, with nothing before it
 reads_all : (words : List (List ℕ)) (g : Given) → IsGiven g words → Reads nothing words g
 reads_all words g (arguments, are, gives) =
-    (arguments, are, record { property = gives.property; order = gives.order; chain = gives.chain; learnt = gives.learnt; pivots = gives.pivots; grid = gives.grid; tier = gives.tier; most = gives.most; from = gives.from; found = gives.found; sides = gives.sides })
+    (arguments, are, record { places = gives.places; chain = gives.chain; learnt = gives.learnt; pivots = gives.pivots; grid = gives.grid; tier = gives.tier; most = gives.most; from = gives.from; found = gives.found; sides = gives.sides; request = gives.request })
 
 all_read : (words : List (List ℕ)) (g : Given) → Reads nothing words g → IsGiven g words
 all_read words g (arguments, are, adds) =
-    (arguments, are, record { property = adds.property; order = adds.order; chain = adds.chain; learnt = adds.learnt; pivots = adds.pivots; grid = adds.grid; tier = adds.tier; most = adds.most; from = adds.from; found = adds.found; sides = adds.sides })
+    (arguments, are, record { places = adds.places; chain = adds.chain; learnt = adds.learnt; pivots = adds.pivots; grid = adds.grid; tier = adds.tier; most = adds.most; from = adds.from; found = adds.found; sides = adds.sides; request = adds.request })
 
 -- at the front all words are the rest
 pub leads_at_first : (words : List (List ℕ)) → LeadsTo words nothing words

@@ -1,12 +1,12 @@
 -- The arguments of a command, and how they are written behind its word.
 use Rattle.std.specs.Prelude.{◌≡◌, ℕ, ◌≤◌, ◌⊎◌, List, [], ◌∷◌, ◌++◌, codes, decimal}
-use Rattle.bt_flow.specs.Names.{property_name}
 use Rattle.bt_model.specs.Requests.{IsGrid}
 use Rattle.bt_parts.specs.declared.part.Rect.{Rect}
 use Rattle.bt_parts.specs.declared.part.Tier.{Tier}
 use Rattle.bt_parts.specs.declared.part.Tier.TheVariants.{Basic, Fast, Express, Turbo}
 use Rattle.bt_words.specs.declared.argument.Argument.{Argument}
-use Rattle.bt_words.specs.declared.argument.Argument.TheVariants.{Named, Order, Chain, Learnt, Pivots, Grid, OfTier, Most, From, Found, Sides}
+use Rattle.bt_words.specs.declared.argument.Argument.TheVariants.{Wished, Number, Chain, Learnt, Pivots, Grid, OfTier, Most, From, Found, Sides, Request}
+use Rattle.bt_wish.specs.Wishes.{IsWishWord}
 use Rattle.bt_words.specs.declared.argument.TheConstants.{MOST_ORDER, MOST_LEARNT, MOST_PIVOTS}
 
 -- the name of a tier
@@ -20,10 +20,11 @@ tier_name Turbo = codes "turbo"
 abbrev pub IsGridWord : Rect → List ℕ → Type 0
 IsGridWord grid word = IsGrid grid × (word ≡ decimal grid.width ++ 120 ∷ decimal grid.height)
 
--- the argument is this word for itself: a property's name, a whole number, `--chain`, `--found`, or `--sides`
+-- the argument is this word for itself: the names of properties, a whole number, `--chain`, `--found`, `--sides`, or
+-- `--request`
 abbrev pub IsPlain : Argument → List ℕ → Type 0
-IsPlain (Named p) word = word ≡ property_name p
-IsPlain (Order k) word = (k ≤ MOST_ORDER) × (word ≡ decimal k)
+IsPlain (Wished w) word = IsWishWord w word
+IsPlain (Number k) word = (k ≤ MOST_ORDER) × (word ≡ decimal k)
 IsPlain Chain word = word ≡ codes "--chain"
 IsPlain (Learnt n) word = ⊥
 IsPlain (Pivots n) word = ⊥
@@ -33,11 +34,12 @@ IsPlain (Most grid) word = ⊥
 IsPlain (From grid) word = ⊥
 IsPlain Found word = word ≡ codes "--found"
 IsPlain Sides word = word ≡ codes "--sides"
+IsPlain Request word = word ≡ codes "--request"
 
 -- the argument is the option of this name with this value: a whole number in its range, a grid, or the name of a tier
 abbrev pub IsValued : Argument → List ℕ → List ℕ → Type 0
-IsValued (Named p) name value = ⊥
-IsValued (Order k) name value = ⊥
+IsValued (Wished w) name value = ⊥
+IsValued (Number k) name value = ⊥
 IsValued Chain name value = ⊥
 IsValued (Learnt n) name value = (name ≡ codes "learnt") × (n ≤ MOST_LEARNT) × (value ≡ decimal n)
 IsValued (Pivots n) name value = (name ≡ codes "pivots") × (n ≤ MOST_PIVOTS) × (value ≡ decimal n)
@@ -47,6 +49,7 @@ IsValued (Most grid) name value = (name ≡ codes "most") × IsGridWord grid val
 IsValued (From grid) name value = (name ≡ codes "from") × IsGridWord grid value
 IsValued Found name value = ⊥
 IsValued Sides name value = ⊥
+IsValued Request name value = ⊥
 
 -- an option is written `--name value`, as two words, or `--name=value`
 abbrev pub IsOption : List ℕ → List ℕ → List (List ℕ) → Type 0

@@ -3,7 +3,7 @@ use Rattle.std.specs.Prelude.{ℕ, List, codes}
 use Rattle.bt_words.specs.declared.command.Command.{Command}
 use Rattle.bt_words.specs.declared.command.Command.TheVariants as command
 use Rattle.bt_words.specs.declared.verb.Verb.{Verb}
-use Rattle.bt_words.specs.declared.verb.Verb.TheVariants.{FlowCheck, Recover, Check, Decide, Make, Layout, CheckLayout, Smallest, Formula, Same, CheckSame}
+use Rattle.bt_words.specs.declared.verb.Verb.TheVariants.{FlowCheck, Recover, Check, Decide, Make, Layout, CheckLayout, Smallest, Formula, Same, CheckSame, Build}
 
 -- the word for a command
 abbrev pub verb_name : Verb → List ℕ
@@ -18,6 +18,7 @@ verb_name Smallest = codes "smallest"
 verb_name Formula = codes "formula"
 verb_name Same = codes "same"
 verb_name CheckSame = codes "check-same"
+verb_name Build = codes "build"
 
 -- which command it is
 abbrev pub verb_of : Command → Verb
@@ -34,3 +35,4 @@ verb_of (command.FlowFormula p) = Formula
 verb_of (command.PlaceFormula grid tier) = Formula
 verb_of (command.Same limits) = Same
 verb_of command.CheckSame = CheckSame
+verb_of (command.Build wish inputs outputs limits text) = Build

@@ -1,16 +1,16 @@
 //! Arguments: what stands behind a command's word.
 ghost use Rattle.std.specs.Prelude.{◌≡◌, ℕ, List, MatchOption, map, string_bytes};
 ghost use Rattle.bt_words.specs.Arguments.{IsPlain, IsValued};
-ghost use Rattle.bt_words.specs.inner.Reading.{BeginsWith};
+ghost use Rattle.bt_words.specs.inner.Reading.{BeginsWith, IsMark, IsPlaced};
 ghost use Rattle.bt_words.specs.declared.argument.Argument.{Argument as AnArgument};
 
 use crate::grid::{grid_of, tier_named};
 use crate::number::number_up_to;
-use bt_flow::Property;
 use bt_parts::{Rect, Tier};
 use bt_text::{after_word, split_once};
+use bt_wish::Wish;
 
-/// The most that an order may be: nine digits.
+/// The most that a number for itself may be: nine digits.
 pub const MOST_ORDER: u32 = 999_999_999;
 
 /// The most steps to which `--learnt` may limit a log.
@@ -22,10 +22,10 @@ pub const MOST_PIVOTS: u64 = 1_000_000_000;
 /// An argument of a command.
 #[derive(Clone, Copy)]
 pub enum Argument {
-    /// The name of a property.
-    Named(Property),
-    /// The order of a network that is made.
-    Order(u32),
+    /// The names of properties: one, or several that are joined by commas.
+    Wished(Wish),
+    /// A number: the order of a network that is made, or how many inputs or outputs one has that is built.
+    Number(u32),
     /// `--chain`: the network that is made is a chain.
     Chain,
     /// `--learnt`: the most steps of a log.
@@ -44,6 +44,8 @@ pub enum Argument {
     Found,
     /// `--sides`: ends stay at their sides.
     Sides,
+    /// `--request`: what is built is written as a request for a layout.
+    Request,
 }
 
 /// The argument at the front of the words, and the words behind it.
@@ -68,6 +70,16 @@ pub fn next_argument(words: &[String]) -> Option<(Argument, &[String])>
 fn plain(word: &str) -> Option<Argument>
     ensures { MatchOption result ((a : AnArgument) → IsPlain a word.now → ⊥) (λ a. IsPlain a word.now) }
 {
+    match mark(word) {
+        Some(argument) => Some(argument),
+        None => placed(word.as_bytes()),
+    }
+}
+
+/// The option without a value that a word is.
+fn mark(word: &str) -> Option<Argument>
+    ensures { MatchOption result ((a : AnArgument) → IsMark a word.now → ⊥) (λ a. IsMark a word.now) }
+{
     if word == "--chain" {
         return Some(Argument::Chain);
     }
@@ -77,11 +89,21 @@ fn plain(word: &str) -> Option<Argument>
     if word == "--sides" {
         return Some(Argument::Sides);
     }
-    if let Some(property) = Property::named(word) {
-        return Some(Argument::Named(property));
+    if word == "--request" {
+        return Some(Argument::Request);
     }
-    let order = number_up_to(u64::from(MOST_ORDER), word.as_bytes())?;
-    Some(Argument::Order(order as u32))
+    None
+}
+
+/// The properties or the number that a word is.
+fn placed(word: &[u8]) -> Option<Argument>
+    ensures { MatchOption result ((a : AnArgument) → IsPlaced a word.now → ⊥) (λ a. IsPlaced a word.now) }
+{
+    if let Some(wish) = Wish::named(word) {
+        return Some(Argument::Wished(wish));
+    }
+    let number = number_up_to(u64::from(MOST_ORDER), word)?;
+    Some(Argument::Number(number as u32))
 }
 
 /// The option of this name with this value.

@@ -3,19 +3,23 @@ ghost use Rattle.std.specs.Prelude.{◌≡◌, ℕ, List, MatchOption, map, stri
 ghost use Rattle.bt_words.specs.Verbs.{verb_of};
 ghost use Rattle.bt_words.specs.Commands.{IsCommand, IsUsage, Suits};
 ghost use Rattle.bt_words.specs.declared.command.Command.{Command as ACommand};
-ghost use Rattle.bt_words.specs.declared.verb.Verb.TheVariants.{Layout, CheckLayout, Smallest, Formula};
+ghost use Rattle.bt_words.specs.declared.verb.Verb.TheVariants.{Layout, CheckLayout, Smallest, Formula, Build};
 
 use crate::given::{Given, read_given};
 use crate::verb::Verb;
 use bt_cnf::Limits;
 use bt_flow::Property;
 use bt_parts::{Rect, Tier};
+use bt_wish::Wish;
 
 /// The most steps of a log, where the words don't say.
 pub const USUAL_LEARNT: u64 = 100_000;
 
 /// The most turns of one call, where the words don't say.
 pub const USUAL_PIVOTS: u64 = 100_000;
+
+/// The most cells each way of grids that are searched, where the words don't say.
+pub const USUAL_ACROSS: u32 = 16;
 
 /// The kinds of networks that are made.
 #[derive(Clone, Copy, PartialEq, Eq)]
@@ -31,6 +35,18 @@ pub enum AskedSides {
     Any,
     /// Those at which they stand in the design.
     Kept,
+}
+
+/// The most inputs and the most outputs of a network that is built.
+pub const MOST_LINES: u32 = 64;
+
+/// As what a network that is built is written.
+#[derive(Clone, Copy, PartialEq, Eq)]
+pub enum BuiltText {
+    /// As a network.
+    Network,
+    /// As a request for a layout, with its inputs side by side in the south and its outputs in the north.
+    Request,
 }
 
 /// A command of the program.
@@ -55,10 +71,10 @@ pub enum Command {
     /// way, on which parts of this tier, or of basic ones, show the network, found in at most so many steps of a log for
     /// each grid?
     Smallest(Option<Rect>, Rect, Option<Tier>, u64),
-    /// `smallest --found`: on which small grids, of at most so many cells each way and within the design's own
-    /// cells, do parts of this tier, or of the design's own, show the design's network, with its ends at these sides,
-    /// found in at most so many steps of all searches?
-    FindSmall(Rect, Option<Tier>, AskedSides, u64),
+    /// `smallest --found`: on which small grids, of at most so many cells each way where that is said, and within the
+    /// design's own cells, do parts of this tier, or of the design's own, show the design's network, with its ends at
+    /// these sides, found in at most so many steps of all searches?
+    FindSmall(Option<Rect>, Option<Tier>, AskedSides, u64),
     /// `formula`: which formula do the states meet in which the design hasn't the property?
     FlowFormula(Property),
     /// `formula`: which formula do the layouts meet of parts of this tier, or of the request's own, on this grid?
@@ -67,6 +83,9 @@ pub enum Command {
     Same(Limits),
     /// `check-same`: does the certificate show that they do, or that they don't?
     CheckSame,
+    /// `build`: which network of so many inputs and so many outputs, from 1 to `MOST_LINES` each, has each wished
+    /// property?
+    Build(Wish, u32, u32, Limits, BuiltText),
 }
 
 /// The command that the words are.
@@ -108,7 +127,18 @@ fn with_given(verb: Verb, given: Given) -> Option<Command>
         Verb::Same => None,
         Verb::CheckSame if given.is_nothing() => Some(Command::CheckSame),
         Verb::CheckSame => None,
+        Verb::Build => built(given),
     }
+}
+
+/// `build`, where what is given suits it.
+fn built(given: Given) -> Option<Command>
+    ensures { MatchOption result ((c : ACommand) → Build ≡ verb_of c → Suits c given → ⊥)
+        (λ c. (Build ≡ verb_of c) × Suits c given) }
+{
+    let counted = given.wish_and_counts()?;
+    let (wish, inputs, outputs) = counted;
+    Some(Command::Build(wish, inputs, outputs, given.limits(), given.built_text()))
 }
 
 /// `layout`, where what is given suits it.

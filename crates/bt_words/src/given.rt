@@ -1,26 +1,31 @@
 //! What is given behind a command's word, each argument at most once.
-ghost use Rattle.std.specs.Prelude.{◌≡◌, ℕ, IfSome, List, [], ◌∷◌, Some, MatchOption, map, string_bytes};
+ghost use Rattle.std.specs.Prelude.{◌≡◌, ℕ, IfSome, List, [], ◌∷◌, Option, Some, None, MatchOption, map, string_bytes};
 ghost use Rattle.std.specs.Prelude.{◌↔◌, IsTrue};
 ghost use Rattle.bt_flow.specs.declared.property.Property.{Property as AProperty};
 ghost use Rattle.bt_parts.specs.declared.part.Rect.{Rect as ARect};
-ghost use Rattle.bt_words.specs.Commands.{IsAmong, IsGiven, IsToDecide, IsToMake, IsToLay, IsToCheckLayout, IsToSearch, IsToFind, IsToCompare};
-ghost use Rattle.bt_words.specs.Commands.{are_kept, is_chain, limits_of, nothing};
-ghost use Rattle.bt_words.specs.inner.Reading.{Adds};
+ghost use Rattle.bt_words.specs.Commands.{HasFewCells, IsAmong, IsGiven, IsToDecide, IsToMake, IsToLay, IsToCheckLayout, IsToSearch, IsToFind, IsToCompare, IsToBuild, IsCount};
+ghost use Rattle.bt_words.specs.Commands.{are_kept, is_chain, is_request, limits_of, one_property, nothing};
+ghost use Rattle.bt_words.specs.inner.Reading.{Adds, IsFollowed};
 ghost use Rattle.bt_words.specs.declared.argument.Argument.{Argument as AnArgument};
+ghost use Rattle.bt_words.specs.declared.argument.Argument.TheVariants.{Wished, Number};
 ghost use Rattle.bt_words.specs.declared.given.Given.{Given as AGiven};
+ghost use Rattle.bt_words.specs.declared.given.Places.{Places as APlaces};
+ghost use Rattle.bt_wish.specs.declared.wish.Wish.{Wish as AWish};
 
 use crate::argument::{Argument, next_argument};
-use crate::command::{AskedSides, NetworkFamily, USUAL_LEARNT, USUAL_PIVOTS};
+use crate::command::{
+    AskedSides, BuiltText, MOST_LINES, NetworkFamily, USUAL_ACROSS, USUAL_LEARNT, USUAL_PIVOTS,
+};
 use bt_cnf::Limits;
 use bt_flow::Property;
-use bt_model::MOST_ACROSS;
+use bt_model::MOST_CELLS;
 use bt_parts::{Rect, Tier};
+use bt_wish::Wish;
 
 /// What is given behind a command's word.
 #[derive(Clone, Copy)]
 pub struct Given {
-    pub property: Option<Property>,
-    pub order: Option<u32>,
+    pub places: Places,
     pub chain: bool,
     pub learnt: Option<u64>,
     pub pivots: Option<u64>,
@@ -30,18 +35,29 @@ pub struct Given {
     pub from: Option<Rect>,
     pub found: bool,
     pub sides: bool,
+    pub request: bool,
 }
 
-/// The greatest grid.
-const GREATEST_GRID: Rect = Rect {
-    width: MOST_ACROSS,
-    height: MOST_ACROSS,
+/// The properties and the numbers that are given, which stand in an order of their own among options.
+#[derive(Clone, Copy)]
+pub enum Places {
+    Nothing,
+    Wish(Wish),
+    Number(u32),
+    WishAndNumber(Wish, u32),
+    /// Properties, and how many inputs and how many outputs.
+    Whole(Wish, u32, u32),
+}
+
+/// The greatest grid that is searched, where none is given.
+const USUAL_GRID: Rect = Rect {
+    width: USUAL_ACROSS,
+    height: USUAL_ACROSS,
 };
 
 /// Nothing is given.
 pub const NOTHING: Given = Given {
-    property: None,
-    order: None,
+    places: Places::Nothing,
     chain: false,
     learnt: None,
     pivots: None,
@@ -51,6 +67,7 @@ pub const NOTHING: Given = Given {
     from: None,
     found: false,
     sides: false,
+    request: false,
 };
 
 /// What the words behind a command's word give.
@@ -76,14 +93,8 @@ impl Given {
             (λ g. Adds self (argument ∷ []) g) }
     {
         match argument {
-            Argument::Named(property) if self.property.is_none() => Some(Given {
-                property: Some(property),
-                ..self
-            }),
-            Argument::Order(order) if self.order.is_none() => Some(Given {
-                order: Some(order),
-                ..self
-            }),
+            Argument::Wished(wish) => self.with_places(self.places.with_wish(wish)),
+            Argument::Number(number) => self.with_places(self.places.with_number(number)),
             Argument::Chain if !self.chain => Some(Given {
                 chain: true,
                 ..self
@@ -120,9 +131,61 @@ impl Given {
                 sides: true,
                 ..self
             }),
+            Argument::Request if !self.request => Some(Given {
+                request: true,
+                ..self
+            }),
             _ => None,
         }
     }
+}
+
+impl Given {
+    /// With other properties and numbers, where there are such.
+    fn with_places(self, places: Option<Places>) -> Option<Given>
+        ensures { MatchOption result (places ≡ None) (λ g. (p : APlaces) × (places ≡ Some p)
+            × (g ≡ record self { places = p })) }
+    {
+        match places {
+            Some(places) => Some(Given { places, ..self }),
+            None => None,
+        }
+    }
+}
+
+impl Places {
+    /// With properties behind what is given, where they may stand there.
+    fn with_wish(self, wish: Wish) -> Option<Places>
+        ensures { MatchOption result
+            ((more : List AnArgument) (p : APlaces) → IsFollowed self (Wished wish ∷ more) p → ⊥)
+            (λ p. IsFollowed self (Wished wish ∷ []) p) }
+    {
+        match self {
+            Places::Nothing => Some(Places::Wish(wish)),
+            _ => None,
+        }
+    }
+
+    /// With a number behind what is given, where it may stand there.
+    fn with_number(self, number: u32) -> Option<Places>
+        ensures { MatchOption result
+            ((more : List AnArgument) (p : APlaces) → IsFollowed self (Number number ∷ more) p → ⊥)
+            (λ p. IsFollowed self (Number number ∷ []) p) }
+    {
+        match self {
+            Places::Nothing => Some(Places::Number(number)),
+            Places::Wish(wish) => Some(Places::WishAndNumber(wish, number)),
+            Places::WishAndNumber(wish, inputs) => Some(Places::Whole(wish, inputs, number)),
+            Places::Number(_) | Places::Whole(..) => None,
+        }
+    }
+}
+
+/// Whether a network that is built may have so many inputs, or outputs.
+fn is_count(number: u32) -> bool
+    ensures { IsTrue result ↔ IsCount number }
+{
+    number >= 1 && number <= MOST_LINES
 }
 
 impl Given {
@@ -132,8 +195,7 @@ impl Given {
     {
         match self {
             Given {
-                property: None,
-                order: None,
+                places: Places::Nothing,
                 chain: false,
                 learnt: None,
                 pivots: None,
@@ -143,6 +205,7 @@ impl Given {
                 from: None,
                 found: false,
                 sides: false,
+                request: false,
             } => true,
             _ => false,
         }
@@ -154,8 +217,7 @@ impl Given {
     {
         match self {
             Given {
-                property: None,
-                order: None,
+                places: Places::Nothing,
                 chain: false,
                 grid: None,
                 tier: None,
@@ -163,6 +225,7 @@ impl Given {
                 from: None,
                 found: false,
                 sides: false,
+                request: false,
                 ..
             } => true,
             _ => false,
@@ -171,13 +234,12 @@ impl Given {
 
     /// The property, where it alone is given.
     pub fn only_property(self) -> Option<Property>
-        ensures { MatchOption result ((p : AProperty) → self ≡ record nothing { property = Some p } → ⊥)
-            (λ p. self ≡ record nothing { property = Some p }) }
+        ensures { MatchOption result ((p : AProperty) → self ≡ record nothing { places = one_property p } → ⊥)
+            (λ p. self ≡ record nothing { places = one_property p }) }
     {
         match self {
             Given {
-                property: Some(property),
-                order: None,
+                places: Places::Wish(wish),
                 chain: false,
                 learnt: None,
                 pivots: None,
@@ -187,7 +249,8 @@ impl Given {
                 from: None,
                 found: false,
                 sides: false,
-            } => Some(property),
+                request: false,
+            } => wish.single(),
             _ => None,
         }
     }
@@ -198,8 +261,7 @@ impl Given {
     {
         match self {
             Given {
-                property: Some(property),
-                order: None,
+                places: Places::Wish(wish),
                 chain: false,
                 grid: None,
                 tier: None,
@@ -207,28 +269,29 @@ impl Given {
                 from: None,
                 found: false,
                 sides: false,
+                request: false,
                 ..
-            } => Some(property),
+            } => wish.single(),
             _ => None,
         }
     }
 
-    /// The order, where no other is given but limits and which kind of network it is.
+    /// The order, where nothing else is given but limits and which kind of network it is.
     pub fn order_and_limits(self) -> Option<u32>
         ensures { MatchOption result ((k : ℕ) → IsToMake k self → ⊥) (λ k. IsToMake k self) }
     {
         match self {
             Given {
-                property: None,
-                order,
+                places: Places::Number(order),
                 grid: None,
                 tier: None,
                 most: None,
                 from: None,
                 found: false,
                 sides: false,
+                request: false,
                 ..
-            } => order,
+            } => Some(order),
             _ => None,
         }
     }
@@ -250,8 +313,7 @@ impl Given {
     {
         match self {
             Given {
-                property: None,
-                order: None,
+                places: Places::Nothing,
                 chain: false,
                 pivots: None,
                 grid,
@@ -259,6 +321,7 @@ impl Given {
                 from: None,
                 found: false,
                 sides: false,
+                request: false,
                 ..
             } => grid,
             _ => None,
@@ -272,8 +335,7 @@ impl Given {
     {
         match self {
             Given {
-                property: None,
-                order: None,
+                places: Places::Nothing,
                 chain: false,
                 learnt: None,
                 pivots: None,
@@ -282,6 +344,7 @@ impl Given {
                 from: None,
                 found: false,
                 sides: false,
+                request: false,
                 ..
             } => grid,
             _ => None,
@@ -289,14 +352,14 @@ impl Given {
     }
 
     /// The greatest grid that is searched, where nothing is given but it, the grid with which a search begins, which is
-    /// one of those up to it, the tier and the most steps of a log: the one that is given, or else the greatest of all.
+    /// one of those up to it, the tier and the most steps of a log: the one that is given, which has at most `MOST_CELLS`
+    /// cells, or else the usual one.
     pub fn most_to_search(self) -> Option<Rect>
         ensures { MatchOption result ((r : ARect) → IsToSearch r self → ⊥) (λ r. IsToSearch r self) }
     {
         match self {
             Given {
-                property: None,
-                order: None,
+                places: Places::Nothing,
                 chain: false,
                 pivots: None,
                 grid: None,
@@ -304,28 +367,30 @@ impl Given {
                 from,
                 found: false,
                 sides: false,
+                request: false,
                 ..
-            } => most_from(most.unwrap_or(GREATEST_GRID), from),
+            } => most_from(most.unwrap_or(USUAL_GRID), from),
             _ => None,
         }
     }
 
-    /// The same where `--found` is given too, and no grid with which a search begins.
-    pub fn most_to_find(self) -> Option<Rect>
-        ensures { MatchOption result ((r : ARect) → IsToFind r self → ⊥) (λ r. IsToFind r self) }
+    /// The greatest grid, where one is given, where `--found` is, and no grid with which a search begins.
+    pub fn most_to_find(self) -> Option<Option<Rect>>
+        ensures { MatchOption result ((most : Option ARect) → IsToFind most self → ⊥)
+            (λ most. IsToFind most self) }
     {
         match self {
             Given {
-                property: None,
-                order: None,
+                places: Places::Nothing,
                 chain: false,
                 pivots: None,
                 grid: None,
                 most,
                 from: None,
                 found: true,
+                request: false,
                 ..
-            } => Some(most.unwrap_or(GREATEST_GRID)),
+            } => Some(most),
             _ => None,
         }
     }
@@ -341,6 +406,39 @@ impl Given {
         }
     }
 
+    /// The properties and the numbers of inputs and outputs, where nothing else is given but limits and as what the network
+    /// is written.
+    pub fn wish_and_counts(self) -> Option<(Wish, u32, u32)>
+        ensures { MatchOption result
+            ((w : AWish) (i o : ℕ) → IsToBuild w i o self → ⊥) (λ r. IsToBuild r.0 r.1 r.2 self) }
+    {
+        match self {
+            Given {
+                places: Places::Whole(wish, inputs, outputs),
+                chain: false,
+                grid: None,
+                tier: None,
+                most: None,
+                from: None,
+                found: false,
+                sides: false,
+                ..
+            } if is_count(inputs) && is_count(outputs) => Some((wish, inputs, outputs)),
+            _ => None,
+        }
+    }
+
+    /// As what a network that is built is written.
+    pub fn built_text(self) -> BuiltText
+        ensures { is_request result ≡ self.request }
+    {
+        if self.request {
+            BuiltText::Request
+        } else {
+            BuiltText::Network
+        }
+    }
+
     /// The limits that are given, or else the usual ones.
     pub fn limits(self) -> Limits
         ensures { result ≡ limits_of self }
@@ -352,11 +450,15 @@ impl Given {
     }
 }
 
-/// The greatest grid, where the one with which a search begins is among those up to it.
+/// The greatest grid, where it has at most `MOST_CELLS` cells and the one with which a search begins is among those up to
+/// it.
 fn most_from(most: Rect, from: Option<Rect>) -> Option<Rect>
-    ensures { MatchOption result (IfSome from (IsAmong most) → ⊥)
-        (λ r. (r ≡ most) × IfSome from (IsAmong most)) }
+    ensures { MatchOption result (HasFewCells most → IfSome from (IsAmong most) → ⊥)
+        (λ r. (r ≡ most) × HasFewCells most × IfSome from (IsAmong most)) }
 {
+    if u64::from(most.width) * u64::from(most.height) > u64::from(MOST_CELLS) {
+        return None;
+    }
     match from {
         Some(grid) if grid.width > most.width || grid.height > most.height => None,
         _ => Some(most),

@@ -16,6 +16,7 @@ pub enum Verb {
     Formula,
     Same,
     CheckSame,
+    Build,
 }
 
 impl Verb {
@@ -35,6 +36,7 @@ impl Verb {
             "formula" => Some(Verb::Formula),
             "same" => Some(Verb::Same),
             "check-same" => Some(Verb::CheckSame),
+            "build" => Some(Verb::Build),
             _ => None,
         }
     }

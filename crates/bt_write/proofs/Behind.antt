@@ -27,5 +27,5 @@ pub number_and_name : (a n b p s q : List ℕ) → a ++ n ++ b ++ p ++ s ++ q �
 number_and_name a n b p s q = simp append_assoc
 
 -- the members of an entity, with what stands before it
-pub entity_parts : (c n m p d t : List ℕ) → c ++ (n ++ m) ++ p ++ (d ++ t) ≡ c ++ (n ++ m ++ p ++ d ++ t)
-entity_parts c n m p d t = simp append_assoc
+pub entity_parts : (c n m p d k t : List ℕ) → c ++ (n ++ m) ++ p ++ d ++ k ++ t ≡ c ++ (n ++ m ++ p ++ d ++ k ++ t)
+entity_parts c n m p d k t = simp append_assoc

@@ -4,6 +4,8 @@ use Rattle.std.specs.List.{enumerate_from, join_with_byte}
 use Rattle.std.proofs.lemmas.Bool.{ne_eqb}
 use Rattle.std.proofs.lemmas.List.{take_more, take_all, length-take-le, length-map, get_or-map}
 use Rattle.std.proofs.lemmas.List.FromFn.{length-enumerate_from, get_or-enumerate_from}
+use Rattle.bt_hands.specs.declared.hand.Priority.{Priority}
+use Rattle.bt_hands.specs.Hands.{priority_of}
 use Rattle.bt_parts.specs.declared.part.Part.{Part}
 use Rattle.bt_write.specs.declared.version.Version.{Version}
 use Rattle.bt_write.specs.Written.{entity_text, entity_texts, comma_before}
@@ -24,29 +26,31 @@ join_more (y ∷ []) x = refl
 join_more (y ∷ z ∷ zs) x =
     ap (λ t. y ++ (44 ∷ t)) (join_more (z ∷ zs) x) ∙ sym (append_assoc y (44 ∷ join_with_byte 44 (z ∷ zs)) (44 ∷ x))
 
--- of blueprints in one version
-module _ (version : Version) where
-  count_of : (parts : List Part) → length (entity_texts version parts) ≡ length parts
-  count_of parts = length-map (enumerate_from 1 parts) (λ numbered. entity_text version numbered.0 numbered.1) ∙ length-enumerate_from 1 parts
+-- of blueprints in one version, with these priorities
+module _ (version : Version) (priorities : List Priority) where
+  abbrev numbered_text : ℕ × Part → List ℕ
+  numbered_text numbered = entity_text version (numbered.0 + 1) numbered.1 (priority_of priorities numbered.0)
+
+  count_of : (parts : List Part) → length (entity_texts version parts priorities) ≡ length parts
+  count_of parts = length-map (enumerate_from 0 parts) numbered_text ∙ length-enumerate_from 0 parts
 
   -- the entity with an index
-  entity_at : (parts : List Part) (i : ℕ) (d : Part) (e : List ℕ) → i < length parts → get_or (entity_texts version parts) i e ≡ entity_text version (i + 1) (get_or parts i d)
+  entity_at : (parts : List Part) (i : ℕ) (d : Part) (e : List ℕ) → i < length parts → get_or (entity_texts version parts priorities) i e ≡ entity_text version (i + 1) (get_or parts i d) (priority_of priorities i)
   entity_at parts i d e inside =
-      let numbered : i < length (enumerate_from 1 parts) = omega (arith, inside, length-enumerate_from 1 parts) in
-      let number : 1 + i ≡ i + 1 = omega arith in
-      get_or-map (λ numbered. entity_text version numbered.0 numbered.1) (enumerate_from 1 parts) i (0, d) e numbered
-      ∙ ap (λ numbered. entity_text version numbered.0 numbered.1) (get_or-enumerate_from 1 parts i (0, d) inside)
-      ∙ ap (λ n. entity_text version n (get_or parts i d)) number
+      let numbered : i < length (enumerate_from 0 parts) = omega (arith, inside, length-enumerate_from 0 parts) in
+      get_or-map numbered_text (enumerate_from 0 parts) i (0, d) e numbered
+      ∙ ap numbered_text (get_or-enumerate_from 0 parts i (0, d) inside)
+      ∙ ap (λ n. numbered_text (n, get_or parts i d)) (let counted : 0 + i ≡ i = omega arith in counted)
 
   -- one entity more behind a front
-  pub entity_pushed : (parts : List Part) (i : ℕ) (d : Part) (front now next : List ℕ) → i < length parts → now ≡ front ++ join_with_byte 44 (take i (entity_texts version parts))
-      → next ≡ now ++ (comma_before i ++ entity_text version (i + 1) (get_or parts i d)) → next ≡ front ++ join_with_byte 44 (take (i + 1) (entity_texts version parts))
+  pub entity_pushed : (parts : List Part) (i : ℕ) (d : Part) (front now next : List ℕ) → i < length parts → now ≡ front ++ join_with_byte 44 (take i (entity_texts version parts priorities))
+      → next ≡ now ++ (comma_before i ++ entity_text version (i + 1) (get_or parts i d) (priority_of priorities i)) → next ≡ front ++ join_with_byte 44 (take (i + 1) (entity_texts version parts priorities))
   entity_pushed parts i d front now next inside so_far is =
-      let es = entity_texts version parts in
+      let es = entity_texts version parts priorities in
       let among : i < length es = omega (arith, inside, count_of parts) in
       let within : i ≤ length es = omega (arith, among) in
       let before = join_with_byte 44 (take i es) in
-      let x = entity_text version (i + 1) (get_or parts i d) in
+      let x = entity_text version (i + 1) (get_or parts i d) (priority_of priorities i) in
       is ∙ ap (λ t. t ++ (comma_before i ++ x)) so_far ∙ append_assoc front before (comma_before i ++ x)
       ∙ ap (λ t. front ++ t)
       (ap (λ c. before ++ (c ++ x)) (sym (comma_is i (take i es) (length-take-le i es within)))
@@ -55,5 +59,5 @@ module _ (version : Version) where
       ∙ ap (join_with_byte 44) (sym (take_more es i [] among)))
 
   -- all entities stand there
-  pub all_pushed : (parts : List Part) (i : ℕ) → length parts ≤ i → take i (entity_texts version parts) ≡ entity_texts version parts
-  all_pushed parts i ended = take_all i (entity_texts version parts) (omega (arith, ended, count_of parts))
+  pub all_pushed : (parts : List Part) (i : ℕ) → length parts ≤ i → take i (entity_texts version parts priorities) ≡ entity_texts version parts priorities
+  all_pushed parts i ended = take_all i (entity_texts version parts priorities) (omega (arith, ended, count_of parts))

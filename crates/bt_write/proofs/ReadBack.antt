@@ -1,6 +1,6 @@
 -- What is written of parts is JSON text of a value that is a blueprint of these parts.
-use Rattle.std.proofs.Common.{◌≡◌, ℕ, zero, suc, ◌+◌, ◌*◌, ◌/◌, ◌%◌, ◌^◌, ◌<◌, ◌≤◌, Bool, true, false, List, [], ◌∷◌, ◌++◌, length, drop, map, refl, sym, ◌∙◌, ap, subst, inl, inr, lit<, arith, append_assoc, length-append, All}
-use Rattle.std.specs.Prelude.{ℤ, pos, negsuc, ◌+ℤ◌, ◌-ℤ◌, ◌*ℤ◌, unsigned_abs, ◌==◌, if◌then◌else◌, codes, decimal, min, slice_get, Some, None, Ok, Contains}
+use Rattle.std.proofs.Common.{◌≡◌, ◌≢◌, ℕ, zero, suc, ◌+◌, ◌*◌, ◌/◌, ◌%◌, ◌^◌, ◌<◌, ◌≤◌, Bool, true, false, List, [], ◌∷◌, ◌++◌, length, drop, map, refl, sym, ◌∙◌, ap, subst, inl, inr, lit<, arith, append_assoc, length-append, All}
+use Rattle.std.specs.Prelude.{ℤ, pos, negsuc, ◌+ℤ◌, ◌-ℤ◌, ◌*ℤ◌, unsigned_abs, ◌==◌, if◌then◌else◌, codes, decimal, min, slice_get, Option, Some, None, Ok, Contains}
 use Rattle.std.specs.List.{enumerate_from, join_with_byte, list_all}
 use Rattle.std.specs.Int.Digits.{number_from_digits}
 use Rattle.std.proofs.lemmas.Bool.{false≢true}
@@ -23,7 +23,10 @@ use Rattle.bt_json.specs.inner.Reading.{has_name}
 use Rattle.bt_json.proofs.Joins.{join}
 use Rattle.bt_json.proofs.Digits.{number_append}
 use Rattle.bt_json.proofs.Kept.{named_there}
+use Rattle.bt_hands.specs.declared.hand.Hand.{Hand}
+use Rattle.bt_hands.specs.declared.hand.Hand.TheVariants.{Left, Right}
 use Rattle.bt_hands.specs.declared.hand.Priority.{Priority}
+use Rattle.bt_hands.specs.Hands.{no_priority, priority_of}
 use Rattle.bt_parts.specs.declared.part.Dir.{Dir}
 use Rattle.bt_parts.specs.declared.part.Dir.TheVariants.{North, East, South, West}
 use Rattle.bt_parts.specs.declared.part.Kind.{Kind}
@@ -34,17 +37,17 @@ use Rattle.bt_parts.specs.declared.part.Tier.TheVariants.{Basic, Fast, Express, 
 use Rattle.bt_entities.specs.declared.name.EntityFamily.{EntityFamily}
 use Rattle.bt_entities.specs.declared.name.EntityFamily.TheVariants.{Belts, Undergrounds, Splitters}
 use Rattle.bt_entities.specs.declared.blueprint.TheConstants.{MOST_ENTITIES}
-use Rattle.bt_entities.specs.Members.{IsWhole}
+use Rattle.bt_entities.specs.Members.{IsWhole, Lacks}
 use Rattle.bt_entities.specs.Names.{name_of}
 use Rattle.bt_entities.specs.Places.{width_of, height_of, IsMiddle}
-use Rattle.bt_entities.specs.Entities.{HasKind, HasDirection, direction_value, IsHalves, IsPlaced, HasPriority, IsPlain, IsEntity, special_in_layouts}
-use Rattle.bt_entities.specs.Blueprints.{AreParts, IsBlueprintOf, IsVersion}
-use Rattle.bt_entities.proofs.Placed.{plain_layout}
+use Rattle.bt_entities.specs.Entities.{HasKind, HasDirection, direction_value, IsHalves, IsPlaced, HasPriority, IsPlain, IsEntity, special_in_designs, Prefers, HasFamily}
+use Rattle.bt_entities.specs.Blueprints.{AreParts, ArePriorities, IsBlueprint, IsBlueprintOf, HavePriorities, IsVersion}
+use Rattle.bt_entities.proofs.Unique.{lacks_or_has}
 use Rattle.bt_entities.proofs.Whole.{all_in_range}
 use Rattle.bt_write.specs.declared.version.Version.{Version}
 use Rattle.bt_write.specs.declared.version.Version.TheVariants.{Older, Newer}
-use Rattle.bt_write.specs.Written.{family_of, half_text, halves_text, twice_middle, end_text, entity_text, blueprint_text, major_of, type_member, version_digits, version_for}
-use Rattle.bt_write.specs.ReadBack.{HasCentreInRange, WrittenIsRead}
+use Rattle.bt_write.specs.Written.{number_member, name_member, position_member, direction_member, hand_text, hand_member, priority_members, family_of, half_text, halves_text, twice_middle, end_text, entity_text, blueprint_text, major_of, type_member, version_digits, version_for}
+use Rattle.bt_write.specs.ReadBack.{HasCentreInRange, SplittersPrefer, all_priorities, WrittenIsRead}
 use Rattle.bt_write.proofs.CompactJson.{is_simple, quoted, simple_text, values, value_after, number_by, number_spelled, no_more_members, more_member, first_member, no_more_items, more_item, first_item, empty_list}
 
 -- ---- numbers
@@ -110,6 +113,21 @@ type_members Entrance = member (codes "type") (text (codes "input")) no_members
 type_members Exit = member (codes "type") (text (codes "output")) no_members
 type_members Splitter = no_members
 
+-- a member of this name for the hand that is preferred, where one is
+abbrev hand_members : List ℕ → Option Hand → Members → Members
+hand_members name None rest = rest
+hand_members name (Some hand) rest = member name (text (hand_text hand)) rest
+
+-- of a splitter what it prefers, and of an underground piece its type
+abbrev tail_members : Kind → Priority → Members
+tail_members Belt priority = no_members
+tail_members Entrance priority = type_members Entrance
+tail_members Exit priority = type_members Exit
+tail_members Splitter priority = hand_members (codes "input_priority") priority.take (hand_members (codes "output_priority") priority.give no_members)
+
+abbrev tail_text : Kind → Priority → List ℕ
+tail_text kind priority = priority_members kind priority ++ type_member kind
+
 abbrev position_json : Part → Json
 position_json p = object (member (codes "x") (number (halves_number (twice_middle p.cell.x (width_of p.kind p.dir)))) (member (codes "y") (number (halves_number (twice_middle p.cell.y (height_of p.kind p.dir)))) no_members))
 
@@ -132,6 +150,26 @@ type_spelled Belt = no_more_members
 type_spelled Entrance = more_member (codes "type") (text (codes "input")) no_members (quoted (codes "type")) (quoted (codes "input")) (125 ∷ []) (simple_text (codes "type") refl) (simple_text (codes "input") refl) no_more_members
 type_spelled Exit = more_member (codes "type") (text (codes "output")) no_members (quoted (codes "type")) (quoted (codes "output")) (125 ∷ []) (simple_text (codes "type") refl) (simple_text (codes "output") refl) no_more_members
 type_spelled Splitter = no_more_members
+
+input_spelled : (hand : Option Hand) (rest : Members) (t : List ℕ) → MoreMembers rest t → MoreMembers (hand_members (codes "input_priority") hand rest) (hand_member (codes "input_priority") hand ++ t)
+input_spelled None rest t more = more
+input_spelled (Some Left) rest t more = more_member (codes "input_priority") (text (codes "left")) rest (quoted (codes "input_priority")) (quoted (codes "left")) t (simple_text (codes "input_priority") refl) (simple_text (codes "left") refl) more
+input_spelled (Some Right) rest t more = more_member (codes "input_priority") (text (codes "right")) rest (quoted (codes "input_priority")) (quoted (codes "right")) t (simple_text (codes "input_priority") refl) (simple_text (codes "right") refl) more
+
+output_spelled : (hand : Option Hand) (rest : Members) (t : List ℕ) → MoreMembers rest t → MoreMembers (hand_members (codes "output_priority") hand rest) (hand_member (codes "output_priority") hand ++ t)
+output_spelled None rest t more = more
+output_spelled (Some Left) rest t more = more_member (codes "output_priority") (text (codes "left")) rest (quoted (codes "output_priority")) (quoted (codes "left")) t (simple_text (codes "output_priority") refl) (simple_text (codes "left") refl) more
+output_spelled (Some Right) rest t more = more_member (codes "output_priority") (text (codes "right")) rest (quoted (codes "output_priority")) (quoted (codes "right")) t (simple_text (codes "output_priority") refl) (simple_text (codes "right") refl) more
+
+tail_spelled : (k : Kind) (priority : Priority) → MoreMembers (tail_members k priority) (tail_text k priority)
+tail_spelled Belt priority = type_spelled Belt
+tail_spelled Entrance priority = type_spelled Entrance
+tail_spelled Exit priority = type_spelled Exit
+tail_spelled Splitter priority =
+    let takes = hand_member (codes "input_priority") priority.take in
+    let gives = hand_member (codes "output_priority") priority.give in
+    subst (MoreMembers (tail_members Splitter priority)) (sym (append_assoc takes gives (codes "}")))
+    (input_spelled priority.take (hand_members (codes "output_priority") priority.give no_members) (gives ++ codes "}") (output_spelled priority.give no_members (codes "}") no_more_members))
 
 abbrev position_text : List ℕ → List ℕ → List ℕ
 position_text x y = 123 ∷ (quoted (codes "x") ++ 58 ∷ (x ++ 44 ∷ (quoted (codes "y") ++ 58 ∷ (y ++ 125 ∷ []))))
@@ -177,49 +215,88 @@ entity_of number_is direction name position types d x y k t is_number simple is_
 abbrev Numbered : Type 0
 Numbered = ℕ × Part
 
+-- splitters alone prefer anything
+abbrev MayPrefer : Part → Priority → Type 0
+MayPrefer p priority = p.kind ≢ Splitter → priority ≡ no_priority
+
 -- each has a number that can be written and a centre in range
 abbrev CanBeWritten : List Numbered → Type 0
 CanBeWritten [] = Unit {0}
-CanBeWritten (x ∷ xs) = (x.0 < 10 ^ 64) × HasCentreInRange x.1 × CanBeWritten xs
+CanBeWritten (x ∷ xs) = (x.0 + 1 < 10 ^ 64) × HasCentreInRange x.1 × CanBeWritten xs
 
 can_all : (n : ℕ) (parts : List Part) → n + length parts < 10 ^ 64 → All HasCentreInRange parts → CanBeWritten (enumerate_from n parts)
 can_all n [] small near = tt
 can_all n (p ∷ ps) small near = (omega arith, All-head HasCentreInRange p ps near, can_all (n + 1) ps (omega arith) (All-tail HasCentreInRange p ps near))
 
-type_flat : (k : Kind) → members_depth (type_members k) ≡ 0
-type_flat Belt = refl
-type_flat Entrance = refl
-type_flat Exit = refl
-type_flat Splitter = refl
+hands_flat : (takes gives : Option Hand) → members_depth (hand_members (codes "input_priority") takes (hand_members (codes "output_priority") gives no_members)) ≡ 0
+hands_flat None None = refl
+hands_flat None (Some gives) = refl
+hands_flat (Some takes) None = refl
+hands_flat (Some takes) (Some gives) = refl
+
+tail_flat : (k : Kind) (priority : Priority) → members_depth (tail_members k priority) ≡ 0
+tail_flat Belt priority = refl
+tail_flat Entrance priority = refl
+tail_flat Exit priority = refl
+tail_flat Splitter priority = hands_flat priority.take priority.give
 
 unnamed : (names : List (List ℕ)) (n : List ℕ) → has_name names n ≡ false → Contains names n → ⊥
 unnamed names n e c = false≢true (sym e ∙ named_there names n c)
 
-type_names : (k : Kind) → AreNew (codes "entity_number" ∷ codes "name" ∷ codes "position" ∷ codes "direction" ∷ []) (type_members k)
-type_names Belt = tt
-type_names Entrance = (unnamed (codes "entity_number" ∷ codes "name" ∷ codes "position" ∷ codes "direction" ∷ []) (codes "type") refl, tt, tt)
-type_names Exit = (unnamed (codes "entity_number" ∷ codes "name" ∷ codes "position" ∷ codes "direction" ∷ []) (codes "type") refl, tt, tt)
-type_names Splitter = tt
+abbrev first_names : List (List ℕ)
+first_names = codes "entity_number" ∷ codes "name" ∷ codes "position" ∷ codes "direction" ∷ []
+
+hands_names : (takes gives : Option Hand) → AreNew first_names (hand_members (codes "input_priority") takes (hand_members (codes "output_priority") gives no_members))
+hands_names None None = tt
+hands_names None (Some gives) = (unnamed first_names (codes "output_priority") refl, tt, tt)
+hands_names (Some takes) None = (unnamed first_names (codes "input_priority") refl, tt, tt)
+hands_names (Some takes) (Some gives) = (unnamed first_names (codes "input_priority") refl, tt, (unnamed (first_names ++ codes "input_priority" ∷ []) (codes "output_priority") refl, tt, tt))
+
+tail_names : (k : Kind) (priority : Priority) → AreNew first_names (tail_members k priority)
+tail_names Belt priority = tt
+tail_names Entrance priority = (unnamed first_names (codes "type") refl, tt, tt)
+tail_names Exit priority = (unnamed first_names (codes "type") refl, tt, tt)
+tail_names Splitter priority = hands_names priority.take priority.give
 
 middle : (z : ℤ) (size : ℕ) → IsMiddle (twice_middle z size) size 0 z
 middle z size = ap (λ s. (pos 2 *ℤ z) +ℤ pos s) (omega arith)
 
--- an entity has no member that no layout has
-record LacksAll (members : Members) : Type 0 where
-  input : value_at members (codes "input_priority") ≡ None
-  output : value_at members (codes "output_priority") ≡ None
+-- an entity that has neither of the members that may not be special in a design is plain there
+plain_design : (v : Json) → Lacks v (codes "control_behavior") → Lacks v (codes "filter") → IsPlain special_in_designs v
+plain_design v a b m (inl h) = let has = h.0 in lacks_or_has v (codes "control_behavior") has.0 a has.1
+plain_design v a b m (inr (first_fails, inl h)) = let has = h.0 in lacks_or_has v (codes "filter") has.0 b has.1
+plain_design v a b m (inr (first_fails, inr (none, h))) = h
+
+-- the members have the one of this name exactly where a hand is preferred
+abbrev Holds : Members → List ℕ → Option Hand → Type 0
+Holds members name None = value_at members name ≡ None
+Holds members name (Some hand) = value_at members name ≡ Some (text (hand_text hand))
+
+-- an entity has what it prefers, and no member that no design has
+record Tells (members : Members) (priority : Priority) : Type 0 where
+  input : Holds members (codes "input_priority") priority.take
+  output : Holds members (codes "output_priority") priority.give
   condition : value_at members (codes "control_behavior") ≡ None
   filter : value_at members (codes "filter") ≡ None
 
-type_lacks : (k : Kind) → LacksAll (type_members k)
-type_lacks Belt = record { input = refl; output = refl; condition = refl; filter = refl }
-type_lacks Entrance = record { input = refl; output = refl; condition = refl; filter = refl }
-type_lacks Exit = record { input = refl; output = refl; condition = refl; filter = refl }
-type_lacks Splitter = record { input = refl; output = refl; condition = refl; filter = refl }
+hands_tell : (takes gives : Option Hand) → Tells (tail_members Splitter (record { give = gives; take = takes })) (record { give = gives; take = takes })
+hands_tell None None = record { input = refl; output = refl; condition = refl; filter = refl }
+hands_tell None (Some gives) = record { input = refl; output = refl; condition = refl; filter = refl }
+hands_tell (Some takes) None = record { input = refl; output = refl; condition = refl; filter = refl }
+hands_tell (Some takes) (Some gives) = record { input = refl; output = refl; condition = refl; filter = refl }
 
--- it prefers no side
-abbrev even : Priority
-even = record { give = None; take = None }
+none_tells : (k : Kind) → (k ≡ Splitter → ⊥) → Tells (tail_members k no_priority) no_priority
+none_tells Belt other = record { input = refl; output = refl; condition = refl; filter = refl }
+none_tells Entrance other = record { input = refl; output = refl; condition = refl; filter = refl }
+none_tells Exit other = record { input = refl; output = refl; condition = refl; filter = refl }
+none_tells Splitter other = absurd (other refl)
+
+-- that of a splitter, or of a part that prefers nothing
+tail_tells : (k : Kind) (priority : Priority) → (k ≢ Splitter → priority ≡ no_priority) → Tells (tail_members k priority) priority
+tail_tells Belt priority may = let other : Belt ≢ Splitter = λ e. cc in subst (λ q. Tells (tail_members Belt q) q) (sym (may other)) (none_tells Belt other)
+tail_tells Entrance priority may = let other : Entrance ≢ Splitter = λ e. cc in subst (λ q. Tells (tail_members Entrance q) q) (sym (may other)) (none_tells Entrance other)
+tail_tells Exit priority may = let other : Exit ≢ Splitter = λ e. cc in subst (λ q. Tells (tail_members Exit q) q) (sym (may other)) (none_tells Exit other)
+tail_tells Splitter priority may = hands_tell priority.take priority.give
 
 -- ---- versions
 
@@ -268,24 +345,25 @@ text_of_version version all = 123 ∷ (quoted (codes "blueprint") ++ 58 ∷ ((12
 
 -- ---- entities, and the whole
 
-module _ (version : Version) where
-  abbrev entity_json : ℕ → Part → Json
-  entity_json n p = object (member (codes "entity_number") (number (natural n)) (member (codes "name") (text (name_of (family_of p.kind) p.tier)) (member (codes "position") (position_json p)
-      (member (codes "direction") (number (natural (direction_value (major_of version) p.dir))) (type_members p.kind)))))
+module _ (version : Version) (priorities : List Priority) where
+  abbrev entity_json : ℕ → Part → Priority → Json
+  entity_json n p priority = object (member (codes "entity_number") (number (natural n)) (member (codes "name") (text (name_of (family_of p.kind) p.tier)) (member (codes "position") (position_json p)
+      (member (codes "direction") (number (natural (direction_value (major_of version) p.dir))) (tail_members p.kind priority)))))
 
-  entity_spelled : (n : ℕ) (p : Part) → n < 10 ^ 64 → HasCentreInRange p → IsValue (entity_json n p) (entity_text version n p)
-  entity_spelled n p small near =
+  entity_spelled : (n : ℕ) (p : Part) (priority : Priority) → n < 10 ^ 64 → HasCentreInRange p → IsValue (entity_json n p priority) (entity_text version n p priority)
+  entity_spelled n p priority small near =
       let x = twice_middle p.cell.x (width_of p.kind p.dir) in
       let y = twice_middle p.cell.y (height_of p.kind p.dir) in
-      entity_of (natural n) (natural (direction_value (major_of version) p.dir)) (name_of (family_of p.kind) p.tier) (position_json p) (type_members p.kind) (decimal n) (halves_text x) (halves_text y) (decimal (direction_value (major_of version) p.dir)) (type_member p.kind)
+      subst (IsValue (entity_json n p priority)) (sym (append_assoc (number_member n ++ name_member p ++ position_member p ++ direction_member version p) (priority_members p.kind priority) (type_member p.kind)))
+      (entity_of (natural n) (natural (direction_value (major_of version) p.dir)) (name_of (family_of p.kind) p.tier) (position_json p) (tail_members p.kind priority) (decimal n) (halves_text x) (halves_text y) (decimal (direction_value (major_of version) p.dir)) (tail_text p.kind priority)
       (natural_spelled n small) (name_simple (family_of p.kind) p.tier) (position_spelled (halves_number x) (halves_number y) (halves_text x) (halves_text y) (halves_spelled x near.0) (halves_spelled y near.1))
-      (natural_spelled (direction_value (major_of version) p.dir) (direction_small version p.dir)) (type_spelled p.kind)
+      (natural_spelled (direction_value (major_of version) p.dir) (direction_small version p.dir)) (tail_spelled p.kind priority))
 
   abbrev numbered_text : Numbered → List ℕ
-  numbered_text numbered = entity_text version numbered.0 numbered.1
+  numbered_text numbered = entity_text version (numbered.0 + 1) numbered.1 (priority_of priorities numbered.0)
 
   abbrev numbered_json : Numbered → Json
-  numbered_json numbered = entity_json numbered.0 numbered.1
+  numbered_json numbered = entity_json (numbered.0 + 1) numbered.1 (priority_of priorities numbered.0)
 
   abbrev more_text : List Numbered → List ℕ
   more_text [] = 93 ∷ []
@@ -297,12 +375,12 @@ module _ (version : Version) where
 
   more_spelled : (xs : List Numbered) → CanBeWritten xs → MoreItems (items_of (map numbered_json xs)) (more_text xs)
   more_spelled [] can = no_more_items
-  more_spelled (x ∷ xs) can = more_item (numbered_json x) (items_of (map numbered_json xs)) (numbered_text x) (more_text xs) (entity_spelled x.0 x.1 can.0 can.1) (more_spelled xs can.2)
+  more_spelled (x ∷ xs) can = more_item (numbered_json x) (items_of (map numbered_json xs)) (numbered_text x) (more_text xs) (entity_spelled (x.0 + 1) x.1 (priority_of priorities x.0) can.0 can.1) (more_spelled xs can.2)
 
   list_spelled : (xs : List Numbered) → CanBeWritten xs → IsValue (list (items_of (map numbered_json xs))) (91 ∷ (join_with_byte 44 (map numbered_text xs) ++ 93 ∷ []))
   list_spelled [] can = empty_list
   list_spelled (x ∷ xs) can = subst (λ t. IsValue (list (items_of (map numbered_json (x ∷ xs)))) (91 ∷ t)) (sym (joined x xs))
-      (first_item (numbered_json x) (items_of (map numbered_json xs)) (numbered_text x) (more_text xs) (entity_spelled x.0 x.1 can.0 can.1) (more_spelled xs can.2))
+      (first_item (numbered_json x) (items_of (map numbered_json xs)) (numbered_text x) (more_text xs) (entity_spelled (x.0 + 1) x.1 (priority_of priorities x.0) can.0 can.1) (more_spelled xs can.2))
 
   abbrev blueprint_json : List Json → Json
   blueprint_json entities = object (member (codes "item") (text (codes "blueprint")) (member (codes "entities") (list (items_of entities)) (member (codes "version") (number (version_number version)) no_members)))
@@ -333,15 +411,15 @@ module _ (version : Version) where
       by Older = simp append_assoc
       by Newer = simp append_assoc
 
-  entity_depth : (n : ℕ) (p : Part) → depth_of (entity_json n p) ≤ 2
-  entity_depth n p = omega (arith, type_flat p.kind)
+  entity_depth : (n : ℕ) (p : Part) (priority : Priority) → depth_of (entity_json n p priority) ≤ 2
+  entity_depth n p priority = omega (arith, tail_flat p.kind priority)
 
   entities_depth : (xs : List Numbered) → items_depth (items_of (map numbered_json xs)) ≤ 2
   entities_depth [] = omega arith
-  entities_depth (x ∷ xs) = omega (arith, entity_depth x.0 x.1, entities_depth xs)
+  entities_depth (x ∷ xs) = omega (arith, entity_depth (x.0 + 1) x.1 (priority_of priorities x.0), entities_depth xs)
 
-  entity_names : (n : ℕ) (p : Part) → HasDistinctNames (entity_json n p)
-  entity_names n p = (
+  entity_names : (n : ℕ) (p : Part) (priority : Priority) → HasDistinctNames (entity_json n p priority)
+  entity_names n p priority = (
     unnamed [] (codes "entity_number") refl,
     tt,
     (
@@ -350,33 +428,33 @@ module _ (version : Version) where
       (
         unnamed (codes "entity_number" ∷ codes "name" ∷ []) (codes "position") refl,
         (unnamed [] (codes "x") refl, tt, (unnamed (codes "x" ∷ []) (codes "y") refl, tt, tt)),
-        (unnamed (codes "entity_number" ∷ codes "name" ∷ codes "position" ∷ []) (codes "direction") refl, tt, type_names p.kind),
+        (unnamed (codes "entity_number" ∷ codes "name" ∷ codes "position" ∷ []) (codes "direction") refl, tt, tail_names p.kind priority),
       ),
     ),
   )
 
   entities_names : (xs : List Numbered) → ItemsHaveDistinctNames (items_of (map numbered_json xs))
   entities_names [] = tt
-  entities_names (x ∷ xs) = (entity_names x.0 x.1, entities_names xs)
+  entities_names (x ∷ xs) = (entity_names (x.0 + 1) x.1 (priority_of priorities x.0), entities_names xs)
 
   root_names : (xs : List Numbered) → HasDistinctNames (root_json (map numbered_json xs))
   root_names xs = (unnamed [] (codes "blueprint") refl, (unnamed [] (codes "item") refl, tt, (unnamed (codes "item" ∷ []) (codes "entities") refl, entities_names xs, (unnamed (codes "item" ∷ codes "entities" ∷ []) (codes "version") refl, tt, tt))), tt)
 
-  family_kind : (n : ℕ) (p : Part) (k : Kind) → p.kind ≡ k → HasKind (entity_json n p) k
-  family_kind n p Belt is = (p.tier, ap (λ k. Some (text (name_of (family_of k) p.tier))) is)
-  family_kind n p Entrance is = ((p.tier, ap (λ k. Some (text (name_of (family_of k) p.tier))) is), ap (λ k. value_at (type_members k) (codes "type")) is)
-  family_kind n p Exit is = ((p.tier, ap (λ k. Some (text (name_of (family_of k) p.tier))) is), ap (λ k. value_at (type_members k) (codes "type")) is)
-  family_kind n p Splitter is = (p.tier, ap (λ k. Some (text (name_of (family_of k) p.tier))) is)
+  family_kind : (n : ℕ) (p : Part) (priority : Priority) (k : Kind) → p.kind ≡ k → HasKind (entity_json n p priority) k
+  family_kind n p priority Belt is = (p.tier, ap (λ k. Some (text (name_of (family_of k) p.tier))) is)
+  family_kind n p priority Entrance is = ((p.tier, ap (λ k. Some (text (name_of (family_of k) p.tier))) is), ap (λ k. value_at (tail_members k priority) (codes "type")) is)
+  family_kind n p priority Exit is = ((p.tier, ap (λ k. Some (text (name_of (family_of k) p.tier))) is), ap (λ k. value_at (tail_members k priority) (codes "type")) is)
+  family_kind n p priority Splitter is = (p.tier, ap (λ k. Some (text (name_of (family_of k) p.tier))) is)
 
-  entity_dir : (n : ℕ) (p : Part) → HasDirection (major_of version) (entity_json n p) p.dir
-  entity_dir n p = inr (number (natural (direction_value (major_of version) p.dir)), refl, natural_is (direction_value (major_of version) p.dir) (direction_small version p.dir))
+  entity_dir : (n : ℕ) (p : Part) (priority : Priority) → HasDirection (major_of version) (entity_json n p priority) p.dir
+  entity_dir n p priority = inr (number (natural (direction_value (major_of version) p.dir)), refl, natural_is (direction_value (major_of version) p.dir) (direction_small version p.dir))
 
-  entity_placed : (n : ℕ) (p : Part) → HasCentreInRange p → IsPlaced (major_of version) (record { x = 0; y = 0 }) (entity_json n p) p.cell
-  entity_placed n p near = record {
+  entity_placed : (n : ℕ) (p : Part) (priority : Priority) → HasCentreInRange p → IsPlaced (major_of version) (record { x = 0; y = 0 }) (entity_json n p priority) p.cell
+  entity_placed n p priority near = record {
     kind = p.kind;
-    has_kind = family_kind n p p.kind refl;
+    has_kind = family_kind n p priority p.kind refl;
     dir = p.dir;
-    has_dir = entity_dir n p;
+    has_dir = entity_dir n p priority;
     x = halves_number (twice_middle p.cell.x (width_of p.kind p.dir));
     y = halves_number (twice_middle p.cell.y (height_of p.kind p.dir));
     has_position = record { position = position_json p; is_there = refl; has_x = refl; has_y = refl };
@@ -388,81 +466,135 @@ module _ (version : Version) where
     middle_y = middle p.cell.y (height_of p.kind p.dir);
   }
 
-  entity_even : (n : ℕ) (p : Part) → HasPriority (entity_json n p) even
-  entity_even n p = let lacks = type_lacks p.kind in record { gives = λ f. inl lacks.output; takes = λ f. inl lacks.input }
+  -- a part that prefers something is a splitter
+  is_splitter : (n : ℕ) (p : Part) (priority : Priority) (k : Kind) → p.kind ≡ k → (k ≢ Splitter → ⊥) → HasFamily (entity_json n p priority) Splitters
+  is_splitter n p priority Belt is never = absurd (never (λ e. cc))
+  is_splitter n p priority Entrance is never = absurd (never (λ e. cc))
+  is_splitter n p priority Exit is never = absurd (never (λ e. cc))
+  is_splitter n p priority Splitter is never = family_kind n p priority Splitter is
 
-  entity_plain : (n : ℕ) (p : Part) → IsPlain special_in_layouts (entity_json n p)
-  entity_plain n p = let lacks = type_lacks p.kind in plain_layout (entity_json n p) even lacks.condition lacks.filter refl refl (entity_even n p)
+  gives_of : (n : ℕ) (p : Part) (priority : Priority) (give : Option Hand) → priority.give ≡ give → MayPrefer p priority → Holds (tail_members p.kind priority) (codes "output_priority") give → Prefers (entity_json n p priority) (codes "output_priority") give
+  gives_of n p priority None is may holds = λ family. inl holds
+  gives_of n p priority (Some hand) is may holds =
+      (is_splitter n p priority p.kind refl (λ other. none-some hand (sym (ap (λ (q : Priority). q.give) (may other)) ∙ is)), holds)
 
-  entity_is : (m n : ℕ) (first p : Part) → HasCentreInRange first → HasCentreInRange p → IsEntity special_in_layouts (major_of version) (entity_json m first) (entity_json n p) p
-  entity_is m n first p near_first near = record {
-    has_kind = family_kind n p p.kind refl;
+  takes_of : (n : ℕ) (p : Part) (priority : Priority) (take : Option Hand) → priority.take ≡ take → MayPrefer p priority → Holds (tail_members p.kind priority) (codes "input_priority") take → Prefers (entity_json n p priority) (codes "input_priority") take
+  takes_of n p priority None is may holds = λ family. inl holds
+  takes_of n p priority (Some hand) is may holds =
+      (is_splitter n p priority p.kind refl (λ other. none-some hand (sym (ap (λ (q : Priority). q.take) (may other)) ∙ is)), holds)
+
+  entity_prefers : (n : ℕ) (p : Part) (priority : Priority) → MayPrefer p priority → HasPriority (entity_json n p priority) priority
+  entity_prefers n p priority may =
+      let tells = tail_tells p.kind priority may in
+      record { gives = gives_of n p priority priority.give refl may tells.output; takes = takes_of n p priority priority.take refl may tells.input }
+
+  entity_plain : (n : ℕ) (p : Part) (priority : Priority) → MayPrefer p priority → IsPlain special_in_designs (entity_json n p priority)
+  entity_plain n p priority may = let tells = tail_tells p.kind priority may in plain_design (entity_json n p priority) tells.condition tells.filter
+
+  entity_is : (m n : ℕ) (first p : Part) (before priority : Priority) → HasCentreInRange first → HasCentreInRange p → MayPrefer p priority → IsEntity special_in_designs (major_of version) (entity_json m first before) (entity_json n p priority) p
+  entity_is m n first p before priority near_first near may = record {
+    has_kind = family_kind n p priority p.kind refl;
     has_tier = (family_of p.kind, refl);
-    has_dir = entity_dir n p;
+    has_dir = entity_dir n p priority;
     in_cell = record {
       shift = record { x = 0; y = 0 };
-      sets = record { small_x = omega arith; small_y = omega arith; cell = first.cell; placed = entity_placed m first near_first };
-      placed = entity_placed n p near;
+      sets = record { small_x = omega arith; small_y = omega arith; cell = first.cell; placed = entity_placed m first before near_first };
+      placed = entity_placed n p priority near;
     };
-    priority = even;
-    has_priority = entity_even n p;
-    plain = entity_plain n p;
+    priority = priority;
+    has_priority = entity_prefers n p priority may;
+    plain = entity_plain n p priority may;
   }
 
-  entity_there : (n : ℕ) (parts : List Part) (i : ℕ) (v : Json) → slice_get (map numbered_json (enumerate_from n parts)) i ≡ Some v → (p : Part) × (slice_get parts i ≡ Some p) × (v ≡ entity_json (n + i) p)
+  entity_there : (n : ℕ) (parts : List Part) (i : ℕ) (v : Json) → slice_get (map numbered_json (enumerate_from n parts)) i ≡ Some v → (p : Part) × (slice_get parts i ≡ Some p) × (v ≡ numbered_json (n + i, p))
   entity_there n [] i v is = absurd (none-some v is)
-  entity_there n (p ∷ ps) zero v is = (p, refl, sym (same_Some (entity_json n p) v is) ∙ ap (λ k. entity_json k p) (omega arith))
+  entity_there n (p ∷ ps) zero v is = (p, refl, sym (same_Some (numbered_json (n, p)) v is) ∙ ap (λ k. numbered_json (k, p)) (omega arith))
   entity_there n (p ∷ ps) (suc i) v is =
       let on = entity_there (n + 1) ps i v is in
-      (on.0, on.1, on.2 ∙ ap (λ k. entity_json k on.0) (omega arith))
+      (on.0, on.1, on.2 ∙ ap (λ k. numbered_json (k, on.0)) (omega arith))
 
-  parts_are : (parts : List Part) → All HasCentreInRange parts → AreParts special_in_layouts (major_of version) (map numbered_json (enumerate_from 1 parts)) parts
-  parts_are parts near = record {
-    same_length = sym (length-map (enumerate_from 1 parts) numbered_json ∙ length-enumerate_from 1 parts);
-    each = λ first v part i is_first is_v is_part.
-        let a = entity_there 1 parts 0 first is_first in
-        let b = entity_there 1 parts i v is_v in
-        let same = same_Some b.0 part (sym b.1 ∙ is_part) in
-        let near_of : (j : ℕ) (p : Part) → slice_get parts j ≡ Some p → HasCentreInRange p = λ j p h. subst HasCentreInRange (get_or_from_slice_get parts j p p h) (near j p (slice_get_within parts j p h)) in
-        subst (λ p. IsEntity special_in_layouts (major_of version) first v p) same (subst (λ w. IsEntity special_in_layouts (major_of version) first w b.0) (sym b.2) (subst (λ w. IsEntity special_in_layouts (major_of version) w (entity_json (1 + i) b.0) b.0) (sym a.2)
-        (entity_is (1 + 0) (1 + i) a.0 b.0 (near_of 0 a.0 a.1) (near_of i b.0 b.1))));
-  }
+  abbrev priority_at : Numbered → Priority
+  priority_at numbered = priority_of priorities numbered.0
 
-  blueprint_of : (parts : List Part) → length parts ≤ MOST_ENTITIES → All HasCentreInRange parts → IsBlueprintOf special_in_layouts (root_json (map numbered_json (enumerate_from 1 parts))) parts
-  blueprint_of parts few near = record {
-    major = major_of version;
-    entities = map numbered_json (enumerate_from 1 parts);
+  priority_there : (n : ℕ) (parts : List Part) (i : ℕ) (q : Priority) → slice_get (map priority_at (enumerate_from n parts)) i ≡ Some q → q ≡ priority_of priorities (n + i)
+  priority_there n [] i q is = absurd (none-some q is)
+  priority_there n (p ∷ ps) zero q is = sym (same_Some (priority_of priorities n) q is) ∙ ap (priority_of priorities) (omega arith)
+  priority_there n (p ∷ ps) (suc i) q is = priority_there (n + 1) ps i q is ∙ ap (priority_of priorities) (omega arith)
+
+  module _ (parts : List Part) (near : All HasCentreInRange parts) (may : SplittersPrefer parts priorities) where
+    abbrev entities : List Json
+    entities = map numbered_json (enumerate_from 0 parts)
+
+    near_of : (j : ℕ) (p : Part) → slice_get parts j ≡ Some p → HasCentreInRange p
+    near_of j p h = subst HasCentreInRange (get_or_from_slice_get parts j p p h) (near j p (slice_get_within parts j p h))
+
+    -- what the part with this index prefers
+    may_of : (i : ℕ) (p : Part) → slice_get parts i ≡ Some p → MayPrefer p (priority_of priorities (0 + i))
+    may_of i p h = subst (λ k. MayPrefer p (priority_of priorities k)) (let counted : i ≡ 0 + i = omega arith in counted) (may i p h)
+
+    parts_are : AreParts special_in_designs (major_of version) entities parts
+    parts_are = record {
+      same_length = sym (length-map (enumerate_from 0 parts) numbered_json ∙ length-enumerate_from 0 parts);
+      each = λ first v part i is_first is_v is_part.
+          let a = entity_there 0 parts 0 first is_first in
+          let b = entity_there 0 parts i v is_v in
+          let same = same_Some b.0 part (sym b.1 ∙ is_part) in
+          subst (λ p. IsEntity special_in_designs (major_of version) first v p) same (subst (λ w. IsEntity special_in_designs (major_of version) first w b.0) (sym b.2) (subst (λ w. IsEntity special_in_designs (major_of version) w (numbered_json (0 + i, b.0)) b.0) (sym a.2)
+          (entity_is (0 + 0 + 1) (0 + i + 1) a.0 b.0 (priority_of priorities (0 + 0)) (priority_of priorities (0 + i)) (near_of 0 a.0 a.1) (near_of i b.0 b.1) (may_of i b.0 b.1))));
+    }
+
+    priorities_are : ArePriorities entities (all_priorities parts priorities)
+    priorities_are = record {
+      same_length = length-map (enumerate_from 0 parts) priority_at ∙ sym (length-map (enumerate_from 0 parts) numbered_json);
+      each = λ v priority i is_v is_priority.
+          let b = entity_there 0 parts i v is_v in
+          subst (λ q. HasPriority v q) (sym (priority_there 0 parts i priority is_priority)) (subst (λ w. HasPriority w (priority_of priorities (0 + i))) (sym b.2)
+          (entity_prefers (0 + i + 1) b.0 (priority_of priorities (0 + i)) (may_of i b.0 b.1)));
+    }
+
+    is_blueprint : IsBlueprint (root_json entities) (major_of version) entities
     is_blueprint = record {
-      blueprint = blueprint_json (map numbered_json (enumerate_from 1 parts));
+      blueprint = blueprint_json entities;
       is_there = refl;
       is_object = (_, refl);
       has_major = inr (number (version_number version), refl, has_version version);
       has_entities = inr refl;
-    };
-    few = omega (arith, few, length-map (enumerate_from 1 parts) numbered_json, length-enumerate_from 1 parts);
-    are_parts = parts_are parts near;
-  }
+    }
+
+    blueprint_of : length parts ≤ MOST_ENTITIES → IsBlueprintOf special_in_designs (root_json entities) parts
+    blueprint_of few = record {
+      major = major_of version;
+      entities = entities;
+      is_blueprint = is_blueprint;
+      few = omega (arith, few, length-map (enumerate_from 0 parts) numbered_json, length-enumerate_from 0 parts);
+      are_parts = parts_are;
+    }
+
+    has_priorities : HavePriorities (root_json entities) (all_priorities parts priorities)
+    has_priorities = record { major = major_of version; entities = entities; is_blueprint = is_blueprint; are_priorities = priorities_are }
 
 pub written_read : WrittenIsRead
-written_read parts few near =
+written_read parts priorities few near may =
     let version = version_for parts in
-    let xs = enumerate_from 1 parts in
-    let all = join_with_byte 44 (map (numbered_text version) xs) in
-    let is : blueprint_text parts ≡ root_text version all ++ 10 ∷ [] = whole_text version all in
-    let blueprint = blueprint_of version parts few near in
+    let xs = enumerate_from 0 parts in
+    let all = join_with_byte 44 (map (numbered_text version priorities) xs) in
+    let root = root_json version priorities (map (numbered_json version priorities) xs) in
+    let whole = root_text version priorities all in
+    let is : blueprint_text parts priorities ≡ whole ++ 10 ∷ [] = whole_text version priorities all in
+    let blueprint = blueprint_of version priorities parts near may few in
     record {
-      root = root_json version (map (numbered_json version) xs);
-      used = length (root_text version all);
-      is_json = subst (λ t. IsRead t (Ok (root_json version (map (numbered_json version) xs), length (root_text version all)))) (sym is) (record {
+      root = root;
+      used = length whole;
+      is_json = subst (λ t. IsRead t (Ok (root, length whole))) (sym is) (record {
         front = record {
-          within = omega (arith, length-append (root_text version all) (10 ∷ []));
-          spelled = subst (Blanks ▸ IsValue (root_json version (map (numbered_json version) xs))) (sym (take-append_seam (root_text version all) (10 ∷ [])))
-              (join [] (root_text version all) tt (root_spelled version (map (numbered_json version) xs) all (list_spelled version xs (can_all 1 parts (omega (arith, few)) near))));
+          within = omega (arith, length-append whole (10 ∷ []));
+          spelled = subst (Blanks ▸ IsValue root) (sym (take-append_seam whole (10 ∷ [])))
+              (join [] whole tt (root_spelled version priorities (map (numbered_json version priorities) xs) all (list_spelled version priorities xs (can_all 0 parts (omega (arith, few)) near))));
           ends = tt;
         };
-        shallow = omega (arith, entities_depth version xs);
-        distinct = root_names version xs;
+        shallow = omega (arith, entities_depth version priorities xs);
+        distinct = root_names version priorities xs;
       });
-      line_feed = ap (drop (length (root_text version all))) is ∙ drop-append_seam (root_text version all) (10 ∷ []);
-      is_parts = (blueprint, all_in_range special_in_layouts _ parts blueprint);
+      line_feed = ap (drop (length whole)) is ∙ drop-append_seam whole (10 ∷ []);
+      is_parts = (blueprint, has_priorities version priorities parts near may, all_in_range special_in_designs _ parts blueprint);
     }

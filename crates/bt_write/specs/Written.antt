@@ -1,6 +1,10 @@
--- The one text of a list of parts as a blueprint.
-use Rattle.std.specs.Prelude.{ℕ, ◌+◌, ◌/◌, ◌%◌, ◌==◌, ℤ, pos, negsuc, ◌+ℤ◌, ◌*ℤ◌, Bool, true, false, List, [], ◌++◌, map, codes, decimal, if◌then◌else◌}
+-- The one text of a list of parts with their priorities as a blueprint.
+use Rattle.std.specs.Prelude.{ℕ, ◌+◌, ◌/◌, ◌%◌, ◌==◌, ℤ, pos, negsuc, ◌+ℤ◌, ◌*ℤ◌, Bool, true, false, List, [], ◌++◌, map, Option, Some, None, codes, decimal, if◌then◌else◌}
 use Rattle.std.specs.List.{enumerate_from, join_with_byte, list_any}
+use Rattle.bt_hands.specs.declared.hand.Hand.{Hand}
+use Rattle.bt_hands.specs.declared.hand.Hand.TheVariants.{Left, Right}
+use Rattle.bt_hands.specs.declared.hand.Priority.{Priority}
+use Rattle.bt_hands.specs.Hands.{priority_of}
 use Rattle.bt_parts.specs.declared.part.Kind.{Kind}
 use Rattle.bt_parts.specs.declared.part.Kind.TheVariants.{Belt, Entrance, Exit, Splitter}
 use Rattle.bt_parts.specs.declared.part.Part.{Part}
@@ -74,6 +78,23 @@ version_for parts = if list_any is_turbo parts then Newer else Older
 abbrev pub direction_member : Version → Part → List ℕ
 direction_member version p = codes ",\"direction\":" ++ decimal (direction_value (major_of version) p.dir)
 
+-- the word for a hand
+abbrev pub hand_text : Hand → List ℕ
+hand_text Left = codes "left"
+hand_text Right = codes "right"
+
+-- a member of this name for the hand that is preferred, where one is
+abbrev pub hand_member : List ℕ → Option Hand → List ℕ
+hand_member name None = []
+hand_member name (Some hand) = codes ",\"" ++ name ++ codes "\":\"" ++ hand_text hand ++ codes "\""
+
+-- of a splitter from which side it takes first, and to which it gives first, where it does
+abbrev pub priority_members : Kind → Priority → List ℕ
+priority_members Belt priority = []
+priority_members Entrance priority = []
+priority_members Exit priority = []
+priority_members Splitter priority = hand_member (codes "input_priority") priority.take ++ hand_member (codes "output_priority") priority.give
+
 -- of an underground piece whether items come in or go out there, and the end of the entity
 abbrev pub type_member : Kind → List ℕ
 type_member Belt = codes "}"
@@ -81,13 +102,14 @@ type_member Entrance = codes ",\"type\":\"input\"}"
 type_member Exit = codes ",\"type\":\"output\"}"
 type_member Splitter = codes "}"
 
--- the entity of a part
-abbrev pub entity_text : Version → ℕ → Part → List ℕ
-entity_text version n p = number_member n ++ name_member p ++ position_member p ++ direction_member version p ++ type_member p.kind
+-- the entity of a part that prefers this
+abbrev pub entity_text : Version → ℕ → Part → Priority → List ℕ
+entity_text version n p priority =
+    number_member n ++ name_member p ++ position_member p ++ direction_member version p ++ priority_members p.kind priority ++ type_member p.kind
 
 -- the entities of parts, which are numbered from 1 in their order
-abbrev pub entity_texts : Version → List Part → List (List ℕ)
-entity_texts version parts = map (λ numbered. entity_text version numbered.0 numbered.1) (enumerate_from 1 parts)
+abbrev pub entity_texts : Version → List Part → List Priority → List (List ℕ)
+entity_texts version parts priorities = map (λ numbered. entity_text version (numbered.0 + 1) numbered.1 (priority_of priorities numbered.0)) (enumerate_from 0 parts)
 
 -- what stands before the entity with this index: a comma, but for the first
 abbrev pub comma_before : ℕ → List ℕ
@@ -98,9 +120,9 @@ abbrev pub end_text : Version → List ℕ
 end_text version = codes "],\"version\":" ++ version_digits version ++ codes "}}\n"
 
 -- the blueprint of the parts in a version, with a comma between two entities
-abbrev pub text_in : Version → List Part → List ℕ
-text_in version parts = codes "{\"blueprint\":{\"item\":\"blueprint\",\"entities\":[" ++ join_with_byte 44 (entity_texts version parts) ++ end_text version
+abbrev pub text_in : Version → List Part → List Priority → List ℕ
+text_in version parts priorities = codes "{\"blueprint\":{\"item\":\"blueprint\",\"entities\":[" ++ join_with_byte 44 (entity_texts version parts priorities) ++ end_text version
 
--- the blueprint of the parts, in the version that has them all
-abbrev pub blueprint_text : List Part → List ℕ
-blueprint_text parts = text_in (version_for parts) parts
+-- the blueprint of the parts with these priorities, in the version that has them all
+abbrev pub blueprint_text : List Part → List Priority → List ℕ
+blueprint_text parts priorities = text_in (version_for parts) parts priorities

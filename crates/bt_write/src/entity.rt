@@ -1,31 +1,36 @@
 //! One entity of a blueprint's text, member by member.
-ghost use Rattle.std.specs.Prelude.{◌≡◌, ◌≤◌, ◌<◌, ◌+◌, ◌^◌, ◌++◌, OnOk};
+ghost use Rattle.std.specs.Prelude.{◌≡◌, ◌≤◌, ◌<◌, ◌+◌, ◌^◌, ◌++◌, OnOk, Some};
 ghost use Rattle.bt_entities.specs.Names.{prefix_of, stem_of};
 ghost use Rattle.bt_entities.specs.Places.{width_of, height_of};
 ghost use Rattle.bt_write.specs.Written.{family_of, comma_before, number_member, name_member};
 ghost use Rattle.bt_write.specs.Written.{twice_middle, halves_text};
 ghost use Rattle.bt_write.specs.Written.{position_member, direction_member, type_member, entity_text};
+ghost use Rattle.bt_write.specs.Written.{hand_member, hand_text, priority_members};
 
 use crate::number::{middle, push_halves, push_number};
 use crate::version::Version;
+use bt_hands::{Hand, Priority};
 use bt_parts::{Dir, Kind, Part, Tier};
 use std::alloc::AllocError;
 
-/// Adds the entity of the part with this index, behind a comma where it isn't the first.
+/// Adds the entity of the part with this index, which prefers this, behind a comma where it isn't the first.
 pub fn push_entity(
     text: &mut Vec<u8>,
     version: Version,
     index: usize,
     part: Part,
+    priority: Priority,
 ) -> Result<(), AllocError>
     requires { index + 1 < 2 ^ 64 }
-    ensures { OnOk result
-        (text.new.items ≡ text.old.items ++ (comma_before index ++ entity_text version (index + 1) part)) }
+    ensures { OnOk result (text.new.items
+        ≡ text.old.items ++ (comma_before index ++ entity_text version (index + 1) part priority)) }
 {
     push_comma(text, index)?;
     push_head(text, index + 1, part)?;
     push_position(text, part)?;
     push_turn(text, version, part)?;
+    push_priority(text, part.kind, priority)?;
+    text.extend_from_slice(type_and_end(part.kind))?;
     Ok(())
 }
 
@@ -94,15 +99,59 @@ fn centre_y(part: Part) -> i64
     middle(part.cell.y, height(part.kind, part.dir))
 }
 
-/// Adds the members for the direction and the type, and the end of the entity.
+/// Adds the member for the direction.
 fn push_turn(text: &mut Vec<u8>, version: Version, part: Part) -> Result<(), AllocError>
-    ensures { OnOk result
-        (text.new.items ≡ text.old.items ++ (direction_member version part ++ type_member part.kind)) }
+    ensures { OnOk result (text.new.items ≡ text.old.items ++ direction_member version part) }
 {
     text.extend_from_slice(b",\"direction\":")?;
     push_number(text, version.direction(part.dir))?;
-    text.extend_from_slice(type_and_end(part.kind))?;
     Ok(())
+}
+
+/// Adds the members for the hands that a splitter prefers, where it prefers any.
+fn push_priority(text: &mut Vec<u8>, kind: Kind, priority: Priority) -> Result<(), AllocError>
+    ensures { OnOk result (text.new.items ≡ text.old.items ++ priority_members kind priority) }
+{
+    match kind {
+        Kind::Belt | Kind::Entrance | Kind::Exit => Ok(()),
+        Kind::Splitter => {
+            push_hand(text, b"input_priority", priority.take)?;
+            push_hand(text, b"output_priority", priority.give)?;
+            Ok(())
+        }
+    }
+}
+
+/// Adds the member of this name for the hand that is preferred, where one is.
+fn push_hand(text: &mut Vec<u8>, name: &[u8], hand: Option<Hand>) -> Result<(), AllocError>
+    ensures { OnOk result (text.new.items ≡ text.old.items ++ hand_member name.now hand) }
+{
+    match hand {
+        Some(hand) => push_some_hand(text, name, hand),
+        None => Ok(()),
+    }
+}
+
+/// Adds the member of this name for a hand.
+fn push_some_hand(text: &mut Vec<u8>, name: &[u8], hand: Hand) -> Result<(), AllocError>
+    ensures { OnOk result (text.new.items ≡ text.old.items ++ hand_member name.now (Some hand)) }
+{
+    text.extend_from_slice(b",\"")?;
+    text.extend_from_slice(name)?;
+    text.extend_from_slice(b"\":\"")?;
+    text.extend_from_slice(hand_word(hand))?;
+    text.extend_from_slice(b"\"")?;
+    Ok(())
+}
+
+/// The word for a hand.
+fn hand_word(hand: Hand) -> &'static [u8]
+    ensures { result.now ≡ hand_text hand }
+{
+    match hand {
+        Hand::Left => b"left",
+        Hand::Right => b"right",
+    }
 }
 
 /// What a tier's names begin with (Factorio Wiki, belt transport system).

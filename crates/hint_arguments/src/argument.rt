@@ -5,8 +5,9 @@ use bt_cnf::Formula;
 use bt_extend::{Definition, Goal};
 use bt_flow::Property;
 use bt_net::Net;
-use hint_averages::add_unlimited;
+use hint_averages::{add_even, add_fair, add_through, add_unlimited};
 use hint_differences::{add_looping, pairing_of};
+use hint_graphs::has_no_preference;
 use hint_scopes::{Aim, Line, scopes_of, scopes_of_both};
 use std::alloc::{AllocError, Global};
 
@@ -43,12 +44,35 @@ fn extend(
     formula: &Formula,
     line: &mut Line,
 ) -> Result<(), AllocError> {
+    if is_universal(alloc, net, property, formula, line)? {
+        return Ok(());
+    }
     match property {
         Property::Balanced => add_looping(alloc, net, formula, line, false),
         Property::DrawnEvenly => add_looping(alloc, net, formula, line, true),
         Property::Unlimited => add_unlimited(alloc, net, formula, line),
         Property::Full => add_lacking(alloc, net, formula, line),
         Property::Fair | Property::DrawnFairly => Ok(()),
+    }
+}
+
+/// Adds to a line what a network with spare ends that lead back needs, and tells whether it is one.
+fn is_universal(
+    alloc: Global,
+    net: &Net,
+    property: Property,
+    formula: &Formula,
+    line: &mut Line,
+) -> Result<bool, AllocError> {
+    if has_no_preference(net) {
+        return Ok(false);
+    }
+    match property {
+        Property::Balanced => add_even(alloc, net, formula, line, false),
+        Property::DrawnEvenly => add_even(alloc, net, formula, line, true),
+        Property::Unlimited | Property::Full => add_through(alloc, net, formula, line),
+        Property::Fair => add_fair(alloc, net, formula, line, false),
+        Property::DrawnFairly => add_fair(alloc, net, formula, line, true),
     }
 }
 

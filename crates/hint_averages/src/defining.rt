@@ -24,6 +24,11 @@ impl Compared {
         Some(self.second?.is_some())
     }
 
+    /// The first sum is less than the second.
+    pub fn is_less(self) -> NamedLit {
+        self.first.is_less()
+    }
+
     /// Adds its rows.
     pub fn add_rows(self, rows: &mut Vec<usize>) -> Result<(), AllocError> {
         self.first.add_rows(rows)?;

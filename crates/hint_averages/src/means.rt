@@ -18,6 +18,13 @@ struct Amount {
     amount: i128,
 }
 
+impl Term {
+    /// Whether the weight is one of so many equal parts of the whole.
+    pub fn is_part_of(self, parts: u64) -> bool {
+        self.weight.saturating_mul(parts) == UNIT
+    }
+}
+
 /// The sum of one column.
 pub fn single(column: usize) -> Term {
     Term {

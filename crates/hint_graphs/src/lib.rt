@@ -18,6 +18,6 @@ pub use distances::{places_of, ranked_splitters};
 pub use flow::Flow;
 pub use graph::{Graph, edges_at, ends_of, has_no_preference};
 pub use lists::{add, empty_lists, is_set, list_at, mark};
-pub use order::loopless;
+pub use order::{loopless, ordered};
 pub use std::alloc::AllocError as Memory;
 pub use weighing::UNIT;

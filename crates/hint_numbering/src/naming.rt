@@ -4,7 +4,7 @@ ghost use Rattle.bt_model.specs.Requests.{IsGrid};
 
 use crate::numbering::{Numbered, number_by_structure};
 use bt_model::{MOST_ACROSS, Request};
-use bt_net::{Admitted, Demand, Edge, End, Ends, Net, NetFault, Pin, Side, Start, Target, read};
+use bt_net::{Admitted, Demand, Edge, End, EndKind, Ends, Net, NetFault, Pin, Side, Start, Target, read};
 use bt_parts::Rect;
 use std::alloc::{AllocError, Global};
 
@@ -91,6 +91,7 @@ impl Order {
                 ends: self.ends(side.ends),
                 ..side
             }),
+            Demand::Row(row) => Demand::Row(row),
         }
     }
 }
@@ -170,12 +171,18 @@ fn rank_of(demand: Demand) -> u64 {
     let ends = match demand {
         Demand::Pin(pin) => Ends::One(pin.end),
         Demand::Side(side) => side.ends,
+        Demand::Row(row) => {
+            return match row.kind {
+                EndKind::Inputs => 2,
+                EndKind::Outputs => 3,
+            };
+        }
     };
     match ends {
         Ends::Inputs => 0,
         Ends::Outputs => 1,
-        Ends::One(End::Input(input)) => u64::from(input).wrapping_mul(2).wrapping_add(2),
-        Ends::One(End::Output(output)) => u64::from(output).wrapping_mul(2).wrapping_add(3),
+        Ends::One(End::Input(input)) => u64::from(input).wrapping_mul(2).wrapping_add(4),
+        Ends::One(End::Output(output)) => u64::from(output).wrapping_mul(2).wrapping_add(5),
     }
 }
 

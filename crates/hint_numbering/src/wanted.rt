@@ -42,13 +42,22 @@ fn wanted_of(rect: Rect, demand: &Demand) -> Wanted {
     match demand {
         Demand::Pin(pin) => wanted_by(rect, pin),
         Demand::Side(side) => Wanted::At(side.dir),
+        Demand::Row(_) => Wanted::Anywhere,
+    }
+}
+
+/// Whether a demand says of the end by itself where it is to stand: a row says so of all ends of a kind together.
+fn names_end(demand: Demand, end: End) -> bool {
+    match demand {
+        Demand::Pin(_) | Demand::Side(_) => names(ends_of(demand), end),
+        Demand::Row(_) => false,
     }
 }
 
 /// Where a request wants this end to stand.
 pub fn place_wanted(request: &Request, end: End) -> Wanted {
     for demand in request.demands() {
-        if names(ends_of(*demand), end) {
+        if names_end(*demand, end) {
             return wanted_of(request.rect(), demand);
         }
     }
@@ -57,8 +66,10 @@ pub fn place_wanted(request: &Request, end: End) -> Wanted {
 
 /// Whether a demand wants inputs in the south or outputs in the north.
 fn is_upright(demand: &Demand) -> bool {
-    let Demand::Side(side) = demand else {
-        return false;
+    let side = match demand {
+        Demand::Pin(_) => return false,
+        Demand::Side(side) => side,
+        Demand::Row(_) => return true,
     };
     match side.ends {
         Ends::Inputs | Ends::One(End::Input(_)) => side.dir == Dir::South,

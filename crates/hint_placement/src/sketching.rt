@@ -7,7 +7,7 @@ use bt_model::Request;
 use bt_parts::{Cell, DIRS, Dir, Kind, Part, Tier};
 use bt_random::Random;
 use hint_numbering::{Numbered, goes_north, number_by_structure};
-use hint_routing::{Chain, Negotiated, Stand, Step, negotiate};
+use hint_routing::{Chain, Effort, Negotiated, Stand, Step, negotiate};
 use std::alloc::{AllocError, Global};
 
 /// How often splitters are placed at most.
@@ -21,6 +21,12 @@ const CLIMBING_CHAINS: u32 = 30_000;
 
 /// How many moves are tried at most.
 const MOVES: usize = 4096;
+
+/// How long the chains of one placing negotiate: another placing is as good a try as more rounds.
+const EFFORT: Effort = Effort {
+    rounds: 50,
+    patience: 8,
+};
 
 /// The state of the generator that moves splitters.
 const FIRST_STATE: u64 = 5;
@@ -132,7 +138,14 @@ fn sketch_with(
     stands: Vec<Stand>,
 ) -> Result<Option<Sketch>, AllocError> {
     let tier = request.tier();
-    match negotiate(alloc, request, &network.edges, &stands, &mut progress.left)? {
+    match negotiate(
+        alloc,
+        request,
+        &network.edges,
+        &stands,
+        EFFORT,
+        &mut progress.left,
+    )? {
         Negotiated::Settled(chains) => Ok(Some(Sketch {
             splitters: splitters_of(alloc, tier, &network.splitters, &stands)?,
             others: others_of(alloc, tier, &chains)?,

@@ -13,6 +13,6 @@ mod stand;
 
 pub use around::is_upright;
 pub use finding::{Chain, Step};
-pub use negotiating::{Negotiated, negotiate};
+pub use negotiating::{Effort, Negotiated, negotiate};
 pub use stand::Stand;
 pub use std::alloc::AllocError as Memory;

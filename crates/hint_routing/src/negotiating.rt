@@ -10,11 +10,14 @@ use bt_parts::{Cell, Rect, inside};
 use hint_numbering::{is_blocked, leaving};
 use std::alloc::{AllocError, Global};
 
-/// The most rounds.
-const ROUNDS: usize = 50;
-
-/// After so many rounds in which no fewer claims are shared than in an earlier one no more are made.
-const PATIENCE: usize = 8;
+/// How long chains negotiate.
+#[derive(Clone, Copy)]
+pub struct Effort {
+    /// The most rounds.
+    pub rounds: usize,
+    /// After so many rounds in which no fewer claims are shared than in an earlier one no more are made.
+    pub patience: usize,
+}
 
 /// What a round comes to.
 #[derive(Clone, Copy)]
@@ -140,9 +143,10 @@ fn rounds(
     ground: Ground,
     ends: &[Ends],
     chains: &mut [Option<Chain>],
+    effort: Effort,
 ) -> Result<usize, AllocError> {
     let (mut least, mut idle) = (usize::MAX, 0usize);
-    for _ in 0..ROUNDS {
+    for _ in 0..effort.rounds {
         let shared = match lay_round(alloc, ledger, ground, ends, chains)? {
             Round::Settled => 0,
             Round::Shared(count) => count,
@@ -154,7 +158,7 @@ fn rounds(
             idle.saturating_add(1)
         };
         least = least.min(shared);
-        if least == 0 || idle >= PATIENCE {
+        if least == 0 || idle >= effort.patience {
             break;
         }
     }
@@ -176,6 +180,7 @@ pub fn negotiate(
     request: &Request,
     edges: &[Edge],
     stands: &[Stand],
+    effort: Effort,
     left: &mut u32,
 ) -> Result<Negotiated, AllocError> {
     let rect = request.rect();
@@ -188,7 +193,7 @@ pub fn negotiate(
         poses: &poses,
         reach: request.tier().reach(),
     };
-    let shared = rounds(alloc, &mut ledger, ground, &ends, &mut chains)?;
+    let shared = rounds(alloc, &mut ledger, ground, &ends, &mut chains, effort)?;
     *left = left.saturating_sub(ledger.taken().max(1));
     if shared == 0 {
         Ok(Negotiated::Settled(chains))

@@ -85,6 +85,50 @@ impl Counted {
     }
 }
 
+/// A column that is one of two forms: the first in one case, and the second in the other.
+#[derive(Clone, Copy)]
+pub struct Chosen {
+    column: usize,
+    /// The first of the variables that compare it with the first form.
+    first: usize,
+    /// The first of those that compare it with the second.
+    second: usize,
+    /// The place of the first of its rows.
+    row: usize,
+}
+
+impl Chosen {
+    /// The column.
+    pub fn column(self) -> usize {
+        self.column
+    }
+
+    /// It is at least the first form.
+    pub fn at_least_first(self) -> NamedLit {
+        named(self.first, true)
+    }
+
+    /// It is at most the first form.
+    pub fn at_most_first(self) -> NamedLit {
+        named(self.first.saturating_add(2), true)
+    }
+
+    /// It is at least the second form.
+    pub fn at_least_second(self) -> NamedLit {
+        named(self.second, true)
+    }
+
+    /// It is at most the second form.
+    pub fn at_most_second(self) -> NamedLit {
+        named(self.second.saturating_add(2), true)
+    }
+
+    /// Adds its rows.
+    pub fn add_rows(self, rows: &mut Vec<usize>) -> Result<(), AllocError> {
+        add_rows(rows, self.row, OF_CASES)
+    }
+}
+
 /// The numbers of what is defined next.
 #[derive(Clone, Copy)]
 pub struct Next {
@@ -102,6 +146,11 @@ impl Next {
             column: formula.columns(),
             row: formula.rows().len(),
         }
+    }
+
+    /// The column that is defined next.
+    pub fn column(&self) -> usize {
+        self.column
     }
 
     /// Defines the comparison of a form with nothing.
@@ -159,6 +208,30 @@ impl Next {
         };
         line.definitions.push(definition)?;
         Ok(Some(self.take_counted(value)))
+    }
+
+    /// Defines the column that is the first form where the variable at a place has this value, and else the second.
+    pub fn choose(
+        &mut self,
+        line: &mut Line,
+        var: usize,
+        value: bool,
+        first: Form,
+        second: Form,
+    ) -> Result<Chosen, AllocError> {
+        let definition = if value {
+            Definition::Cases(var, first, second)
+        } else {
+            Definition::Cases(var, second, first)
+        };
+        line.definitions.push(definition)?;
+        let counted = self.take_counted(value);
+        Ok(Chosen {
+            column: counted.column,
+            first: counted.form,
+            second: counted.nothing,
+            row: counted.row,
+        })
     }
 
     /// The numbers of a column that was defined, whose form stands first or second.

@@ -10,7 +10,7 @@ mod scopes;
 
 pub use atoms::{Atoms, mark_of};
 pub use columns::{edges_of_columns, equal_rows, is_at_end, is_of_ends, rows_alone};
-pub use defining::{Comparison, Counted, Next, apart, in_order, sum_of};
+pub use defining::{Chosen, Comparison, Counted, Next, apart, in_order, sum_of};
 pub use line::{
     Aim, Line, add_aim, add_both, add_opposites, add_scope, conclude, named, named_as, opposite_of,
 };

@@ -16,8 +16,7 @@ use Rattle.bt_cert.specs.declared.fault.CertFault.{CertFault}
 use Rattle.bt_cert.specs.declared.fault.CertFault.TheVariants.{ReadFault, TooLong, Memory}
 
 -- the bytes of a line that goes on, or what was read behind the definitions; how many definitions came; and whether a
--- line
--- came that is of none
+-- line came that is of none
 pub record DefiningParts : Type 0 where
   pub part : List ℕ
   pub count : ℕ
@@ -34,8 +33,7 @@ MayAllStand f [] = Unit {0}
 MayAllStand f (d ∷ ds) = MayStand f d × MayAllStand (with_definition f d) ds
 
 -- what was read of a text is the lines of definitions, by which the formula is extended, and a part of a line that goes
--- on; or
--- what follows them, in which no other comes first, whatever follows
+-- on; or what follows them, in which no other comes first, whatever follows
 pub record HasDefined (f : FormulaParts) (text : List ℕ) (now : FormulaParts) (p : DefiningParts) : Type 0 where
   pub definitions : List Definition
   pub stand : MayAllStand f definitions

@@ -15,8 +15,7 @@ use Rattle.bt_decide.specs.declared.verdict.SameVerdict.{SameVerdict}
 use Rattle.bt_decide.specs.Verdicts.{AreMade, IsVerdict, IsSameVerdict, splitters_of_both}
 
 -- definitions that a decision over so many splitters may be given: none where there are no splitters, and no more than
--- a certificate may
--- have
+-- a certificate may have
 pub record MayBeGiven (splitters : ℕ) (definitions : List Definition) : Type 0 where
   pub none : splitters ≡ 0 → definitions ≡ []
   pub few : length definitions ≤ MOST_DEFINITIONS

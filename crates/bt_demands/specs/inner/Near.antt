@@ -14,6 +14,7 @@ IsPinnedNear pin = (pin.x ≤ MOST_COORDINATE) × (pin.y ≤ MOST_COORDINATE)
 abbrev pub IsDemandedNear : Demand → Type 0
 IsDemandedNear (demand.Pin pin) = IsPinnedNear pin
 IsDemandedNear (demand.Side side) = Unit {0}
+IsDemandedNear (demand.Row row) = Unit {0}
 
 -- the block's coordinates are small
 abbrev pub IsBlockedNear : Block → Type 0

@@ -10,9 +10,9 @@ use Rattle.bt_layout.specs.declared.progress.Progress.{Progress}
 use Rattle.bt_layout.specs.declared.searching.Searched.{Searched}
 use Rattle.bt_layout.specs.declared.sweep.Sweep.{Sweep}
 use Rattle.bt_layout.specs.Early.{AreRefuted, IsLaid}
-use Rattle.bt_layout.specs.Layouts.{IsLayout}
 use Rattle.bt_layout.specs.Small.{HasFewer, MayBeAsked}
 use Rattle.bt_layout.specs.Smallest.{request_on}
+use Rattle.bt_layout.specs.inner.Ends.{IsSought}
 use Rattle.bt_layout.specs.inner.Likely.{IsTried}
 
 -- the parts that were found lay the request at their place, and the steps are no more than may be taken
@@ -57,7 +57,7 @@ HasLog (layout.Spent log) steps = length log.steps ≡ steps
 
 -- what a search of the placement formula comes to that may take so many steps
 pub record IsWhole (r : LayoutRequest) (most : ℕ) (searched : Searched) : Type 0 where
-  pub layout : IsLayout r most searched.layout
+  pub layout : IsSought r most searched.layout
   pub few : searched.steps ≤ most
   pub has_log : HasLog searched.layout searched.steps
 

@@ -1,11 +1,12 @@
 -- The edges that splitters prefer, as they are kept and read.
 use Rattle.std.specs.Prelude.{◌≡◌, ℕ, ◌<◌, ◌+◌, ◌^◌, List, length, Option, Some, None}
 use Rattle.bt_text.specs.Lines.{IsFirstLine}
+use Rattle.bt_net.specs.declared.network.Admitted.{Admitted}
 use Rattle.bt_net.specs.declared.network.Priority.{Priority}
 use Rattle.bt_net.specs.declared.network.Priority.TheVariants.{Give, Take}
 use Rattle.bt_net.specs.declared.priority.Preferred.{Preferred}
 use Rattle.bt_net.specs.Network.{Network}
-use Rattle.bt_net.specs.Priorities.{preferring, IsPriorityLine, IsFreeFor, Becomes}
+use Rattle.bt_net.specs.Priorities.{preferring, IsPriorityLine, IsPriorityHere, IsFreeFor, Becomes}
 use Rattle.bt_net.specs.PinRefusals.{BeginsWithItems}
 
 -- a network with the preferred edges that are kept for it, where any are
@@ -25,17 +26,22 @@ HasPlace preferred (Take k a) = k < length preferred.takes.items
 
 -- the text is so many lines of priorities, by which a network without any prefers these edges, and then this, whose
 -- first line is that of no other
-pub record PrioritiesEnd (n : Network) (text : List ℕ) (preferred : Preferred) (count : ℕ) (rest : List ℕ) : Type 0 where
+pub record PrioritiesEnd (may : Admitted) (n : Network) (text : List ℕ) (preferred : Preferred) (count : ℕ) (rest : List ℕ) : Type 0 where
   pub priorities : List Priority
-  pub starts : BeginsWithItems (IsPriorityLine n) (length n.edges + 2) text priorities rest
+  pub starts : BeginsWithItems (IsPriorityHere may n) (length n.edges + 2) text priorities rest
   pub becomes : Becomes n priorities (preferring n preferred.gives.items preferred.takes.items)
   pub count_is : count ≡ length priorities
   pub bytes : List ℕ
   pub after : List ℕ
   pub next : IsFirstLine rest bytes after
-  pub no_more : (p : Priority) → IsPriorityLine n 0 bytes p → IsFreeFor (preferring n preferred.gives.items preferred.takes.items) p → ⊥
+  pub no_more : (p : Priority) → IsPriorityHere may n 0 bytes p → IsFreeFor (preferring n preferred.gives.items preferred.takes.items) p → ⊥
+
+-- what a line says after the priorities so far: the one that comes next, wherever such lines may stand
+abbrev pub IsNextOwned : Network → Preferred → List ℕ → Option Priority → Type 0
+IsNextOwned n preferred bytes (Some p) = IsPriorityLine n 0 bytes p × IsFreeFor (preferring n preferred.gives.items preferred.takes.items) p
+IsNextOwned n preferred bytes None = (p : Priority) → IsPriorityLine n 0 bytes p → IsFreeFor (preferring n preferred.gives.items preferred.takes.items) p → ⊥
 
 -- what a line says after the priorities so far: the one that comes next, or that it is the line of none that may
-abbrev pub IsNextPriority : Network → Preferred → List ℕ → Option Priority → Type 0
-IsNextPriority n preferred bytes (Some p) = IsPriorityLine n 0 bytes p × IsFreeFor (preferring n preferred.gives.items preferred.takes.items) p
-IsNextPriority n preferred bytes None = (p : Priority) → IsPriorityLine n 0 bytes p → IsFreeFor (preferring n preferred.gives.items preferred.takes.items) p → ⊥
+abbrev pub IsNextPriority : Admitted → Network → Preferred → List ℕ → Option Priority → Type 0
+IsNextPriority may n preferred bytes (Some p) = IsPriorityHere may n 0 bytes p × IsFreeFor (preferring n preferred.gives.items preferred.takes.items) p
+IsNextPriority may n preferred bytes None = (p : Priority) → IsPriorityHere may n 0 bytes p → IsFreeFor (preferring n preferred.gives.items preferred.takes.items) p → ⊥

@@ -53,12 +53,14 @@ fn have_letters(parts: &[Part], letters: &str) -> bool {
     true
 }
 
-/// Whether a search comes to this: parts of these letters, or that there are none, or that the log is full.
-fn is_told(found: &Layout, wanted: &str) -> bool {
+/// Whether a search comes to this: parts of these letters, or that there are none, or that the log is full. Each of these
+/// requests has a formula, so there is an answer.
+fn is_told(found: Option<&Layout>, wanted: &str) -> bool {
     match found {
-        Layout::Found(parts) => have_letters(parts, wanted),
-        Layout::Nowhere(_) => wanted == "nowhere",
-        Layout::Spent(_) => wanted == "spent",
+        Some(Layout::Found(parts)) => have_letters(parts, wanted),
+        Some(Layout::Nowhere(_)) => wanted == "nowhere",
+        Some(Layout::Spent(_)) => wanted == "spent",
+        None => false,
     }
 }
 
@@ -73,7 +75,7 @@ fn is_laid<C: Chooser>(
     let mut choosers = Vec::new(alloc);
     choosers.push(chooser)?;
     let found = layout(alloc, request, learnt as u64, choosers)?;
-    Ok(is_told(&found, wanted))
+    Ok(is_told(found.as_ref(), wanted))
 }
 
 /// Whether a search comes to what a row says.

@@ -22,7 +22,7 @@ const REQUESTS: &[&str] = &[
     "net 1 1 0\nedge i0 o0\nside inputs south\nblock 0 0\nend\n|none|0",
     "net 1 1 0\nedge i0 o0\npin i0 0 1\nblock 1 0\nend\n|pin|3",
     "net 1 1 0\nedge i0 o0 2\npin i0 0 1\nend\n|cap|0",
-    "net 1 1 129\nedge i0 o0 3\nend\n|too large|0",
+    "net 1 1 513\nedge i0 o0 3\nend\n|too large|0",
 ];
 
 /// The word of a fault, and the line or the edge that it names, or 0.

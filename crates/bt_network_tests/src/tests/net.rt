@@ -1,6 +1,6 @@
 //! Texts of networks that are read, printed or refused.
 use super::{fields, is_printed, number_of};
-use bt_net::{Admitted, Block, Demand, End, Ends, NetFault, NetRead, Pin, Side, read, read_plain};
+use bt_net::{Admitted, Block, Demand, End, Ends, NetFault, NetRead, Pin, Side, read};
 use bt_parts::Dir;
 use std::alloc::{AllocError, Global};
 use std::test::Fail;
@@ -49,9 +49,9 @@ const READ: &[&str] = &[
     "net 1 1 0\nedge i0 o0\nside i00 south\nend\n|line|3",
     "net 1 1 0\nedge i0 o0\nblock 0 0\nside i0 south\nend\n|line|4",
     "net 1 1 0\nside i0 south\nedge i0 o0\nend\n|line|3",
-    // A request has no priorities.
-    "net 1 2 1\nedge i0 s0\nedge s0 o0\nedge s0 o1\ngive s0 1\nend\n|line|5",
-    "net 1 2 1\nedge i0 s0\nedge s0 o0\nedge s0 o1\ntake s0 0\npin i0 0 0\nend\n|line|5",
+    // A request has its priorities directly behind the edges.
+    "net 1 2 1\nedge i0 s0\nedge s0 o0\nedge s0 o1\ngive s0 1\nend\n|cap|1",
+    "net 1 2 1\nedge i0 s0\nedge s0 o0\nedge s0 o1\ntake s0 0\npin i0 0 0\nend\n|cap|1",
     "net 1 2 1\nedge i0 s0\nedge s0 o0\nedge s0 o1\npin i0 0 0\ngive s0 1\nend\n|line|6",
 ];
 
@@ -142,7 +142,7 @@ fn is_told(told: Result<NetRead, NetFault>, row: &str) -> bool {
 /// Whether a row's text is read to its end, and printed as the row says.
 fn prints(alloc: Global, row: &str) -> Result<bool, AllocError> {
     let [text, wanted, ..] = fields(row, '|');
-    match read_plain(alloc, text.as_bytes()) {
+    match read(alloc, Admitted::Priorities, text.as_bytes()) {
         Ok(found) => Ok(found.used == text.len() && is_printed(alloc, &found.net, wanted)?),
         Err(_) => Ok(false),
     }
@@ -170,7 +170,10 @@ fn texts(rt: HostRuntime) -> Result<(), Fail> {
         assert!(rt; is_told(told, row), "{row}");
     }
     for row in READ_PLAINLY {
-        assert!(rt; is_told(read_plain(rt.alloc(), text_in(row)), row), "{row}");
+        assert!(rt;
+            is_told(read(rt.alloc(), Admitted::Priorities, text_in(row)), row),
+            "{row}"
+        );
     }
     for row in PRINTED {
         assert!(rt; prints(rt.alloc(), row)?, "{row}");

@@ -18,6 +18,7 @@ sizes_with e classes ranks = record {
   halves = e.halves;
   inputs = e.inputs;
   stops = e.stops;
+  lines = e.lines;
   distances = e.distances;
   classes = classes;
   ranks = ranks;

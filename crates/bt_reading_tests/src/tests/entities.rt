@@ -155,7 +155,7 @@ fn blueprints(rt: HostRuntime) -> Result<(), Fail> {
 #[test]
 fn the_most_entities(rt: HostRuntime) -> Result<(), Fail> {
     let mut most = String::from_str(rt.alloc(), "0")?;
-    for _ in 1..4096 {
+    for _ in 1..16384 {
         most.push_str(",0")?;
     }
     let more = format!(in rt.alloc(); "{most},0|22")?;

@@ -97,8 +97,8 @@ layout --grid=|none
 layout 5x8|none
 layout --grid 0x1|none
 layout --grid 1x0|none
-layout --grid 17x1|none
-layout --grid 1x17|none
+layout --grid 161x1|none
+layout --grid 1x161|none
 layout --grid 1x|none
 layout --grid x1|none
 layout --grid x|none
@@ -120,7 +120,7 @@ layout --grid 5x8 --chain|none
 layout --grid 5x8 balanced|none
 layout --grid 5x8 2|none
 check-layout|none
-check-layout --grid 17x17|none
+check-layout --grid 161x161|none
 check-layout --grid 5x8 --learnt 1|none
 check-layout --grid 5x8 full|none
 formula|none

@@ -40,7 +40,7 @@ fn blueprint_of(alloc: Global, entities: &str, version: &str) -> Result<String, 
 fn is_written(alloc: Global, row: &str) -> Result<bool, AllocError> {
     let [parts, entities, version, ..] = fields(row, '|');
     let parts = parts_spelled(alloc, parts)?;
-    let written = text_of(alloc, &parts)?;
+    let written = text_of(alloc, &parts, &[])?;
     Ok(written.as_slice() == blueprint_of(alloc, entities, version)?.as_bytes())
 }
 
@@ -54,7 +54,7 @@ fn has_parts(alloc: Global, tree: &Tree, parts: &[Part]) -> bool {
 
 /// Whether the blueprint of parts is read as these parts, and a line feed alone stands behind it.
 fn is_read_back(alloc: Global, parts: &[Part]) -> Result<bool, AllocError> {
-    let text = text_of(alloc, parts)?;
+    let text = text_of(alloc, parts, &[])?;
     match read(alloc, &text) {
         Ok((tree, used)) => Ok(used + 1 == text.len() && has_parts(alloc, &tree, parts)),
         Err(_) => Ok(false),

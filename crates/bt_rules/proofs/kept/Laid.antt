@@ -48,6 +48,7 @@ use Rattle.bt_rules.proofs.kept.CellFacts.{one_class, one_dir}
 use Rattle.bt_rules.proofs.kept.Arrivals.{reached_inside}
 use Rattle.bt_rules.proofs.kept.PartFacts.{kept_part, own_at}
 use Rattle.bt_rules.proofs.kept.RingFacts.{link_cell, none_ringed, clean}
+use Rattle.bt_rules.proofs.kept.RowFacts.{keeps_row}
 use Rattle.bt_rules.proofs.kept.EndFacts.{fits, output_faces}
 use Rattle.bt_rules.proofs.kept.SplitFacts.{IsSplitterOf, splitter_is, splitter_there, one_splitter, splitter_named, same_stand}
 use Rattle.bt_rules.proofs.kept.ClassFacts.{orderly, SourceHas, classed}
@@ -504,6 +505,7 @@ module _ (w : Solved) (parts : List Part) (lists : ListsEach (IsKeptPart w.r w.r
   keeps_demand : (d : Demand) → In w.r.demands d → HasEnds w.r.net (ends_of d) → KeepsDemand parts w.r naming d
   keeps_demand (demand.Pin pin) there has = keeps_end pin there pin.end has refl
   keeps_demand (demand.Side side) there has = keeps_side side there
+  keeps_demand (demand.Row row) there has = keeps_row w parts lists row there
 
   pub lays : Lays parts w.r
   lays = record {

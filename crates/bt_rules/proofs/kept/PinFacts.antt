@@ -16,15 +16,16 @@ use Rattle.bt_net.specs.declared.network.Pin.{Pin}
 use Rattle.bt_net.specs.declared.network.Side.{Side}
 use Rattle.bt_net.specs.declared.network.Start.TheVariants as from
 use Rattle.bt_net.specs.declared.network.Target.TheVariants as to
-use Rattle.bt_model.specs.Requests.{Names, ShareEnd, ends_of, pinned}
+use Rattle.bt_model.specs.Requests.{Names, NameOneEnd, pinned}
 use Rattle.bt_facts.specs.declared.fact.Fact.{Fact}
 use Rattle.bt_facts.specs.declared.fact.Fact.TheVariants.{Carries, Begins}
 use Rattle.bt_facts.specs.declared.fact.Shape.{Shape}
 use Rattle.bt_facts.specs.declared.fact.Shape.TheVariants as shape
 use Rattle.bt_demands.specs.Classes.{class_of, is_end_input, pins_input, is_pinned, names}
+use Rattle.bt_demands.specs.Enders.{enders}
 use Rattle.bt_facts.specs.Facts.{holds}
 use Rattle.bt_rules.specs.Going.{runners}
-use Rattle.bt_demands.specs.Pinning.{is_edge_of, pin_class_rules, enders, end_facts, end_shapes, turned_rules, same_kind, pins_clash, clashes, clash_rules}
+use Rattle.bt_demands.specs.Pinning.{is_edge_of, pin_class_rules, end_facts, end_shapes, turned_rules, same_kind, pins_clash, clashes, clash_rules}
 use Rattle.bt_facts.specs.Rules.{some_of, not_all, OneHolds, Keeps}
 use Rattle.bt_facts.specs.Spots.{dirs, others_than, where_outside}
 use Rattle.bt_facts.proofs.Decided.{contains_at, same_dir}
@@ -56,6 +57,8 @@ pub pin_cases : (demands : List Demand) (end : End) → ((pin : Pin) × In deman
 pin_cases [] end = inr (λ pin there e. there)
 pin_cases (demand.Side s ∷ demands) end =
     ⊎_elim (λ found. inl (found.0, inr found.1, found.2)) (λ none. inr (λ pin there e. ⊎_elim (λ same. cc) (λ h. none pin h e) there)) (pin_cases demands end)
+pin_cases (demand.Row row ∷ demands) end =
+    ⊎_elim (λ found. inl (found.0, inr found.1, found.2)) (λ none. inr (λ pin there e. ⊎_elim (λ same. cc) (λ h. none pin h e) there)) (pin_cases demands end)
 pin_cases (demand.Pin p ∷ demands) end =
     ⊎_elim (λ e. inl (p, inl refl, e))
     (λ apart. ⊎_elim (λ found. inl (found.0, inr found.1, found.2)) (λ none. inr (λ pin there e. later pin apart none there e)) (pin_cases demands end))
@@ -69,6 +72,8 @@ pin_cases (demand.Pin p ∷ demands) end =
 pub side_cases : (demands : List Demand) (e : End) → ((side : Side) × In demands (demand.Side side) × Names side.ends e) ⊎ ((side : Side) → In demands (demand.Side side) → Names side.ends e → ⊥)
 side_cases [] e = inr (λ side there named. there)
 side_cases (demand.Pin p ∷ demands) e =
+    ⊎_elim (λ found. inl (found.0, inr found.1, found.2)) (λ none. inr (λ side there named. ⊎_elim (λ same. cc) (λ h. none side h named) there)) (side_cases demands e)
+side_cases (demand.Row row ∷ demands) e =
     ⊎_elim (λ found. inl (found.0, inr found.1, found.2)) (λ none. inr (λ side there named. ⊎_elim (λ same. cc) (λ h. none side h named) there)) (side_cases demands e)
 side_cases (demand.Side s ∷ demands) e = by (names s.ends e) refl (side_cases demands e) where
   later : (side : Side) → (names s.ends e ≡ false) → ((q : Side) → In demands (demand.Side q) → Names q.ends e → ⊥) → In (demand.Side s ∷ demands) (demand.Side side) → Names side.ends e → ⊥
@@ -116,7 +121,7 @@ HasPin w pin = In w.r.demands (demand.Pin pin)
 
 module _ (w : Solved) where
   -- an end is named by one line
-  pub one_demand : (p q : Demand) → In w.r.demands p → In w.r.demands q → ShareEnd (ends_of p) (ends_of q) → p ≡ q
+  pub one_demand : (p q : Demand) → In w.r.demands p → In w.r.demands q → NameOneEnd p q → p ≡ q
   one_demand p q a b share =
       let i = in_place w.r.demands p a in
       let j = in_place w.r.demands q b in
@@ -125,14 +130,14 @@ module _ (w : Solved) where
       ⊎_elim (λ same. sym at_i ∙ ap (λ k. get_or w.r.demands k p) same ∙ at_j)
       (λ apart. ⊎_elim
       (λ lt. absurd (w.is_request.demands_apart i.0 j.0 p lt (slice_get_within w.r.demands j.0 q j.1)
-      (subst (λ z. ShareEnd (ends_of z) (ends_of (get_or w.r.demands j.0 p))) (sym at_i) (subst (λ z. ShareEnd (ends_of p) (ends_of z)) (sym at_j) share))))
+      (subst (λ z. NameOneEnd z (get_or w.r.demands j.0 p)) (sym at_i) (subst (λ z. NameOneEnd p z) (sym at_j) share))))
       (λ gt. absurd (w.is_request.demands_apart j.0 i.0 p gt (slice_get_within w.r.demands i.0 p i.1)
-      (subst (λ z. ShareEnd (ends_of z) (ends_of (get_or w.r.demands i.0 p))) (sym at_j) (subst (λ z. ShareEnd (ends_of q) (ends_of z)) (sym at_i) (share.0, share.2, share.1))))) apart)
+      (subst (λ z. NameOneEnd z (get_or w.r.demands i.0 p)) (sym at_j) (subst (λ z. NameOneEnd q z) (sym at_i) (sym share.0, (share.1.0, share.1.2, share.1.1)))))) apart)
       (cases_order i.0 j.0)
 
   -- an end has one pin
   pub one_pin : (p q : Pin) → HasPin w p → HasPin w q → p.end ≡ q.end → p ≡ q
-  one_pin p q a b e = let same = one_demand (demand.Pin p) (demand.Pin q) a b (p.end, refl, e) in cc
+  one_pin p q a b e = let same = one_demand (demand.Pin p) (demand.Pin q) a b (refl, (p.end, refl, e)) in cc
 
   -- and two outputs don't stand on one cell
   pub one_output : (p q : Pin) (o u : ℕ) → HasPin w p → HasPin w q → p.end ≡ Output o → q.end ≡ Output u → pinned p ≡ pinned q → p ≡ q

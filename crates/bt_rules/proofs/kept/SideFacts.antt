@@ -182,9 +182,9 @@ module _ (w : Solved) where
   pub settled_one : (o : ℕ) (c d : Cell) → Settled o c → Settled o d → c ≡ d
   settled_one o c d (by_pin p p_in p_own p_is) (by_pin q q_in q_own q_is) = p_is ∙ ap pinned (one_pin w p q p_in q_in (p_own ∙ sym q_own)) ∙ sym q_is
   settled_one o c d (by_pin p p_in p_own p_is) (by_side s s_in lt named s_is) =
-      absurd (let same = one_demand w (demand.Pin p) (demand.Side s) p_in s_in (Output o, sym p_own, named) in cc)
+      absurd (let same = one_demand w (demand.Pin p) (demand.Side s) p_in s_in (refl, (Output o, sym p_own, named)) in cc)
   settled_one o c d (by_side s s_in lt named s_is) (by_pin p p_in p_own p_is) =
-      absurd (let same = one_demand w (demand.Pin p) (demand.Side s) p_in s_in (Output o, sym p_own, named) in cc)
+      absurd (let same = one_demand w (demand.Pin p) (demand.Side s) p_in s_in (refl, (Output o, sym p_own, named)) in cc)
   settled_one o c d (by_side s s_in lt named s_is) (by_side t t_in below called t_is) = s_is ∙ sym t_is
 
   -- and on a cell one output

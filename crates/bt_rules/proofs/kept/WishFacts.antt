@@ -60,39 +60,37 @@ module _ (w : Solved) (parts : List Part) (lists : ListsEach (IsKeptPart w.r w.r
       one_class w x (settled_inside w o x s) cl.class (class_of w.r.demands edge) cl.listed (class_in w e edge is (class_of w.r.demands edge) refl)
       (ends_carry w parts lists c i x chain sink at cl) (settled_class w o x s e edge is targets)
 
+  -- the output that ends where the rectangle does
+  pub ender_output : (x : Cell) → IsInside w.r.rect x → (dir : Dir) (of : Shape) → In runners of → (IsInside w.r.rect (step dir x) → ⊥) → Says w (holds x of dir)
+      → (i : ℕ) × IsOutput parts i × IsAt parts i x
+  ender_output x inside dir of runs out says =
+      let reached = ender_reached w x of dir inside runs says out in
+      let part = part_there w parts lists of dir x reached says in (
+        part.0,
+        record {
+          part = part_on w of dir x;
+          is_i = part.1;
+          kind = kinds of runs;
+          clear = λ q at. out (subst (λ z. IsInside w.r.rect (step dir z)) (home_own of runs) (reached_inside w _ (standing w parts lists q _ at).reached));
+        },
+        at_there w parts lists part.0 of dir x part.1,
+      )
+    where
+      kinds : (of : Shape) → In runners of → (kind_of of ≡ kind.Belt) ⊎ (kind_of of ≡ kind.Exit)
+      kinds of (inl e) = inl (ap kind_of e)
+      kinds of (inr (inl e)) = inr (ap kind_of e)
+      kinds of (inr (inr none)) = absurd none
+
+      home_own : (of : Shape) → In runners of → home of dir x ≡ x
+      home_own of (inl e) = ap (λ z. home z dir x) e
+      home_own of (inr (inl e)) = ap (λ z. home z dir x) e
+      home_own of (inr (inr none)) = absurd none
+
   -- the output that ends where one is settled
   pub settled_output : (o : ℕ) (x : Cell) → Settled w o x → (i : ℕ) × IsOutput parts i × IsAt parts i x
   settled_output o x s =
       let found = settled_ends w o x s in
-      made found.0 found.1 found.2 found.3 found.4
-    where
-      inside : IsInside w.r.rect x
-      inside = settled_inside w o x s
-
-      made : (dir : Dir) (of : Shape) → In runners of → (IsInside w.r.rect (step dir x) → ⊥) → Says w (holds x of dir)
-          → (i : ℕ) × IsOutput parts i × IsAt parts i x
-      made dir of runs out says =
-          let reached = ender_reached w x of dir inside runs says out in
-          let part = part_there w parts lists of dir x reached says in (
-            part.0,
-            record {
-              part = part_on w of dir x;
-              is_i = part.1;
-              kind = kinds of runs;
-              clear = λ q at. out (subst (λ z. IsInside w.r.rect (step dir z)) (home_own of runs) (reached_inside w _ (standing w parts lists q _ at).reached));
-            },
-            at_there w parts lists part.0 of dir x part.1,
-          )
-        where
-          kinds : (of : Shape) → In runners of → (kind_of of ≡ kind.Belt) ⊎ (kind_of of ≡ kind.Exit)
-          kinds of (inl e) = inl (ap kind_of e)
-          kinds of (inr (inl e)) = inr (ap kind_of e)
-          kinds of (inr (inr none)) = absurd none
-
-          home_own : (of : Shape) → In runners of → home of dir x ≡ x
-          home_own of (inl e) = ap (λ z. home z dir x) e
-          home_own of (inr (inl e)) = ap (λ z. home z dir x) e
-          home_own of (inr (inr none)) = absurd none
+      ender_output x (settled_inside w o x s) found.0 found.1 found.2 found.3 found.4
 
   -- an edge has such a chain, or none
   pub wish_cases : (e : ℕ) (edge : Edge) → IsEdge w e edge → ((c : Chain) × IsChain parts c × Wish e edge c) ⊎ ((c : Chain) → Wish e edge c → ⊥)

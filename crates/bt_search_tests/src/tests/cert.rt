@@ -3,21 +3,30 @@ ghost use Rattle.std.specs.Prelude.{◌≤◌, ◌<◌, ◌^◌};
 
 use super::{fields, formula_of, number_of};
 use bt_cert::{Cause, CertFault, check_log};
-use bt_cnf::Formula;
 use bt_io::MemSource;
 use std::alloc::{AllocError, Global};
 use std::process::Abort;
 use std::test::Fail;
 
-// Two variables, no atoms, and the clauses `1 2`, `-1` and `-2`.
-fn three_clauses(alloc: Global) -> Result<Formula, AllocError> {
-    formula_of(alloc, 2, &[], "1 2,-1,-2")
+// A formula as a text: how many variables are no atoms, the rows of the atoms behind them, and the clauses.
+#[derive(Clone, Copy)]
+pub struct FormulaText {
+    pub vars: usize,
+    pub rows: &'static [&'static str],
+    pub clauses: &'static str,
 }
+
+// Two variables, no atoms, and the clauses `1 2`, `-1` and `-2`.
+const THREE_CLAUSES: FormulaText = FormulaText {
+    vars: 2,
+    rows: &[],
+    clauses: "1 2,-1,-2",
+};
 
 // What is answered to a head and a source that gives at most so many bytes a call.
 fn answer(
     alloc: Global,
-    formula: &mut Formula,
+    formula: FormulaText,
     head: &[u8],
     bytes: &[u8],
     most: usize,
@@ -28,6 +37,7 @@ fn answer(
 {
     let bytes = Vec::from_slice(alloc, bytes)?;
     let mut source = MemSource::new(bytes, Vec::new(alloc), most);
+    let formula = formula_of(alloc, formula.vars, formula.rows, formula.clauses)?;
     Ok(check_log(alloc, formula, head, &mut source, limit))
 }
 
@@ -107,7 +117,7 @@ fn is_told(told: &Result<(), CertFault>, line: usize, name: &str) -> bool {
 }
 
 // Whether the text of a row is answered as it says, whatever number of bytes the source gives a call.
-fn is_answered(alloc: Global, formula: &mut Formula, row: &str) -> Result<bool, AllocError> {
+fn is_answered(alloc: Global, formula: FormulaText, row: &str) -> Result<bool, AllocError> {
     let [text, line, name, ..] = fields(row, '|');
     for most in [1, 2, 7, 99] {
         let told = answer(alloc, formula, b"", text.as_bytes(), most.max(1), 99)?;
@@ -131,7 +141,7 @@ fn is_cut(told: &Result<(), CertFault>, length: usize) -> bool {
 }
 
 // Whether a head of this length and a source of the rest are one text, and the source's limit and the end are seen.
-fn is_joined(alloc: Global, formula: &mut Formula, length: usize) -> Result<bool, AllocError> {
+fn is_joined(alloc: Global, formula: FormulaText, length: usize) -> Result<bool, AllocError> {
     let (head, bytes) = CERTIFICATE.split_at(length.min(CERTIFICATE.len()));
     let whole = answer(alloc, formula, head, bytes, 3, bytes.len())?;
     let short = answer(
@@ -147,12 +157,7 @@ fn is_joined(alloc: Global, formula: &mut Formula, length: usize) -> Result<bool
 }
 
 // Whether the certificate is refused where a bit of a byte is changed.
-fn is_refused(
-    alloc: Global,
-    formula: &mut Formula,
-    at: usize,
-    bit: u8,
-) -> Result<bool, AllocError> {
+fn is_refused(alloc: Global, formula: FormulaText, at: usize, bit: u8) -> Result<bool, AllocError> {
     let mut text = Vec::from_slice(alloc, CERTIFICATE)?;
     if let Some(byte) = text.get_mut(at) {
         *byte ^= bit;
@@ -161,9 +166,10 @@ fn is_refused(
 }
 
 // Whether the fault of a source that fails at this call is told, where the text's first line isn't read before.
-fn is_fault_told(alloc: Global, formula: &mut Formula, call: u64) -> Result<bool, AllocError> {
+fn is_fault_told(alloc: Global, formula: FormulaText, call: u64) -> Result<bool, AllocError> {
     let bytes = Vec::from_slice(alloc, b"x\nend\n")?;
     let mut source = MemSource::new(bytes, vec![in alloc; call]?, 2);
+    let formula = formula_of(alloc, formula.vars, formula.rows, formula.clauses)?;
     let told = check_log(alloc, formula, b"", &mut source, 9);
     Ok(if call < 5 {
         is_told(&told, 0, "not read")
@@ -173,7 +179,7 @@ fn is_fault_told(alloc: Global, formula: &mut Formula, call: u64) -> Result<bool
 }
 
 // Whether each place where the certificate may be cut is as it is to be.
-fn are_joined(alloc: Global, formula: &mut Formula) -> Result<bool, AllocError> {
+fn are_joined(alloc: Global, formula: FormulaText) -> Result<bool, AllocError> {
     for length in 0..CERTIFICATE.len() {
         if !is_joined(alloc, formula, length)? {
             return Ok(false);
@@ -183,7 +189,7 @@ fn are_joined(alloc: Global, formula: &mut Formula) -> Result<bool, AllocError> 
 }
 
 // Whether the fault of a source is told at each of the first calls.
-fn are_faults_told(alloc: Global, formula: &mut Formula) -> Result<bool, AllocError> {
+fn are_faults_told(alloc: Global, formula: FormulaText) -> Result<bool, AllocError> {
     for call in 1..6 {
         if !is_fault_told(alloc, formula, call)? {
             return Ok(false);
@@ -193,7 +199,7 @@ fn are_faults_told(alloc: Global, formula: &mut Formula) -> Result<bool, AllocEr
 }
 
 // Whether the certificate is refused wherever one bit is changed.
-fn are_refused(alloc: Global, formula: &mut Formula) -> Result<bool, AllocError> {
+fn are_refused(alloc: Global, formula: FormulaText) -> Result<bool, AllocError> {
     for at in 0..CERTIFICATE.len() {
         for bit in [1, 2, 4, 8, 16, 32, 64, 128] {
             if !is_refused(alloc, formula, at, bit)? {
@@ -205,7 +211,7 @@ fn are_refused(alloc: Global, formula: &mut Formula) -> Result<bool, AllocError>
 }
 
 // Whether the certificate is accepted whole, however it comes, and refused where it is cut or changed.
-fn are_right(alloc: Global, formula: &mut Formula) -> Result<bool, AllocError> {
+fn are_right(alloc: Global, formula: FormulaText) -> Result<bool, AllocError> {
     Ok(
         are_joined(alloc, formula)?
             && are_faults_told(alloc, formula)?
@@ -217,7 +223,7 @@ fn are_right(alloc: Global, formula: &mut Formula) -> Result<bool, AllocError> {
 pub fn judge(
     rt: &impl Abort,
     alloc: Global,
-    formula: &mut Formula,
+    formula: FormulaText,
     rows: &[&str],
 ) -> Result<(), Fail> {
     for row in rows {
@@ -228,13 +234,11 @@ pub fn judge(
 
 #[test]
 fn texts(rt: HostRuntime) -> Result<(), Fail> {
-    let mut formula = three_clauses(rt.alloc())?;
-    judge(&rt, rt.alloc(), &mut formula, TEXTS)
+    judge(&rt, rt.alloc(), THREE_CLAUSES, TEXTS)
 }
 
 #[test]
 fn certificates(rt: HostRuntime) -> Result<(), Fail> {
-    let mut formula = three_clauses(rt.alloc())?;
-    assert!(rt; are_right(rt.alloc(), &mut formula)?);
+    assert!(rt; are_right(rt.alloc(), THREE_CLAUSES)?);
     Ok(())
 }

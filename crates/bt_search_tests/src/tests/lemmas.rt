@@ -1,8 +1,5 @@
 //! Certificates with lemmas, each of which is the first step that isn't valid.
-use super::cert::judge;
-use super::formula_of;
-use bt_cnf::Formula;
-use std::alloc::{AllocError, Global};
+use super::cert::{FormulaText, judge};
 use std::test::Fail;
 
 /// Texts, the line of the fault that is answered to them, or 0, and its name.
@@ -18,12 +15,13 @@ const LEMMAS: &[&str] = &[
 ];
 
 /// The units `1` and `2`, which say that x >= 1 and that -x >= 0.
-fn two_units(alloc: Global) -> Result<Formula, AllocError> {
-    formula_of(alloc, 0, &[">= 1 1", ">= 0 -1"], "1,2")
-}
+const TWO_UNITS: FormulaText = FormulaText {
+    vars: 0,
+    rows: &[">= 1 1", ">= 0 -1"],
+    clauses: "1,2",
+};
 
 #[test]
 fn lemmas(rt: HostRuntime) -> Result<(), Fail> {
-    let mut formula = two_units(rt.alloc())?;
-    judge(&rt, rt.alloc(), &mut formula, LEMMAS)
+    judge(&rt, rt.alloc(), TWO_UNITS, LEMMAS)
 }

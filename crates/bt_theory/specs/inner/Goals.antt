@@ -31,8 +31,7 @@ pub record GoesOn (old new : SolverParts) : Type 0 where
   pub within : length new.steps ≤ new.limit
 
 -- what one try at a goal comes to: the search goes on, with more steps where it is worth another try, or it is at an
--- end,
--- however much stands before the definitions
+-- end, however much stands before the definitions
 abbrev pub IsTry : ℕ → SolverParts → SolverParts → Tried → Type 0
 IsTry pivots old new tried.Done = GoesOn old new
 IsTry pivots old new tried.Again = GoesOn old new × (length old.steps < length new.steps)

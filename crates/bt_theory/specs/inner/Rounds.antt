@@ -8,7 +8,8 @@ use Rattle.bt_sat.specs.Solving.{SolverParts, log_of, KeepsModel, IsModel, IsSou
 use Rattle.bt_simplex.specs.SolvedForms.{basis_of}
 use Rattle.bt_simplex.specs.Tableaus.{TableauParts, positions_from}
 use Rattle.bt_theory.specs.Reaching.{atom_rows, columns_of, IsTableauOf, IsReachable}
-use Rattle.bt_theory.specs.Outcomes.{Solves, Fits, IsRefutation, IsUsedUp, TurnsOn, IsTooWide, IsOutcomeOver}
+use Rattle.bt_theory.specs.Outcomes.{Solves, Fits, IsRefutation, IsUsedUp, IsOutcomeOver}
+use Rattle.bt_theory.specs.Trails.{TurnsOn, IsTooWide}
 use Rattle.bt_theory.specs.declared.base.Base.{Base}
 use Rattle.bt_theory.specs.declared.lemma.Conflict.{Conflict}
 use Rattle.bt_theory.specs.declared.outcome.Outcome.{Outcome}
@@ -27,8 +28,7 @@ pub record IsFirst (f : FormulaParts) (t : TableauParts) : Type 0 where
   pub basis : basis_of t.slots ≡ positions_from (columns_of f) (atom_rows f)
 
 -- the tables are those of a formula at the start of a search: the scopes are of its rows, and the tableau is of those
--- before
--- the definitions
+-- before the definitions
 pub record AreTablesOf (b : Base) (g : FormulaParts) (tables : Tables) : Type 0 where
   pub scopes : All (IsScopeOf g) (map parts_of tables.scopes.items)
   pub tableau : IsFirst (base_in b g) tables.tableau

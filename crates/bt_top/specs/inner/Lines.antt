@@ -28,15 +28,15 @@ line_text l = line (l.0.now ++ detail_text l.1)
 -- what is formed of an answer's text before it is written: its line, or the blueprint in it; else nothing
 abbrev pub formed_text : Answer → List ℕ
 formed_text (Brief b) = brief_text b
-formed_text (LaidOut parts) = blueprint_text parts.items
-formed_text (Least first found) = blueprint_of found
-formed_text (Small found) = blueprint_of_small found
+formed_text (LaidOut parts priorities) = blueprint_text parts.items priorities.items
+formed_text (Least first found priorities) = blueprint_of found priorities.items
+formed_text (Small found priorities) = blueprint_of_small found priorities.items
 formed_text other = []
 
 -- something of the answer's text is formed
 abbrev pub NeedsMemory : Answer → Type 0
 NeedsMemory (Brief b) = Unit {0}
-NeedsMemory (LaidOut parts) = Unit {0}
-NeedsMemory (Least first found) = Unit {0}
-NeedsMemory (Small found) = Unit {0}
+NeedsMemory (LaidOut parts priorities) = Unit {0}
+NeedsMemory (Least first found priorities) = Unit {0}
+NeedsMemory (Small found priorities) = Unit {0}
 NeedsMemory other = ⊥

@@ -50,6 +50,8 @@ const ANSWERED: &[&str] = &[
      edge i1 o1\nend\n \ndiffer\nload 1/2 1\nroom 1 3/4\nflow 1/2 1 3/4 3/4\nmark f f f f\nflow 1/2 3/4\nmark f b\n\
      end\n\n|1|differ\n",
     "make 2|no input is read|0|butterfly 2\nedges 12\noutputs 4\nyes balanced\n",
+    "build full 1 1 --request|no input is read|0|net 1 1 0\nedge i0 o0\nside inputs south\nside outputs north\n\
+     row inputs\nrow outputs\nend\n",
     "decide balanced full|no input is read|2|usage\n",
 ];
 

@@ -24,8 +24,7 @@ pub record IsWanted (log : LogParts) (places : List ℕ) (place : ℕ) : Type 0 
   pub named : Names log later place
 
 -- these are places of steps, in their order: the last; of a step that is left all earlier ones that it names; and each
--- but
--- the last is named by a later one that is left
+-- but the last is named by a later one that is left
 pub record AreNeeded (log : LogParts) (places : List ℕ) : Type 0 where
   pub in_order : AllPairs (λ one other. one < other) places
   pub inside : All (λ place. place < length log.steps) places

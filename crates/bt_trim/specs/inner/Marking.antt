@@ -34,8 +34,7 @@ pub record IsAsked (log : LogParts) (marks : List Bool) (place : ℕ) : Type 0 w
   pub named : Names log later place
 
 -- the last step is marked; the earlier ones that a marked one from this place on names are; and a marked one is the
--- last or
--- is named by a marked later one
+-- last or is named by a marked later one
 pub record AreMarked (log : LogParts) (from : ℕ) (marks : List Bool) : Type 0 where
   pub count : length marks ≡ length log.steps
   pub last : 0 < length log.steps → IsMarked marks (length log.steps - 1)

@@ -14,8 +14,7 @@ pub record IsDone (gone : Lit) (trail clause : List Lit) : Type 0 where
   pub if_second : second clause ≡ gone → IsSatisfied trail clause
 
 -- the clauses that watch a false literal are being visited: all is kept, nothing is unsettled by a part of the trail,
--- and
--- the first so many of the literal's list are done
+-- and the first so many of the literal's list are done
 pub record IsVisiting (part : List Lit) (gone : Lit) (place : ℕ) (base : List Lit) (values : List (Option Bool)) (trail : List Lit)
     (clauses : List (List Lit)) (w : WatchersParts) : Type 0 where
   pub watched : AreWatched base (length values) clauses w

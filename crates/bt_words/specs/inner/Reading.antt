@@ -1,20 +1,41 @@
 -- Arguments while they are read, from the first word on.
-use Rattle.std.specs.Prelude.{◌≡◌, ℕ, List, ◌++◌}
+use Rattle.std.specs.Prelude.{◌≡◌, ◌≤◌, ℕ, List, ◌++◌, codes, decimal}
 use Rattle.std.specs.Option.{option_to_list}
 use Rattle.std.specs.List.{filter_map}
 use Rattle.bt_words.specs.declared.argument.Argument.{Argument}
+use Rattle.bt_words.specs.declared.argument.Argument.TheVariants.{Wished, Number, Chain, Found, Sides, Request}
+use Rattle.bt_words.specs.declared.argument.TheConstants.{MOST_ORDER}
+use Rattle.bt_wish.specs.Wishes.{IsWishWord}
 use Rattle.bt_words.specs.declared.given.Given.{Given}
+use Rattle.bt_words.specs.declared.given.Places.{Places}
 use Rattle.bt_words.specs.Arguments.{IsArgument, AreArguments}
-use Rattle.bt_words.specs.Commands.{property_in, order_in, chain_in, learnt_in, pivots_in, grid_in, tier_in, most_in, from_in, found_in, sides_in, mark, nothing}
+use Rattle.bt_words.specs.Commands.{place_in, places_list, chain_in, learnt_in, pivots_in, grid_in, tier_in, most_in, from_in, found_in, sides_in, request_in, mark, nothing}
 
 -- the words are an argument, and then this rest
 abbrev pub BeginsWith : List (List ℕ) → Argument → List (List ℕ) → Type 0
 BeginsWith words a rest = (front : List (List ℕ)) × IsArgument a front × (words ≡ front ++ rest)
 
+-- the word is an option without a value
+abbrev pub IsMark : Argument → List ℕ → Type 0
+IsMark Chain word = word ≡ codes "--chain"
+IsMark Found word = word ≡ codes "--found"
+IsMark Sides word = word ≡ codes "--sides"
+IsMark Request word = word ≡ codes "--request"
+IsMark other word = ⊥
+
+-- the word is properties or a number
+abbrev pub IsPlaced : Argument → List ℕ → Type 0
+IsPlaced (Wished w) word = IsWishWord w word
+IsPlaced (Number k) word = (k ≤ MOST_ORDER) × (word ≡ decimal k)
+IsPlaced other word = ⊥
+
+-- the properties and numbers that were given so far, and such arguments behind them, come to these
+abbrev pub IsFollowed : Places → List Argument → Places → Type 0
+IsFollowed before arguments places = places_list before ++ arguments ≡ places_list places
+
 -- what was given so far, and arguments behind it, come to this
 pub record Adds (before : Given) (arguments : List Argument) (g : Given) : Type 0 where
-  pub property : option_to_list before.property ++ filter_map property_in arguments ≡ option_to_list g.property
-  pub order : option_to_list before.order ++ filter_map order_in arguments ≡ option_to_list g.order
+  pub places : IsFollowed before.places (filter_map place_in arguments) g.places
   pub chain : option_to_list (mark before.chain) ++ filter_map chain_in arguments ≡ option_to_list (mark g.chain)
   pub learnt : option_to_list before.learnt ++ filter_map learnt_in arguments ≡ option_to_list g.learnt
   pub pivots : option_to_list before.pivots ++ filter_map pivots_in arguments ≡ option_to_list g.pivots
@@ -24,6 +45,7 @@ pub record Adds (before : Given) (arguments : List Argument) (g : Given) : Type 
   pub from : option_to_list before.from ++ filter_map from_in arguments ≡ option_to_list g.from
   pub found : option_to_list (mark before.found) ++ filter_map found_in arguments ≡ option_to_list (mark g.found)
   pub sides : option_to_list (mark before.sides) ++ filter_map sides_in arguments ≡ option_to_list (mark g.sides)
+  pub request : option_to_list (mark before.request) ++ filter_map request_in arguments ≡ option_to_list (mark g.request)
 
 -- what was given so far, and words behind it, come to this
 abbrev pub Reads : Given → List (List ℕ) → Given → Type 0

@@ -16,7 +16,8 @@ add_demands-requires c =
     record {
       border = border;
       near = near;
-      cells = border_near c.args.request.now c.rect.ensures.request c.deref-2.result.now border;
+      near_border = border_near c.args.request.now c.rect.ensures.request c.deref-2.result.now border;
+      cells = c.requires;
       demands = subst (λ l. AllByRecursion IsDemandedNear l) (sym c.demands-demands.ensures) near;
     }
 

@@ -13,8 +13,8 @@ returns-then-not-is_definition c =
 
 pub loop-place-preserved : goal.loop-place-preserved
 loop-place-preserved c =
-    one_taken c.args.formula.now c.loop-place.formula c.extend.new.formula c.args.definitions.now c.loop-place.place c.index-definitions-place.result c.loop-place-test.true
-    c.index-definitions-place.is c.loop-place.invariant (c.is_definition.ensures.0 c.if-not-is_definition.false) c.in_ok-extend.ensures
+    one_taken c.args.formula.now c.loop-place.formula c.add_definition.new.formula c.args.definitions.now c.loop-place.place c.index-definitions-place.result c.loop-place-test.true
+    c.index-definitions-place.is c.loop-place.invariant (c.is_definition.ensures.0 c.if-not-is_definition.false) c.in_ok-add_definition.ensures
 
 pub returns : goal.returns
 returns c = taken_all c.args.formula.now c.loop-place.formula c.args.definitions.now c.loop-place.place (omega arith) c.loop-place.invariant

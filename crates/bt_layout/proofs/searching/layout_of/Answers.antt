@@ -1,8 +1,7 @@
 use Rattle.std.proofs.Common.{length, sym, subst}
 use Rattle.std.proofs.lemmas.Result.{IfOk-weaker}
 use Rattle.bt_place.specs.Solutions.{IsSolution}
-use Rattle.bt_layout.specs.Layouts.{IsLayout}
-use Rattle.bt_layout.specs.inner.Ends.{EndsWith, IsTrimmedTo}
+use Rattle.bt_layout.specs.inner.Ends.{EndsWith, IsSought, IsTrimmedTo}
 use Rattle.bt_layout.specs.inner.Progressing.{HasLog}
 use Rattle.bt_layout.proofs.LeftOut.{nowhere_layout, nowhere_log}
 use Rattle.bt_layout.proofs.searching.layout_of.Goals as goal
@@ -14,7 +13,7 @@ decode-requires c =
 
 pub returns-in-Refuted-clause-layout : goal.returns-in-Refuted-clause-layout
 returns-in-Refuted-clause-layout c learnt ends =
-    IfOk-weaker c.nowhere.result (IsTrimmedTo c.args.log) (IsLayout c.args.request.now learnt)
+    IfOk-weaker c.nowhere.result (IsTrimmedTo c.args.log) (IsSought c.args.request.now learnt)
     (λ told. nowhere_layout c.args.request.now learnt c.args.log told c.requires.over (subst (EndsWith c.args.request.now learnt c.args.log.steps) c.in-Refuted.is ends)) c.nowhere.ensures
 
 pub returns-in-Refuted-clause-log : goal.returns-in-Refuted-clause-log

@@ -1,9 +1,11 @@
-use Rattle.std.proofs.Common.{arith}
-use Rattle.std.proofs.lemmas.Result.{IfOk-weaker}
-use Rattle.bt_layout.specs.inner.Likely.{IsTried}
+use Rattle.std.proofs.Common.{◌≤◌, length, arith}
+use Rattle.std.proofs.lemmas.Option.{MatchOption-at_some}
+use Rattle.bt_entities.specs.declared.blueprint.TheConstants.{MOST_ENTITIES}
+use Rattle.bt_layout.specs.inner.Likely.{IsLaidOut}
 use Rattle.bt_layout.proofs.sketched.look_at_sketch.Goals as goal
 
-pub returns : goal.returns
-returns c =
-    IfOk-weaker c.trial_with.result (IsTried c.args.request.now c.min.result) (IsTried c.args.request.now c.args.steps)
-    (λ tried is. let few = is.1 in (is.0, omega (arith, c.min.ensures, few))) c.trial_with.ensures
+pub returns-in-Some : goal.returns-in-Some
+returns-in-Some c =
+    let laid = MatchOption-at_some (Unit {0}) (λ parts. IsLaidOut c.args.request.now parts.items × (length parts.items ≤ MOST_ENTITIES)) c.in-Some.parts c.in-Some.is
+    c.in_ok-parts.ensures in
+    (laid.0, omega (arith))

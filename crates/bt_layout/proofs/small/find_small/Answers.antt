@@ -1,13 +1,17 @@
-use Rattle.std.proofs.Common.{sym, subst, ◌∙◌}
-use Rattle.bt_layout.specs.Early.{IsEarly}
-use Rattle.bt_layout.specs.inner.Progressing.{AskEach}
+use Rattle.std.proofs.Common.{sym, ◌∙◌}
+use Rattle.std.specs.Prelude.{IfSome, MatchOption}
+use Rattle.std.proofs.lemmas.Bool.{false≢true}
+use Rattle.std.proofs.lemmas.Result.{IfOk-weaker}
+use Rattle.bt_layout.specs.Small.{IsBeyond, IsSmall}
+use Rattle.bt_layout.proofs.Smaller.{said_or}
 use Rattle.bt_layout.proofs.small.find_small.Goals as goal
 
-pub small_of-requires : goal.small_of-requires
-small_of-requires c = (c.args.learnt, subst (λ requests. IsEarly requests c.args.learnt c.in_ok-early.early) (c.deref.ensures.value ∙ sym c.deref-2.ensures.value) c.in_ok-early.ensures)
+pub sought_small-requires-clause-few : goal.sought_small-requires-clause-few
+sought_small-requires-clause-few c = λ beyond. false≢true (sym c.if-is_beyond.false ∙ c.is_beyond.ensures.1 beyond)
 
-pub returns : goal.returns
-returns c =
-    c.small_of.ensures c.args.request.now c.args.cells c.args.learnt
-    (subst (AskEach c.args.request.now c.args.cells) (sym c.deref-2.ensures.value) c.in_ok-requests.ensures)
-    (subst (λ requests. IsEarly requests c.args.learnt c.in_ok-early.early) (c.deref.ensures.value ∙ sym c.deref-2.ensures.value) c.in_ok-early.ensures)
+pub returns-then-is_beyond : goal.returns-then-is_beyond
+returns-then-is_beyond c =
+    let small = IsSmall c.args.request.now c.args.cells c.args.learnt in
+    let beyond = IsBeyond c.args.request.now c.args.cells in
+    IfOk-weaker c.proposed_small.result (λ answer. IfSome answer small) (λ answer. MatchOption answer beyond small)
+    (λ answer said. said_or answer beyond small (c.is_beyond.ensures.0 c.if-is_beyond.true) said) c.proposed_small.ensures

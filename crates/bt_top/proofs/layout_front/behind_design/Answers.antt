@@ -2,6 +2,7 @@ use Rattle.std.proofs.Common.{Err, refl, subst}
 use Rattle.bt_answers.specs.Answers.{UnlessMemory}
 use Rattle.bt_designs.specs.declared.fault.DesignFault.TheVariants.{Memory, Refused}
 use Rattle.bt_top.specs.NoneCertificates.{IsNoneCertificateChecked}
+use Rattle.bt_top.specs.Replies.{UnlessLarge}
 use Rattle.bt_designs.specs.Requested.{IsRequestFor}
 use Rattle.bt_designs.specs.Steps.{stopped, went_on}
 use Rattle.bt_designs.specs.Found.{pinned_of}
@@ -12,8 +13,8 @@ use Rattle.bt_top.proofs.layout_front.behind_design.Goals as goal
 
 pub returns-in-Ok : goal.returns-in-Ok
 returns-in-Ok c =
-    gives_weaker c.args.ended (IsNoneCertificateChecked c.in-Ok.request) (IsRequestChecked c.args.rect c.args.tier (pinned_of c.args.design)) c.args.rest.now
-    (λ all reply h. went_on c.in-Ok.request c.in-Ok.ensures h) c.behind_request.result c.behind_request.ensures
+    gives_weaker c.args.ended (λ text. UnlessLarge (λ r. IsNoneCertificateChecked r text) c.in-Ok.request) (IsRequestChecked c.args.rect c.args.tier (pinned_of c.args.design)) c.args.rest.now
+    (λ all reply h. went_on c.in-Ok.request c.in-Ok.ensures h) c.behind_large.result c.behind_large.ensures
 
 pub returns-in-Err : goal.returns-in-Err
 returns-in-Err c =

@@ -16,21 +16,15 @@ returns-in-LaidOut g c =
     subst (λ text. WritesText (passage g.K.Sink.held g.K.Sink.faults c.args.sink.now c.write_all_of-in-LaidOut.new.sink) text c.write_all_of-in-LaidOut.result)
     (c.requires ∙ formed_whole c.args.answer.now _ c.in-LaidOut.is refl) c.write_all_of-in-LaidOut.ensures
 
-pub print_smallest-requires : goal.print_smallest-requires
-print_smallest-requires g c = c.requires ∙ ap formed_text c.in-Least.is
-
 pub returns-in-Least : goal.returns-in-Least
 returns-in-Least g c =
     subst (λ a. WritesText (passage g.K.Sink.held g.K.Sink.faults c.args.sink.now c.print_smallest.new.sink) (text_of a) c.print_smallest.result) (sym c.in-Least.is)
-    c.print_smallest.ensures
-
-pub print_small-requires : goal.print_small-requires
-print_small-requires g c = c.requires ∙ ap formed_text c.in-Small.is
+    (c.print_smallest.ensures c.in-Least.field-2.items (c.requires ∙ ap formed_text c.in-Least.is))
 
 pub returns-in-Small : goal.returns-in-Small
 returns-in-Small g c =
     subst (λ a. WritesText (passage g.K.Sink.held g.K.Sink.faults c.args.sink.now c.print_small.new.sink) (text_of a) c.print_small.result) (sym c.in-Small.is)
-    c.print_small.ensures
+    (c.print_small.ensures c.in-Small.field-1.items (c.requires ∙ ap formed_text c.in-Small.is))
 
 pub returns-in-GaveUp : goal.returns-in-GaveUp
 returns-in-GaveUp g c =

@@ -1,6 +1,7 @@
 use Rattle.std.proofs.Common.{alloc_error, subst, sym}
 use Rattle.bt_answers.specs.Answers.{UnlessMemory}
 use Rattle.bt_top.specs.Answering.{IsRightTo}
+use Rattle.bt_top.specs.inner.Grids.{HasGrid}
 use Rattle.bt_top.proofs.program.right_answer.Goals as goal
 
 pub returns-in-FlowCheck : goal.returns-in-FlowCheck
@@ -32,3 +33,12 @@ returns-in-PlaceFormula g c = subst (λ command. UnlessMemory alloc_error (IsRig
 
 pub returns-in-Same : goal.returns-in-Same
 returns-in-Same g c = subst (λ command. UnlessMemory alloc_error (IsRightTo command c.args.bytes.now) c.same.result) (sym c.in-Same.is) c.same.ensures
+
+pub returns-in-Build : goal.returns-in-Build
+returns-in-Build g c = subst (λ command. UnlessMemory alloc_error (IsRightTo command c.args.bytes.now) c.build.result) (sym c.in-Build.is) c.build.ensures
+
+pub smallest-requires-clause-grid : goal.smallest-requires-clause-grid
+smallest-requires-clause-grid g c = (subst HasGrid c.in-Smallest.is c.requires.grid).0
+
+pub smallest-requires-clause-few : goal.smallest-requires-clause-few
+smallest-requires-clause-few g c = (subst HasGrid c.in-Smallest.is c.requires.grid).1

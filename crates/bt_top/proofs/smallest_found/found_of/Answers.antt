@@ -1,10 +1,10 @@
-use Rattle.std.proofs.Common.{refl}
-use Rattle.bt_top.proofs.SmallFound.{found_again}
+use Rattle.std.proofs.Common.{alloc_error}
+use Rattle.bt_top.specs.Finding.{IsFound, IsSmallFound}
+use Rattle.bt_designs.proofs.InTurns.{weaker}
 use Rattle.bt_top.proofs.smallest_found.found_of.Goals as goal
 
 pub returns : goal.returns
 returns c =
     let cells = c.in_ok-cells.cells in
-    let small = c.in_ok-small.small in
     let r = c.args.request.now in
-    (cells, small, c.in_ok-cells.ensures, c.in_ok-small.ensures, found_again cells c.args.learnt r small c.requires.request c.requires.cells c.in_ok-small.ensures, refl)
+    weaker alloc_error (IsSmallFound cells c.args.learnt r) (IsFound c.args.bytes.now c.args.learnt r) _ (λ reply h. (cells, c.in_ok-cells.ensures, h)) c.small_of.ensures

@@ -5,4 +5,4 @@ use Rattle.bt_write.proofs.blueprint.text_of.Given as goal
 
 -- the front and the entities so far
 abbrev pub invariant-loop-i : goal.invariant-loop-i
-invariant-loop-i l = l.text.items ≡ codes "{\"blueprint\":{\"item\":\"blueprint\",\"entities\":[" ++ join_with_byte 44 (take l.i (entity_texts l.version l.parts))
+invariant-loop-i l = l.text.items ≡ codes "{\"blueprint\":{\"item\":\"blueprint\",\"entities\":[" ++ join_with_byte 44 (take l.i (entity_texts l.version l.parts l.priorities))

@@ -1,0 +1,7 @@
+pub mod Alike
+pub mod Listing
+pub mod Renamed
+pub mod Exact
+pub mod Within
+pub mod InRows
+pub mod Marks

@@ -1,0 +1,7 @@
+-- What the private functions alone cite: no public clause rests on these.
+pub mod Fitting
+pub mod Joins
+pub mod Marks
+pub mod Naming
+pub mod Rows
+pub mod Tests

@@ -1,0 +1,15 @@
+//! What follows where parts lay a request by some names.
+ghost use Rattle.std.specs.Prelude.{List};
+ghost use Rattle.bt_parts.specs.declared.part.Part.{Part};
+ghost use Rattle.bt_model.specs.Laying.{Lays};
+ghost use Rattle.bt_model.specs.Requests.{LayoutRequest};
+ghost use Rattle.bt_model.specs.Shown.{Naming};
+ghost use Rattle.bt_lays.specs.Laid.{LaysBy};
+
+/// Parts lay a request where they lay it by some names, and only there.
+pub fn laid_by_names()
+    ensures by_names { (parts : List Part) (naming : Naming) (request : LayoutRequest)
+        → LaysBy parts naming request → Lays parts request }
+    ensures some_names { (parts : List Part) (request : LayoutRequest)
+        → Lays parts request → (naming : Naming) × LaysBy parts naming request }
+{}

@@ -1,0 +1,1 @@
+use Rattle.bt_net.proofs.rows.read_kind.Goals as goal

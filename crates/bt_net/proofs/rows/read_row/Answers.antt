@@ -1,0 +1,1 @@
+use Rattle.bt_net.proofs.rows.read_row.Goals as goal

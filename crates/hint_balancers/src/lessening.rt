@@ -1,0 +1,40 @@
+//! Merging and dividing lines until there are as many as are wanted.
+
+use crate::block::{Block, inputs_of};
+use bt_net::Start;
+use std::alloc::{AllocError, Global};
+
+/// So many lines from as many inputs as there are: the first two are merged, or the first one is divided, again and
+/// again. Where all inputs are full and all outputs open, the outputs carry what they can.
+pub fn brought_to(alloc: Global, inputs: u32, outputs: u32) -> Result<Block, AllocError> {
+    let mut block = Block::new(alloc, inputs, 0);
+    let mut lines = inputs_of(alloc, inputs)?;
+    merge(&mut block, &mut lines, inputs.saturating_sub(outputs))?;
+    divide(&mut block, &mut lines, outputs.saturating_sub(inputs))?;
+    block.end(&lines)?;
+    Ok(block)
+}
+
+/// Merges the first two lines, so often.
+fn merge(block: &mut Block, lines: &mut Vec<Start>, count: u32) -> Result<(), AllocError> {
+    for _ in 0..count {
+        if lines.len() >= 2 {
+            let first = lines.remove(0);
+            let second = lines.remove(0);
+            lines.push(block.join(first, second)?)?;
+        }
+    }
+    Ok(())
+}
+
+/// Divides the first line, so often.
+fn divide(block: &mut Block, lines: &mut Vec<Start>, count: u32) -> Result<(), AllocError> {
+    for _ in 0..count {
+        if !lines.is_empty() {
+            let line = block.part(lines.remove(0))?;
+            lines.push(line)?;
+            lines.push(line)?;
+        }
+    }
+    Ok(())
+}

@@ -1,0 +1,101 @@
+//! Networks of the table.
+
+use crate::block::Block;
+use crate::known::KNOWN;
+use crate::reading::{block_of, push_header, read_net};
+use bt_flow::Property;
+use bt_net::Net;
+use bt_text::{after_word, first_line, line_feeds};
+use bt_wish::Wish;
+use std::alloc::{AllocError, Global};
+
+/// The most inputs and outputs of a network of the table.
+pub const MOST_TABLED: u32 = 8;
+
+/// All properties.
+const PROPERTIES: [Property; 6] = [
+    Property::Balanced,
+    Property::DrawnEvenly,
+    Property::Unlimited,
+    Property::Full,
+    Property::Fair,
+    Property::DrawnFairly,
+];
+
+/// Adds the networks of the table that have so many inputs and outputs and each wished property.
+pub fn push_tabled(
+    nets: &mut Vec<Net>,
+    alloc: Global,
+    wish: Wish,
+    inputs: u32,
+    outputs: u32,
+) -> Result<(), AllocError> {
+    let mut front = Vec::new(alloc);
+    push_header(&mut front, inputs, outputs)?;
+    let mut rest = KNOWN.as_bytes();
+    for _ in 0..line_feeds(rest) {
+        let (line, text) = first_line(rest);
+        if is_wanted(wish, line, &front, text) {
+            push_read(nets, alloc, text)?;
+        }
+        rest = text;
+    }
+    Ok(())
+}
+
+/// Whether a line names each wished property, and the text behind it begins so.
+fn is_wanted(wish: Wish, line: &[u8], front: &[u8], text: &[u8]) -> bool {
+    match Wish::named(line) {
+        Some(held) => covers(held, wish) && after_word(text, front).is_some(),
+        None => false,
+    }
+}
+
+/// Whether each wished property is one that is held.
+fn covers(held: Wish, wish: Wish) -> bool {
+    for property in PROPERTIES {
+        if wish.includes(property) && !held.includes(property) {
+            return false;
+        }
+    }
+    true
+}
+
+/// Adds the network at the front of a text.
+fn push_read(nets: &mut Vec<Net>, alloc: Global, text: &[u8]) -> Result<(), AllocError> {
+    match read_net(alloc, text)? {
+        Some(net) => {
+            nets.push(net)?;
+            Ok(())
+        }
+        None => Ok(()),
+    }
+}
+
+/// The first block of the table that has so many inputs and outputs and each wished property, and whose splitters prefer
+/// no edge.
+pub fn tabled(
+    alloc: Global,
+    wish: Wish,
+    inputs: u32,
+    outputs: u32,
+) -> Result<Option<Block>, AllocError> {
+    let mut nets = Vec::new(alloc);
+    push_tabled(&mut nets, alloc, wish, inputs, outputs)?;
+    for net in &nets {
+        if !prefers(net) {
+            return Ok(Some(block_of(alloc, net)?));
+        }
+    }
+    Ok(None)
+}
+
+/// Whether a splitter of a network prefers an edge.
+fn prefers(net: &Net) -> bool {
+    for splitter in 0..net.splitters() {
+        if net.take(splitter as usize).is_some() || net.give(splitter as usize).is_some() {
+            return true;
+        }
+    }
+    false
+}

@@ -1,0 +1,13 @@
+//! Proposals of layouts: parts with names that may lay a request.
+//!
+//! Nothing is claimed of a proposal: whoever takes one tests it (`bt_lays`). Strategies for more requests are asked in
+//! `propose`, one after another.
+#![tactic(auto)]
+
+mod ends;
+mod naming;
+mod proposing;
+
+pub use naming::{Proposal, name_sketch};
+pub use proposing::propose;
+pub use std::alloc::AllocError as Memory;

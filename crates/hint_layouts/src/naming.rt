@@ -1,0 +1,144 @@
+//! Names for the parts of a sketch.
+ghost use Rattle.std.specs.Prelude.{◌↔◌, IsTrue};
+ghost use Rattle.bt_parts.specs.Cells.{IsInRange};
+ghost use Rattle.bt_parts.specs.Layouts.{AreInRange};
+
+use crate::ends::name_ends;
+use bt_grid::{Grid, GridFault};
+use bt_lays::Names;
+use bt_model::Request;
+use bt_parts::{MOST_COORDINATE, Part};
+use bt_recover::{RecoverFault, recover};
+use hint_placement::Sketch;
+use std::alloc::{AllocError, Global};
+
+/// Parts in ascending order of y and then x of their cells, and which of them bears each number of a request's network.
+#[derive(Drop)]
+pub struct Proposal {
+    pub parts: Vec<Part>,
+    pub names: Names,
+}
+
+/// A part of a sketch by its cell, and its place in the sketch: the splitters come first.
+type Placed = (i32, i32, usize);
+
+/// The part at a place of a sketch.
+fn part_at(sketch: &Sketch, place: usize) -> Option<Part> {
+    let splitters = sketch.splitters.len();
+    match sketch.splitters.get(place) {
+        Some((_, part)) => Some(*part),
+        None => sketch.others.get(place.saturating_sub(splitters)).copied(),
+    }
+}
+
+/// The places of a sketch's parts in the order of their cells.
+fn in_order(alloc: Global, sketch: &Sketch) -> Result<Vec<Placed>, AllocError> {
+    let count = sketch.splitters.len().saturating_add(sketch.others.len());
+    let mut order = Vec::new(alloc);
+    for place in 0..count {
+        if let Some(part) = part_at(sketch, place) {
+            order.push((part.cell.y, part.cell.x, place))?;
+        }
+    }
+    order.sort()?;
+    Ok(order)
+}
+
+/// Names an index by the number of the splitter at a place of a sketch, where a splitter stands there.
+fn name_splitter(splitters: &mut [usize], sketch: &Sketch, place: usize, index: usize) {
+    if let Some((number, _)) = sketch.splitters.get(place) {
+        if let Some(name) = splitters.get_mut(*number) {
+            *name = index;
+        }
+    }
+}
+
+/// The parts in this order.
+fn parts_in(alloc: Global, sketch: &Sketch, order: &[Placed]) -> Result<Vec<Part>, AllocError> {
+    let mut parts = Vec::new(alloc);
+    for (_, _, place) in order {
+        if let Some(part) = part_at(sketch, *place) {
+            parts.push(part)?;
+        }
+    }
+    Ok(parts)
+}
+
+/// The index in this order of each of so many splitters.
+fn splitters_in(
+    alloc: Global,
+    sketch: &Sketch,
+    order: &[Placed],
+    count: usize,
+) -> Result<Vec<usize>, AllocError> {
+    let mut splitters = vec![in alloc; usize::MAX; count]?;
+    for (index, (_, _, place)) in order.iter().enumerate() {
+        name_splitter(&mut splitters, sketch, *place, index);
+    }
+    Ok(splitters)
+}
+
+/// Whether the coordinates of a part are in range.
+fn is_in_range(part: &Part) -> bool
+    ensures { IsTrue result ↔ IsInRange part.now.cell }
+{
+    part.cell.x.unsigned_abs() <= MOST_COORDINATE && part.cell.y.unsigned_abs() <= MOST_COORDINATE
+}
+
+/// Whether the coordinates of all parts are in range.
+fn are_in_range(parts: &[Part]) -> bool
+    ensures { IsTrue result → AreInRange parts.now }
+{
+    for part in parts {
+        if !is_in_range(part) {
+            return false;
+        }
+    }
+    true
+}
+
+/// The parts on a grid, where no two share a cell.
+fn grid_of(alloc: Global, parts: Vec<Part>) -> Result<Option<Grid>, AllocError> {
+    if !are_in_range(&parts) {
+        return Ok(None);
+    }
+    match Grid::place(alloc, parts) {
+        Ok(grid) => Ok(Some(grid)),
+        Err(GridFault::Overlap(..)) => Ok(None),
+        Err(GridFault::Memory) => Err(AllocError),
+    }
+}
+
+/// The proposal of these parts, whose splitters have these indices.
+fn proposal_on(
+    alloc: Global,
+    request: &Request,
+    grid: &Grid,
+    splitters: Vec<usize>,
+) -> Result<Option<Proposal>, AllocError> {
+    match recover(alloc, grid) {
+        Ok(traced) => Ok(Some(Proposal {
+            parts: Vec::from_slice(alloc, grid.parts())?,
+            names: name_ends(alloc, request, grid.parts(), splitters, &traced)?,
+        })),
+        Err(RecoverFault::Memory) => Err(AllocError),
+        Err(_) => Ok(None),
+    }
+}
+
+/// The parts of a sketch of a request, with names: the splitters have those of the sketch, and ends get theirs by the
+/// splitters to which they lead and by where the request wants them. None where the parts show no network.
+pub fn name_sketch(
+    alloc: Global,
+    request: &Request,
+    sketch: &Sketch,
+) -> Result<Option<Proposal>, AllocError> {
+    let order = in_order(alloc, sketch)?;
+    let count = request.net().splitters() as usize;
+    let splitters = splitters_in(alloc, sketch, &order, count)?;
+    let parts = parts_in(alloc, sketch, &order)?;
+    match grid_of(alloc, parts)? {
+        Some(grid) => proposal_on(alloc, request, &grid, splitters),
+        None => Ok(None),
+    }
+}

@@ -1,0 +1,41 @@
+//! Strategies that propose layouts.
+use crate::naming::{Proposal, name_sketch};
+use bt_model::Request;
+use hint_placement::{Sketch, find_sketch};
+use hint_stages::find_stages;
+use std::alloc::{AllocError, Global};
+
+/// A router is asked only where edges times cells are at most so many: it keeps some bytes for each edge and cell.
+const MOST_ROUTED: u64 = 1 << 20;
+
+/// Whether a router may be asked.
+fn may_route(request: &Request) -> bool {
+    let rect = request.rect();
+    let cells = u64::from(rect.width).saturating_mul(u64::from(rect.height));
+    cells.saturating_mul(request.net().edges().len() as u64) <= MOST_ROUTED
+}
+
+/// A plan, by the first strategy that comes to one: stage by stage, or else by ranks.
+fn sketch_of(alloc: Global, request: &Request) -> Result<Option<Sketch>, AllocError> {
+    let staged = find_stages(alloc, request)?;
+    if staged.is_some() || !may_route(request) {
+        return Ok(staged);
+    }
+    find_sketch(alloc, request)
+}
+
+/// Parts with names that may lay a request, in ascending order of y and then x of their cells, where some are found. The
+/// budget is how many steps may be taken in all: with none nothing is looked for.
+pub fn propose(
+    alloc: Global,
+    request: &Request,
+    budget: u64,
+) -> Result<Option<Proposal>, AllocError> {
+    if budget == 0 {
+        return Ok(None);
+    }
+    match sketch_of(alloc, request)? {
+        Some(sketch) => name_sketch(alloc, request, &sketch),
+        None => Ok(None),
+    }
+}

@@ -1,0 +1,373 @@
+//! In which order the splitters of each rank stand.
+use crate::wiring::{Beside, Wiring, both_at};
+use std::alloc::{AllocError, Global};
+use std::mem::replace;
+
+/// The splitters of ranks, from the last one to the first, each in the order of their columns.
+pub type Rows = Vec<Vec<usize>>;
+
+/// The most ranks of a butterfly: so many lines has none that a grid holds.
+const MOST_RANKS: usize = 7;
+
+/// Whether no splitter stands twice in a row of so many splitters' numbers.
+fn are_apart(alloc: Global, row: &[usize], count: usize) -> Result<bool, AllocError> {
+    let mut seen = vec![in alloc; false; count]?;
+    for splitter in row {
+        match seen.get_mut(*splitter) {
+            Some(is_seen) if !*is_seen => *is_seen = true,
+            _ => return Ok(false),
+        }
+    }
+    Ok(true)
+}
+
+/// The splitters to which those of a row lead, in this order, where each leads to two.
+fn next_row(
+    alloc: Global,
+    row: &[usize],
+    behind: &[Beside],
+) -> Result<Option<Vec<usize>>, AllocError> {
+    let mut next = Vec::new(alloc);
+    for splitter in row {
+        match both_at(behind, *splitter) {
+            Some((one, other)) => {
+                next.push(one)?;
+                next.push(other)?;
+            }
+            None => return Ok(None),
+        }
+    }
+    Ok(Some(next))
+}
+
+/// The splitters to which one leads over so many ranks, in an order in which both that one leads to stand side by side.
+fn reached(
+    alloc: Global,
+    behind: &[Beside],
+    first: usize,
+    ranks: usize,
+) -> Result<Option<Vec<usize>>, AllocError> {
+    let mut row = Vec::new(alloc);
+    row.push(first)?;
+    for _ in 1..ranks {
+        match next_row(alloc, &row, behind)? {
+            Some(next) => row = next,
+            None => return Ok(None),
+        }
+    }
+    if are_apart(alloc, &row, behind.len())? {
+        Ok(Some(row))
+    } else {
+        Ok(None)
+    }
+}
+
+/// The splitters from which those of a row come, each once, where each comes from two.
+fn row_before(
+    alloc: Global,
+    row: &[usize],
+    before: &[Beside],
+) -> Result<Option<Vec<usize>>, AllocError> {
+    let mut seen = vec![in alloc; false; before.len()]?;
+    let mut found = Vec::new(alloc);
+    for splitter in row {
+        let Some((one, other)) = both_at(before, *splitter) else {
+            return Ok(None);
+        };
+        for source in &[one, other] {
+            if let Some(is_seen) = seen.get_mut(*source) {
+                if !*is_seen {
+                    *is_seen = true;
+                    found.push(*source)?;
+                }
+            }
+        }
+    }
+    Ok(Some(found))
+}
+
+/// The splitters of so many ranks in any order, from the last rank, which is this one, to the first.
+fn ranks_before(
+    alloc: Global,
+    last: &[usize],
+    before: &[Beside],
+    ranks: usize,
+) -> Result<Option<Rows>, AllocError> {
+    let mut row = Vec::from_slice(alloc, last)?;
+    let mut rows = Vec::new(alloc);
+    for _ in 1..ranks {
+        match row_before(alloc, &row, before)? {
+            Some(next) => rows.push(replace(&mut row, next))?,
+            None => return Ok(None),
+        }
+    }
+    rows.push(row)?;
+    Ok(Some(rows))
+}
+
+/// The label of a splitter: two splitters of one rank have the same where they belong to the same half, or quarter, and so
+/// on, of the ranks up to theirs.
+fn label_at(labels: &[usize], splitter: usize) -> usize {
+    labels.get(splitter).copied().unwrap_or(usize::MAX)
+}
+
+/// The labels of splitters of ranks, which are listed from the last to the first: those of the first rank are given.
+fn labels_of(
+    alloc: Global,
+    ranks: &[Vec<usize>],
+    before: &[Beside],
+    first: &[usize],
+) -> Result<Vec<usize>, AllocError> {
+    let mut labels = vec![in alloc; usize::MAX; before.len()]?;
+    for (place, rank) in ranks.iter().rev().enumerate() {
+        for splitter in rank {
+            let label = match both_at(before, *splitter) {
+                Some((one, other)) if place > 0 => {
+                    label_at(&labels, one).min(label_at(&labels, other))
+                }
+                _ => label_at(first, *splitter),
+            };
+            if let Some(known) = labels.get_mut(*splitter) {
+                *known = label;
+            }
+        }
+    }
+    Ok(labels)
+}
+
+/// The two splitters from which both at these places of a row come, first that of the half with the lesser label.
+fn sources(
+    row: &[usize],
+    place: usize,
+    before: &[Beside],
+    labels: &[usize],
+) -> Option<(usize, usize)> {
+    let first = row.get(place.saturating_mul(2))?;
+    let second = row.get(place.saturating_mul(2).saturating_add(1))?;
+    let (one, other) = both_at(before, *first)?;
+    if both_at(before, *second) != Some((one, other)) {
+        None
+    } else if label_at(labels, one) < label_at(labels, other) {
+        Some((one, other))
+    } else {
+        Some((other, one))
+    }
+}
+
+/// Writes a splitter's number to a place of a row.
+fn write(row: &mut [usize], place: usize, splitter: usize) {
+    if let Some(number) = row.get_mut(place) {
+        *number = splitter;
+    }
+}
+
+/// The row under one that consists of blocks of twice so many splitters, each over two halves side by side.
+fn row_under(
+    alloc: Global,
+    row: &[usize],
+    half: usize,
+    before: &[Beside],
+    labels: &[usize],
+) -> Result<Option<Vec<usize>>, AllocError> {
+    let mut next = vec![in alloc; usize::MAX; row.len()]?;
+    for place in 0..row.len() / 2 {
+        let Some((left, right)) = sources(row, place, before, labels) else {
+            return Ok(None);
+        };
+        let seat = block_start(place, half).saturating_add(place % half.max(1));
+        write(&mut next, seat, left);
+        write(&mut next, seat.saturating_add(half), right);
+    }
+    Ok(Some(next))
+}
+
+/// Where the block begins in which a pair of this place stands, where half a block has so many splitters.
+fn block_start(place: usize, half: usize) -> usize {
+    (place / half.max(1)).saturating_mul(half).saturating_mul(2)
+}
+
+/// The rows of so many ranks, of which the last is this one.
+fn rows_under(
+    alloc: Global,
+    last: Vec<usize>,
+    before: &[Beside],
+    labels: &[usize],
+) -> Result<Option<Rows>, AllocError> {
+    let mut half = last.len() / 2;
+    let mut row = last;
+    let mut rows = Vec::new(alloc);
+    for _ in 0..MOST_RANKS {
+        if half == 0 {
+            break;
+        }
+        match row_under(alloc, &row, half, before, labels)? {
+            Some(next) => rows.push(replace(&mut row, next))?,
+            None => return Ok(None),
+        }
+        half /= 2;
+    }
+    rows.push(row)?;
+    Ok(Some(rows))
+}
+
+/// A direction in which a network is gone through: what lies before and behind each splitter, and the labels that splitters
+/// of the first rank have: of two halves the one with the lesser labels stands to the left.
+#[derive(Clone, Copy)]
+struct Way<'a> {
+    before: &'a [Beside],
+    behind: &'a [Beside],
+    labels: &'a [usize],
+}
+
+/// The rows of a butterfly of so many ranks that begins with this splitter's.
+fn butterfly_from(
+    alloc: Global,
+    way: Way,
+    first: usize,
+    ranks: usize,
+) -> Result<Option<Rows>, AllocError> {
+    let Some(last) = reached(alloc, way.behind, first, ranks)? else {
+        return Ok(None);
+    };
+    let Some(sets) = ranks_before(alloc, &last, way.before, ranks)? else {
+        return Ok(None);
+    };
+    let labels = labels_of(alloc, &sets, way.before, way.labels)?;
+    rows_under(alloc, last, way.before, &labels)
+}
+
+/// A label for each splitter: its number.
+fn numbers(alloc: Global, count: usize) -> Result<Vec<usize>, AllocError> {
+    let mut labels = Vec::new(alloc);
+    for number in 0..count {
+        labels.push(number)?;
+    }
+    Ok(labels)
+}
+
+/// A label for each splitter of a row: its place.
+fn places(alloc: Global, row: &[usize], count: usize) -> Result<Vec<usize>, AllocError> {
+    let mut labels = vec![in alloc; usize::MAX; count]?;
+    for (place, splitter) in row.iter().enumerate() {
+        write(&mut labels, *splitter, place);
+    }
+    Ok(labels)
+}
+
+/// The rows of a butterfly along the edges.
+fn rows_onward(
+    alloc: Global,
+    wiring: &Wiring,
+    first: usize,
+    ranks: usize,
+) -> Result<Option<Rows>, AllocError> {
+    let labels = numbers(alloc, wiring.before.len())?;
+    let way = Way {
+        before: &wiring.before,
+        behind: &wiring.behind,
+        labels: &labels,
+    };
+    butterfly_from(alloc, way, first, ranks)
+}
+
+/// The rows of a butterfly against the edges, which begins with this row.
+fn rows_against(
+    alloc: Global,
+    wiring: &Wiring,
+    shared: &[usize],
+    ranks: usize,
+) -> Result<Option<Rows>, AllocError> {
+    let labels = places(alloc, shared, wiring.before.len())?;
+    let way = Way {
+        before: &wiring.behind,
+        behind: &wiring.before,
+        labels: &labels,
+    };
+    let Some(first) = shared.first().copied() else {
+        return Ok(None);
+    };
+    let Some(rows) = butterfly_from(alloc, way, first, ranks)? else {
+        return Ok(None);
+    };
+    match rows.last() {
+        Some(row) if **row == *shared => Ok(Some(rows)),
+        _ => Ok(None),
+    }
+}
+
+/// The rows of a network that is laid stage by stage.
+#[derive(Drop)]
+pub struct Arranged {
+    /// The rows of the butterfly whose last rank has the outputs.
+    pub upper: Rows,
+    /// Of a Benes network the rows of the butterfly against its edges, whose last rank has the inputs.
+    pub lower: Rows,
+}
+
+/// What network it may be, by the number of its splitters.
+#[derive(Clone, Copy)]
+enum Shape {
+    /// A butterfly of so many ranks.
+    Butterfly(usize),
+    /// A Benes network: two butterflies of so many ranks, which share one.
+    Benes(usize),
+}
+
+/// What a network of so many splitters may be.
+fn shape_of(splitters: usize) -> Option<Shape> {
+    let mut across = 1usize;
+    for ranks in 1..=MOST_RANKS {
+        if splitters == ranks.saturating_mul(across) {
+            return Some(Shape::Butterfly(ranks));
+        }
+        let both = ranks.saturating_mul(2).saturating_sub(1);
+        if splitters == both.saturating_mul(across) {
+            return Some(Shape::Benes(ranks));
+        }
+        across = across.saturating_mul(2);
+    }
+    None
+}
+
+/// The rows of a Benes network of two butterflies of so many ranks.
+fn benes_from(
+    alloc: Global,
+    wiring: &Wiring,
+    first: usize,
+    ranks: usize,
+) -> Result<Option<Arranged>, AllocError> {
+    let Some(middle) = reached(alloc, &wiring.behind, first, ranks)? else {
+        return Ok(None);
+    };
+    let Some(beginning) = middle.first().copied() else {
+        return Ok(None);
+    };
+    let Some(upper) = rows_onward(alloc, wiring, beginning, ranks)? else {
+        return Ok(None);
+    };
+    let Some(shared) = upper.last() else {
+        return Ok(None);
+    };
+    match rows_against(alloc, wiring, shared, ranks)? {
+        Some(lower) => Ok(Some(Arranged { upper, lower })),
+        None => Ok(None),
+    }
+}
+
+/// The rows of a network, where it is a butterfly or a Benes network.
+pub fn arrange(alloc: Global, wiring: &Wiring) -> Result<Option<Arranged>, AllocError> {
+    let Some(first) = wiring.first else {
+        return Ok(None);
+    };
+    match shape_of(wiring.before.len()) {
+        Some(Shape::Butterfly(ranks)) => match rows_onward(alloc, wiring, first, ranks)? {
+            Some(upper) => Ok(Some(Arranged {
+                upper,
+                lower: Vec::new(alloc),
+            })),
+            None => Ok(None),
+        },
+        Some(Shape::Benes(ranks)) => benes_from(alloc, wiring, first, ranks),
+        None => Ok(None),
+    }
+}

@@ -1,0 +1,16 @@
+//! Plans of butterflies and of Benes networks, stage by stage: like halves stand side by side, and between two ranks there is
+//! a channel, whose belts are laid once for each rank and copied.
+//!
+//! Nothing is claimed of a plan. How splitters and edges are numbered decides nothing.
+#![tactic(auto)]
+
+mod arranging;
+mod channel;
+mod eight;
+mod sense;
+mod stack;
+mod stacking;
+mod wiring;
+
+pub use stacking::find_stages;
+pub use std::alloc::AllocError as Memory;

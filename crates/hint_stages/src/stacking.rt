@@ -1,0 +1,231 @@
+//! The parts of a plan, rank by rank from the south to the north.
+use crate::arranging::{Arranged, arrange};
+use crate::channel::{Channel, find_channel};
+use crate::eight::{CORE_LINES, CORE_RANKS, CORE_ROWS};
+use crate::sense::Sense;
+use crate::stack::{Stack, ahead};
+use crate::wiring::wiring_of;
+use bt_model::Request;
+use bt_parts::{Cell, Dir, Tier};
+use hint_numbering::goes_north;
+use hint_placement::Sketch;
+use std::alloc::{AllocError, Global};
+
+/// The most channels: a grid holds no more.
+const MOST_CHANNELS: usize = 6;
+
+/// The channels of a butterfly: over the core of eight lines, or over its first rank where it has fewer lines.
+#[derive(Drop)]
+struct Channels {
+    /// Whether its first three ranks are cores.
+    has_cores: bool,
+    /// The channels from the least blocks to that of all lines.
+    list: Vec<Channel>,
+}
+
+/// The channels of a network with so many splitters in a row, of at most so many rows in all.
+fn channels_of(
+    alloc: Global,
+    tier: Tier,
+    across: usize,
+    most: u32,
+) -> Result<Option<Channels>, AllocError> {
+    let has_cores = across.saturating_mul(2) >= CORE_LINES as usize;
+    let mut list = Vec::new(alloc);
+    let mut half = if has_cores { CORE_LINES / 2 } else { 1 };
+    let mut left = most;
+    for _ in 0..MOST_CHANNELS {
+        if (half as usize).saturating_mul(2) > across {
+            break;
+        }
+        match find_channel(alloc, tier, half, left)? {
+            Some(channel) => {
+                left = left.saturating_sub(channel.height);
+                list.push(channel)?;
+            }
+            None => return Ok(None),
+        }
+        half = half.saturating_mul(2);
+    }
+    Ok(Some(Channels { has_cores, list }))
+}
+
+impl Channels {
+    /// How many ranks lie under the channels.
+    fn first_ranks(&self) -> usize {
+        if self.has_cores { CORE_RANKS } else { 1 }
+    }
+
+    /// How many lines the blocks have over the first channel.
+    fn first_lines(&self) -> u32 {
+        if self.has_cores {
+            CORE_LINES.saturating_mul(2)
+        } else {
+            4
+        }
+    }
+
+    /// How many rows the ranks of a butterfly take with its channels.
+    fn rows(&self) -> u32 {
+        let mut rows = if self.has_cores { CORE_ROWS } else { 1 };
+        for channel in &self.list {
+            rows = rows.saturating_add(channel.height).saturating_add(1);
+        }
+        rows
+    }
+
+    /// How many rows a plan takes: one of inputs, one of outputs, and those of one butterfly or of two that share a rank.
+    fn rows_of(&self, arranged: &Arranged) -> u32 {
+        let once = self.rows();
+        if arranged.lower.is_empty() {
+            once.saturating_add(2)
+        } else {
+            once.saturating_mul(2).saturating_add(1)
+        }
+    }
+}
+
+/// How many blocks of so many lines stand side by side in a row of so many splitters.
+fn blocks_of(splitters: usize, lines: u32) -> u32 {
+    let mut blocks = 0u32;
+    let mut left = splitters.saturating_mul(2);
+    for _ in 0..splitters {
+        if left == 0 {
+            break;
+        }
+        left = left.saturating_sub(lines as usize);
+        blocks = blocks.saturating_add(1);
+    }
+    blocks
+}
+
+/// Adds the first ranks of a butterfly: cores, or its first rank alone.
+fn push_first(
+    stack: &mut Stack,
+    rows: &[Vec<usize>],
+    channels: &Channels,
+) -> Result<(), AllocError> {
+    let Some(first) = rows.last() else {
+        return Ok(());
+    };
+    if channels.has_cores {
+        let place = rows.len().saturating_sub(CORE_RANKS);
+        let blocks = blocks_of(first.len(), CORE_LINES);
+        stack.push_cores(blocks, rows.get(place..).unwrap_or(&[]), Sense::Onward)
+    } else {
+        stack.push_splitters(first)
+    }
+}
+
+/// Adds a butterfly along its edges.
+fn push_upper(
+    stack: &mut Stack,
+    rows: &[Vec<usize>],
+    channels: &Channels,
+) -> Result<(), AllocError> {
+    push_first(stack, rows, channels)?;
+    let mut lines = channels.first_lines();
+    let over = rows.iter().rev().skip(channels.first_ranks());
+    for (row, channel) in over.zip(channels.list.iter()) {
+        let blocks = blocks_of(row.len(), lines);
+        stack.push_channel(channel, blocks, lines, Sense::Onward)?;
+        stack.push_splitters(row)?;
+        lines = lines.saturating_mul(2);
+    }
+    Ok(())
+}
+
+/// Adds the cores of a butterfly against its edges, but for their first rank, which stands over them.
+fn push_last(
+    stack: &mut Stack,
+    rows: &[Vec<usize>],
+    channels: &Channels,
+) -> Result<(), AllocError> {
+    let Some(first) = rows.last() else {
+        return Ok(());
+    };
+    if channels.has_cores {
+        let end = rows.len().saturating_sub(1);
+        let place = rows.len().saturating_sub(CORE_RANKS);
+        let blocks = blocks_of(first.len(), CORE_LINES);
+        stack.push_cores(blocks, rows.get(place..end).unwrap_or(&[]), Sense::Against)?;
+    }
+    Ok(())
+}
+
+/// Adds a butterfly against its edges, but for its first rank, which stands over it.
+fn push_lower(
+    stack: &mut Stack,
+    rows: &[Vec<usize>],
+    channels: &Channels,
+) -> Result<(), AllocError> {
+    let mut lines = channels.first_lines() / 2;
+    for _ in &channels.list {
+        lines = lines.saturating_mul(2);
+    }
+    for (row, channel) in rows.iter().zip(channels.list.iter().rev()) {
+        let blocks = blocks_of(row.len(), lines);
+        stack.push_splitters(row)?;
+        stack.push_channel(channel, blocks, lines, Sense::Against)?;
+        lines /= 2;
+    }
+    push_last(stack, rows, channels)
+}
+
+/// The plan with these rows and channels, where the rectangle is large enough: rows that are left are belts to the north.
+fn stack_of(
+    alloc: Global,
+    request: &Request,
+    arranged: &Arranged,
+    channels: &Channels,
+) -> Result<Option<Sketch>, AllocError> {
+    let rect = request.rect();
+    let lines = request.net().inputs();
+    let rows = channels.rows_of(arranged);
+    if rect.height < rows {
+        return Ok(None);
+    }
+    let last = ahead(Cell { x: 0, y: -1 }, Dir::South, rect.height);
+    let mut stack = Stack::new(alloc, request.tier(), last);
+    stack.push_belts(lines)?;
+    push_lower(&mut stack, &arranged.lower, channels)?;
+    push_upper(&mut stack, &arranged.upper, channels)?;
+    for _ in rows..=rect.height {
+        stack.push_belts(lines)?;
+    }
+    Ok(Some(stack.sketch))
+}
+
+/// Whether a network may have a plan: it has as many inputs as outputs, and as many lines as its rows have.
+fn is_even(request: &Request, arranged: &Arranged) -> bool {
+    let lines = request.net().inputs();
+    match arranged.upper.last() {
+        Some(row) => {
+            request.net().outputs() == lines && row.len().saturating_mul(2) == lines as usize
+        }
+        None => false,
+    }
+}
+
+/// A plan of a butterfly or of a Benes network, of which a request asks nothing but that inputs are in the south and outputs
+/// in the north, or in rows. None of other networks, or where the rectangle is too small.
+pub fn find_stages(alloc: Global, request: &Request) -> Result<Option<Sketch>, AllocError> {
+    if !goes_north(request) || !request.blocks().is_empty() {
+        return Ok(None);
+    }
+    let wiring = wiring_of(alloc, request)?;
+    let Some(arranged) = arrange(alloc, &wiring)? else {
+        return Ok(None);
+    };
+    if !is_even(request, &arranged) {
+        return Ok(None);
+    }
+    let (rect, lines) = (request.rect(), request.net().inputs());
+    if rect.width < lines {
+        return Ok(None);
+    }
+    match channels_of(alloc, request.tier(), lines as usize / 2, rect.height)? {
+        Some(channels) => stack_of(alloc, request, &arranged, &channels),
+        None => Ok(None),
+    }
+}
