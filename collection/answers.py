@@ -1,4 +1,5 @@
-"""What became of a design, as a record keeps it: of reading it, of each property, and of looking for a smaller layout."""
+"""What became of a design, as a record keeps it: of reading it, of each property, and of looking for a smaller
+layout."""
 
 from dataclasses import asdict, dataclass, field, fields, replace
 
@@ -8,7 +9,9 @@ from .words import OF_ENDS
 SETTLED = ("yes", "no")
 OF_HALVES = "halves"
 """What is told of a property on which the choices of bare halves don't agree, or of which nothing is decided."""
-GAVE_UP = ("spent", "pivots", "wide", "late", "unaccepted")
+UNKNOWN = "unknown"
+"""What is told of a property that the program doesn't know."""
+GAVE_UP = ("spent", "pivots", "wide", "late", "unaccepted", UNKNOWN)
 ANSWERS = {"yes": "yes", "no": "not"}
 """How the name of a file begins that holds a certificate, or a breaking state."""
 FOUND = ("found", "none", "refused", "late")
@@ -40,6 +43,8 @@ class Limits:
     pivots: int | None = None
     width: int | None = None
     """How many tiles wide a smaller layout is at most."""
+    facing: bool = False
+    """Whether ends are to stand side by side in a smaller layout, inputs at one side and outputs at the other."""
 
     def words(self):
         """The words that tell the program of them."""
@@ -54,7 +59,7 @@ class Limits:
         return ["--learnt", str(self.learnt)] if self.learnt is not None else []
 
     def told_to_find(self):
-        return self.told() + ([self.width] if self.width else [])
+        return self.told() + ([self.width] if self.width else []) + (["facing"] if self.facing else [])
 
 
 @dataclass(frozen=True)
@@ -132,14 +137,15 @@ def together(answers):
 
 @dataclass(frozen=True)
 class Smaller(Kept):
-    """What became of looking for a smaller layout: its width and height, whether its ends are at the design's sides, and
-    the digests of its files, or why there is none; what it took, in seconds of a processor and by the clock; and under
-    which limits."""
+    """What became of looking for a smaller layout: its width and height, where its ends are, and the digests of its
+    files, or why there is none; what it took, in seconds of a processor and by the clock; and under which limits."""
 
     verdict: str
     why: str = ""
     size: list | None = None
     sides: bool = False
+    facing: bool = False
+    """Whether its inputs stand side by side at one side, and its outputs at the other."""
     processor: float | int | None = None
     clock: float | int | None = None
     digests: dict = field(default_factory=dict)

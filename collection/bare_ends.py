@@ -12,8 +12,10 @@ from .words import OF_ENDS
 from .work import how_it_ended
 
 
-ENDS = "which halves are opened: never one; those that the label tells of, as 4 to 4, or without it all where there is no "
-ENDS += "input or no output (label, which is the default); or always wherever that can be done"
+ENDS = (
+    "which halves are opened: never one; those that the label tells of, as 4 to 4, or without it all where there is "
+    "no input or no output (label, which is the default); or always wherever that can be done"
+)
 
 
 class Wrong(Exception):
@@ -25,10 +27,10 @@ def words_of(arguments):
     parser = argparse.ArgumentParser(
         prog="bare-ends",
         allow_abbrev=False,
-        description="Opens halves of splitters to which no belt leads, as bin/collection does: by belts of the splitter's "
-        "tier, straight to one cell beyond the design's border, where the network stays what it was but for this end more. "
-        "Writes the design, as JSON and without what can't touch a belt, on standard output, and what it did on standard "
-        "error.",
+        description="Opens halves of splitters to which no belt leads, as bin/collection does: by belts of the "
+        "splitter's tier, straight to one cell beyond the design's border, where the network stays what it was but "
+        "for this end more. Writes the design, as JSON and without what can't touch a belt, on standard output, and "
+        "what it did on standard error.",
     )
     parser.add_argument("--ends", choices=openings.MODES, default="label", help=ENDS)
     parser.add_argument("--choice", type=at_least(1), metavar="NUMBER", help="which of several choices, from 1 on")

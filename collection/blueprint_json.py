@@ -12,11 +12,11 @@ def words_of(arguments):
     parser = argparse.ArgumentParser(
         prog="blueprint-json",
         allow_abbrev=False,
-        description="Writes the JSON that a blueprint string holds, byte for byte, on standard output; of a book that of "
-        "one design, or its table of contents on standard error.",
+        description="Writes the JSON that a blueprint string holds, byte for byte, on standard output; of a book "
+        "that of one design, or its table of contents on standard error.",
     )
     parser.add_argument("path", nargs="?", default=inputs.STANDARD_INPUT, metavar="PATH", help=PATHS)
-    told = "which design of a book: its place, as 2.1 for the first one in the second, or its name with those of its books"
+    told = "which design of a book: its place, as 2.1 for the first one in the second, or its name with its books'"
     parser.add_argument("--at", metavar="PLACE", help=told)
     return parser.parse_args(arguments)
 

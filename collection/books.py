@@ -154,9 +154,9 @@ def entry(reader, book, number, depth):
             number = index_of(value, number) if name == "index" else number
             if held:
                 held.number = number
-    if len(reader.found) >= MOST_DESIGNS:
-        raise Fault(INPUTS["designs"].format(MOST_DESIGNS))
     if not held:
+        if len(reader.found) >= MOST_DESIGNS:
+            raise Fault(INPUTS["designs"].format(MOST_DESIGNS))
         kind = kind_of(names) if book else ""
         reader.found.append(Entry(book, number, reader.text[start : reader.at], label, kind))
 

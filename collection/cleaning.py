@@ -46,7 +46,9 @@ def of_tier(words):
         return name, None
     body = next((body for word, body in WORDS if word in name), None)
     if not sign or not name or tier not in TIERS:
-        raise WrongName(f"NAME=TIER is wanted, where the tier is one of {', '.join(TIERS)}, or {NOTHING}, and not {words}")
+        raise WrongName(
+            f"NAME=TIER is wanted, where the tier is one of {', '.join(TIERS)}, or {NOTHING}, and not {words}"
+        )
     if name in NAMES:
         raise WrongName(f"{name} is a part of the game, and has its own tier")
     if body is None:

@@ -7,16 +7,18 @@ import sys
 from collections import Counter
 from pathlib import Path
 
-from . import cleaning, compare, files, inputs, labels, openings, report, running
-from .answers import Limits
+from . import built, cleaning, compare, files, inputs, labels, openings, report, running
+from .answers import UNKNOWN, Limits
 from .program import NoProgram, find
 from .rows import LABELS, Row
-from .states import PROPERTIES
+from .words import PROPERTIES
 from .work import DESIGN_JSON, DESIGN_NET, Folder, Reading, Worker, all_of
 
 ENDED_WELL, FAILED, WRONG_WORDS, UNEXPECTED, STOPPED, UNHEARD = 0, 1, 2, 3, 130, 141
 PATHS = "a file, or a folder with all that is in it; - for standard input; or a blueprint string itself"
 SECONDS = "how many seconds by the clock a decision, or its check, may take"
+SECONDS_TO_LAY = 10
+"""How many seconds of a processor a layout is looked for of what is built, where none are given."""
 MOST = 1_000_000_000
 """How much a word asks for at most."""
 
@@ -68,6 +70,31 @@ def expecting(parser):
     parser.add_argument("--expect-labels", action="store_true", help=told)
 
 
+def asked_for(asked, rows):
+    """The properties that are decided: those that are named, or all; and those that have to hold."""
+    claimed = {
+        prop for row in rows for prop in labels.claims(row.found.label()).properties
+    } if asked.expect_labels else set()
+    wanted = {*(asked.properties or PROPERTIES), *asked.expect, *claimed}
+    return tuple(it for it in PROPERTIES if it in wanted)
+
+
+def wish_of(parser, wish, *ends):
+    """What a balancer has to have, and its numbers of ends."""
+    try:
+        return properties(wish), *(at_least(1)(it) for it in ends)
+    except (argparse.ArgumentTypeError, ValueError) as reason:
+        parser.error(f"--build: {reason}")
+
+
+def built_of(asked, program, output):
+    """The balancer that is asked for, as a design."""
+    wish, inputs_, outputs = asked.build
+    maker = built.Maker(program, output, asked.seconds or SECONDS_TO_LAY)
+    text = built.designed(maker, wish, inputs_, outputs).encode()
+    return inputs.Design(f"{inputs_} to {outputs}", f"built: {', '.join(wish)}", "", text)
+
+
 def words_of(arguments):
     """What the words ask for."""
     parser = argparse.ArgumentParser(
@@ -85,6 +112,13 @@ def words_of(arguments):
     parser.add_argument("--smaller", action="store_true", help="looks for a smaller layout of each design laid out")
     told = "how many tiles wide a smaller layout may be at most: the shortest of that width is looked for"
     parser.add_argument("--width", type=at_least(1), metavar="W", help=told)
+    told = "which properties are decided, with commas between; by default all six"
+    parser.add_argument("--properties", metavar="PROPERTIES", type=properties, action="extend", default=[], help=told)
+    told = "looks for layouts with inputs side by side at one side, outputs at the other; as wide as they are, "
+    parser.add_argument("--side-by-side", action="store_true", help=told + "if possible")
+    told = "builds a balancer from N to M with these properties, with commas between, and lays it out with its ends "
+    told += f"side by side, for {SECONDS_TO_LAY} seconds or those that are given"
+    parser.add_argument("--build", nargs=3, metavar=("PROPERTIES", "N", "M"), help=told)
     opening(parser)
     treating(parser)
     expecting(parser)
@@ -100,8 +134,12 @@ def words_of(arguments):
         if asked.paths or not asked.output:
             parser.error("two reports, and -o with a folder for what changed, are wanted")
         return asked
-    if not asked.one and not (asked.paths and asked.output):
+    if not asked.one and not ((asked.paths or asked.build) and asked.output):
         parser.error("the designs and -o with the report's folder are wanted")
+    if asked.build:
+        asked.build = wish_of(parser, *asked.build)
+        if asked.plan or asked.gather or asked.one:
+            parser.error("what is built is neither planned nor gathered")
     return asked
 
 
@@ -127,11 +165,16 @@ def say(rows, output, asked):
             print(f"collection: {files.plain(f'{row.found.name}: {it}')}", file=sys.stderr)
     with_network = [row for row in rows if row.net]
     found = sum(not row.found.is_passed for row in rows)
-    verdicts = Counter(row.answer(prop).verdict for row in with_network for prop in PROPERTIES)
+    verdicts = Counter(row.answer(prop).verdict for row in with_network for prop in row.asked)
     told = ", ".join(f"{number} {LABELS[verdict]}" for verdict, number in verdicts.items())
     print(f"{output / 'index.html'}: {found} found, {len(with_network)} with a network{': ' * bool(told)}{told}")
+    unknown = dict.fromkeys(prop for row in with_network for prop in row.asked if row.answer(prop).verdict == UNKNOWN)
+    if unknown:
+        print(f"collection: the program doesn't know {', '.join(unknown)}", file=sys.stderr)
     looked_for = [row.smaller.verdict for row in with_network if row.smaller]
-    if looked_for:
+    if looked_for and asked.side_by_side:
+        print(f"{looked_for.count('found')} laid out with ends side by side")
+    elif looked_for:
         kept = sum(row.smaller.sides for row in with_network if row.smaller)
         print(f"{looked_for.count('found')} with a smaller layout, of which {kept} with each end at its own side")
     broken = all(row.is_broken() or row.found.is_passed for row in rows)
@@ -190,12 +233,22 @@ def collect(asked):
         return compared(asked)
     worker = None
     if not asked.gather:
-        limits = Limits(asked.seconds, asked.learnt, asked.pivots, asked.width)
-        worker = Worker(find(asked.program), limits, asked.smaller, Reading(asked.bare_ends, tuple(asked.treat_as)))
+        limits = Limits(asked.seconds, asked.learnt, asked.pivots, asked.width, asked.side_by_side)
+        is_smaller = asked.smaller or asked.side_by_side
+        worker = Worker(find(asked.program), limits, is_smaller, Reading(asked.bare_ends, tuple(asked.treat_as)))
+        worker.properties = asked_for(asked, [])
     if asked.one:
         return one(asked.one, worker)
     output = Path(asked.output)
-    rows = [Row(it) for it in inputs.designs_of(asked.paths, output)]
+    rows = [Row(it) for it in (inputs.designs_of(asked.paths, output) if asked.paths else [])]
+    if asked.build:
+        output.mkdir(parents=True, exist_ok=True)
+        rows.append(Row(built_of(asked, worker.program, output)))
+    wanted = asked_for(asked, rows)
+    for row in rows:
+        row.asked = wanted
+    if worker:
+        worker.properties = wanted
     output.mkdir(parents=True, exist_ok=True)
     running.place(rows, output)
     if asked.gather:
@@ -223,7 +276,7 @@ def main(arguments):
         return UNHEARD
     except inputs.NotThere as missing:
         print("".join(f"collection: {line}\n" for line in str(missing).split("\n")), end="", file=sys.stderr)
-    except (NoProgram, compare.NoReport) as reason:
+    except (NoProgram, compare.NoReport, built.Unbuilt) as reason:
         print(f"collection: {reason}", file=sys.stderr)
     except OSError as fault:
         why = ": ".join(filter(None, (fault.filename and str(fault.filename), running.fault_of(fault))))

@@ -54,8 +54,8 @@ def body_of(design):
 
 
 def paired(old, new):
-    """The pairs of designs that are the same ones: by their digest, then by their names, and then by all that is judged of
-    them; and what is left of both."""
+    """The pairs of designs that are the same ones: by their digest, then by their names, and then by all that is judged
+    of them; and what is left of both."""
     pairs, left = [], list(new)
     for key in (lambda it: it["digest"], lambda it: it["name"], body_of):
         there = defaultdict(list)
@@ -82,7 +82,9 @@ def is_same_network(one, other):
     if not (networks.is_plain(one["network"]) and networks.is_plain(other["network"])):
         return False
     nets = [states.read_net(it["network"]) for it in (one, other)]
-    return networks.shape(nets[0]) == networks.shape(nets[1]) and networks.renaming(*(it.edges for it in nets)) is not None
+    return networks.shape(nets[0]) == networks.shape(nets[1]) and networks.renaming(
+        *(it.edges for it in nets)
+    ) is not None
 
 
 def where(design):
@@ -101,7 +103,8 @@ def of_pair(old, new):
         told = "{} × {} before, {} × {} now".format(*old["cells"], *new["cells"])
         yield Change("smaller" if sizes[1] < sizes[0] else "larger", *names, told)
     verdicts = [{it["property"]: it["words"] for it in design["properties"]} for design in (old, new)]
-    for prop in verdicts[0] | verdicts[1]:
+    # Where only one of the reports was asked for a property, nothing is said of it.
+    for prop in [it for it in verdicts[0] | verdicts[1] if not all(verdicts) or all(it in them for them in verdicts)]:
         before, now = (it.get(prop, "none") for it in verdicts)
         if before != now:
             yield Change("verdict changed", *names, f"{prop}: {before} before, {now} now")
@@ -136,8 +139,12 @@ def page(found, titles):
     rows = []
     for it in found:
         name = named(it.new or it.old)
-        before = element("span", "before: ", named(it.old), class_="note") if it.old and it.new and it.old != it.new else ""
-        rows.append(element("tr", element("th", name, before, scope="row"), element("td", it.kind), element("td", shown(it.what))))
+        before = element(
+            "span", "before: ", named(it.old), class_="note"
+        ) if it.old and it.new and it.old != it.new else ""
+        rows.append(element(
+            "tr", element("th", name, before, scope="row"), element("td", it.kind), element("td", shown(it.what))
+        ))
     body = element("table", element("tbody", *rows), class_="others") if rows else element("p", "Nothing has changed.")
     title = f"{titles[0]} and {titles[1]}, compared"
     content = element("header", element("h1", shown(title)), element("ul", *tiles, class_="tiles"))

@@ -29,7 +29,7 @@ STEPS = ((0, -1), (1, 0), (0, 1), (-1, 0))
 SIXTEENTHS_SINCE = 2
 """From this major version on a full turn has sixteen directions, and eight before."""
 
-MOST_ENTITIES = 4096
+MOST_ENTITIES = 16384
 WIDEST = 2048
 """How many cells a picture has at most, from west to east and from north to south."""
 

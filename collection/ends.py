@@ -1,9 +1,9 @@
 """Which bare halves of a design's splitters are ends, where its label tells how many inputs and outputs it has.
 
 A label tells of counts alone, so what can't be told by them stays open: all choices of halves are found with which each
-output is reached from each input, each splitter lies on a way from an input to an output, and all chosen halves can be led
-to beyond the design's border on free tiles, none shared. Choices that make the same network are one. Where two networks
-are left, both are told: none is preferred by where its halves lie.
+output is reached from each input, each splitter lies on a way from an input to an output, and all chosen halves can be
+led to beyond the design's border on free tiles, none shared. Choices that make the same network are one. Where two
+networks are left, both are told: none is preferred by where its halves lie.
 
 It rests on parts and the network that they form, so that the same rule can be written elsewhere line by line."""
 
@@ -19,8 +19,8 @@ MOST_LOOKED_AT = 20_000
 MOST_SPLITTERS, MOST_BARE, MOST_CELLS = 512, 512, 65_536
 """How many splitters, bare ends, and cells of the design's box there are at most where choices are looked for."""
 MOST_VISITED = 1_000_000
-"""How many cells are come by at most where it is looked whether ends can be led out; beyond that there are too many to look
-at."""
+"""How many cells are come by at most where it is looked whether ends can be led out; beyond that there are too many to
+look at."""
 MOST_TRIED = 200
 """How many choices are tried to find that two networks are the same at most."""
 
@@ -165,8 +165,8 @@ class Flow:
 
 
 class Plan:
-    """A design's splitters with their bare halves: what can be chosen, and what comes of it. A choice is two tuples: how
-    many ends each splitter gets at its back, and in front."""
+    """A design's splitters with their bare halves: what can be chosen, and what comes of it. A choice is two tuples:
+    how many ends each splitter gets at its back, and in front."""
 
     def __init__(self, parts, taken, network, bare):
         self.parts, self.bare, self.network = parts, bare, network
@@ -341,8 +341,8 @@ class Plan:
         return found
 
     def common(self, ins):
-        """The splitters that are reached from all inputs; None where one is reached from none of them, or an output that
-        stands isn't reached from all."""
+        """The splitters that are reached from all inputs; None where one is reached from none of them, or an output
+        that stands isn't reached from all."""
         entered = [at for at in range(self.count) if ins[at] or self.stands[at][0]]
         if not entered:
             return None
@@ -390,8 +390,8 @@ class Plan:
         return found
 
     def told(self, halves):
-        """The network with these ends, as what stands at each splitter and the edges between splitters. Each edge has its
-        cap, and whether a splitter with two edges at that side prefers it."""
+        """The network with these ends, as what stands at each splitter and the edges between splitters. Each edge has
+        its cap, and whether a splitter with two edges at that side prefers it."""
         mixed = len({it.tier for it in self.parts}) > 1
         number = {part: at for at, part in enumerate(self.network.splitters)}
         edges = [(edge.source, edge.target, edge.cap, edge.run[0][1], edge.run[-1][1]) for edge in self.network.edges]
@@ -448,12 +448,14 @@ def refined(marks, edges):
 
 def shape_of(colours, edges):
     """What is equal of networks that are the same."""
-    return tuple(sorted(colours)), tuple(sorted((colours[source], colours[target], kind) for source, target, kind in edges))
+    return tuple(sorted(colours)), tuple(
+        sorted((colours[source], colours[target], kind) for source, target, kind in edges)
+    )
 
 
 def is_same(marks, edges, other_marks, other_edges):
-    """Whether a renaming of its splitters takes one network to another; two for which none is found in so many tries are
-    taken for different ones. Both are refined as one network, in which two vertices of a pair stay equal."""
+    """Whether a renaming of its splitters takes one network to another; two for which none is found in so many tries
+    are taken for different ones. Both are refined as one network, in which two vertices of a pair stay equal."""
     count = len(marks)
     both = edges + [(source + count, target + count, kind) for source, target, kind in other_edges]
     waiting, tried = [[(it, -1) for it in [*marks, *other_marks]]], 0

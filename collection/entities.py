@@ -50,8 +50,8 @@ class Listed:
         return "{" + ",".join(map("".join, zip(heads, values))) + "}"
 
     def with_all(self, texts, values=None):
-        """The blueprint's text with these entities in place of its own, and other texts for the values of some of its other
-        members."""
+        """The blueprint's text with these entities in place of its own, and other texts for the values of some of its
+        other members."""
         first = self.entities[0].start if self.entities else self.end
         last = self.entities[-1].end if self.entities else self.end
         changes = [(first, last, ",\n".join(texts))]

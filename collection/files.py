@@ -23,9 +23,12 @@ def replacing(path, synced=False):
     """A new file that takes this path's place once all is written; where that fails, nothing is left of it. Who may
     read it is as the umask tells. Where it is synced, it is on the disk before."""
     path = Path(path)
-    path.parent.mkdir(parents=True, exist_ok=True)
     other = path.parent / f".{path.name[:40]}{secrets.token_hex(8)}{UNDONE}"
-    handle = os.open(other, os.O_WRONLY | os.O_CREAT | os.O_EXCL, 0o666)
+    try:
+        handle = os.open(other, os.O_WRONLY | os.O_CREAT | os.O_EXCL, 0o666)
+    except FileNotFoundError:
+        path.parent.mkdir(parents=True, exist_ok=True)
+        handle = os.open(other, os.O_WRONLY | os.O_CREAT | os.O_EXCL, 0o666)
     try:
         with os.fdopen(handle, "wb") as file:
             yield file
@@ -80,7 +83,9 @@ def counted(number, word):
 
 def slug(name):
     """A folder's name for a design of this name: letters, digits and dashes alone."""
-    flat = "".join(it for it in unicodedata.normalize("NFKD", name[: 4 * LONGEST_NAME]) if not unicodedata.combining(it))
+    flat = "".join(
+        it for it in unicodedata.normalize("NFKD", name[: 4 * LONGEST_NAME]) if not unicodedata.combining(it)
+    )
     word = re.sub(r"[^A-Za-z0-9]+", "-", flat).strip("-").lower()[:LONGEST_NAME].strip("-")
     return word or "design"
 

@@ -6,6 +6,7 @@ stands in `words.json`."""
 
 import re
 from dataclasses import dataclass
+from functools import lru_cache
 
 from .words import PROPERTIES, WORDS
 
@@ -19,6 +20,8 @@ LETTERS = set("abcdefghijklmnopqrstuvwxyzABCDEFGHIJKLMNOPQRSTUVWXYZ")
 APART = DIGITS | set("()[]{};:.")
 """What between two words makes them no words of one claim."""
 LONGEST_NUMBER, MOST_WORDS = 3, 4
+KEPT = 4096
+"""Of so many labels it is kept what they tell."""
 
 RICH_TEXT = re.compile(r"\[/?[a-z-]{1,40}(?:=[^\][]{0,200})?\]")
 """The game's marks in a label, as of colours and of small pictures."""
@@ -93,12 +96,14 @@ def is_end(text, at, plainly):
 def is_begin(text, at, plainly):
     """Whether a first number may begin here."""
     before = text[at - 1 : at] if at else ""
-    return not (before in DIGITS or before == ".") if plainly else not (before and (before in LETTERS | BRIEF or before == "."))
+    return not (before in DIGITS or before == ".") if plainly else not (
+        before and (before in LETTERS | BRIEF or before == ".")
+    )
 
 
 def pairs_in(text, plainly):
-    """The numbers of inputs and outputs that stand in a text: in words and arrows, or briefly; each with whether it may be
-    a size."""
+    """The numbers of inputs and outputs that stand in a text: in words and arrows, or briefly; each with whether it may
+    be a size."""
     found, at = [], 0
     while at < len(text):
         end = past(text, at, DIGITS)
@@ -130,9 +135,15 @@ def told_with_sizes(label):
     return found
 
 
+@lru_cache(KEPT)
+def pairs_told(label):
+    """The same as `told`, which doesn't change."""
+    return tuple(told_with_sizes(label))
+
+
 def told(label):
     """The numbers of inputs and outputs that a label tells of: one pair, or several where it isn't clear, or none."""
-    return list(told_with_sizes(label))
+    return list(pairs_told(label))
 
 
 def spelled(pairs):
@@ -160,13 +171,16 @@ def words_in(text):
     return found
 
 
+@lru_cache(KEPT)
 def claims(label):
     """What a label claims. A claim behind a word that denies it is none."""
     text = RICH_TEXT.sub(" ", label[:MOST])
     words, found, lanes, at = words_in(text), {}, False, 0
     while at < len(words):
         there = near(text, words, at)
-        told_ = max((it for it in WORDS["claims"] if there[: len(it["words"])] == it["words"]), key=length_of, default=None)
+        told_ = max(
+            (it for it in WORDS["claims"] if there[: len(it["words"])] == it["words"]), key=length_of, default=None
+        )
         if told_ is None:
             at += 1
             continue

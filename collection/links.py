@@ -1,5 +1,5 @@
-"""What links the entities of a blueprint by their numbers: wires, circuit connections and schedules. Of entities that are
-left out these go too; all else of the text stays."""
+"""What links the entities of a blueprint by their numbers: wires, circuit connections and schedules. Of entities that
+are left out these go too; all else of the text stays."""
 
 import json
 
@@ -32,8 +32,8 @@ def unlinked(value, gone):
 
 
 def connections(entity, gone):
-    """The text of an entity's circuit connections without those to these entities: None where nothing changes, and empty
-    where none is left."""
+    """The text of an entity's circuit connections without those to these entities: None where nothing changes, and
+    empty where none is left."""
     value = entity.value(CONNECTIONS)
     left = unlinked(value, gone) if isinstance(value, (dict, list)) else value
     return None if left == value else spelled(left) if left else ""

@@ -1,5 +1,5 @@
-"""Opens a report in Chromium, takes pictures of it and prints it, and checks sorting, search, filters, the pages, how long
-it is and how long it takes to open.
+"""Opens a report in Chromium, takes pictures of it and prints it, and checks sorting, search, filters, the pages, how
+long it is and how long it takes to open.
 
     python3 -m collection.look REPORT PICTURES
 
@@ -100,7 +100,8 @@ class Browser:
     def show(self, name):
         """Goes to a page of the report, and waits until it is drawn."""
         self.value(f"location.hash = '{name}'")
-        undrawn = f"document.getElementById('{name}').dataset.kept !== undefined || !document.querySelector('.page:target h2')"
+        kept = f"document.getElementById('{name}').dataset.kept !== undefined"
+        undrawn = f"{kept} || !document.querySelector('.page:target h2')"
         end = time.monotonic() + 60
         while name != "all" and self.value(undrawn) and time.monotonic() < end:
             time.sleep(0.02)
@@ -132,12 +133,16 @@ def wrong_steps(browser):
     browser.value("document.querySelector('#designs thead button').click()")
     verdict = "document.querySelector('#filters [name=verdicts]')"
     browser.value(f"{verdict}.selectedIndex = 1; {verdict}.dispatchEvent(new Event('change'))")
-    shown = browser.value("[...document.querySelectorAll('tr[data-page]')].filter((it) => !it.hidden).map((it) => it.dataset.page)")
+    shown = browser.value(
+        "[...document.querySelectorAll('tr[data-page]')].filter((it) => !it.hidden).map((it) => it.dataset.page)"
+    )
     shown = list(dict.fromkeys(shown))
     for before, name, after in zip([None, *shown], shown, [*shown[1:], None]):
         browser.show(name)
         browser.value(DRAWN)
-        told = browser.value("[...document.querySelectorAll('.page:target nav span a')].map((it) => it.textContent + it.hash)")
+        told = browser.value(
+            "[...document.querySelectorAll('.page:target nav span a')].map((it) => it.textContent + it.hash)"
+        )
         wanted = [f"previous#{before}"] * bool(before) + [f"next#{after}"] * bool(after)
         if told != wanted:
             yield f"the ways from {name} are {told}, and not {wanted}"
@@ -152,7 +157,9 @@ def checks(browser, address):
     browser.size(*WIDE)
     browser.open(address)
     rows = "[...document.querySelectorAll('#designs tbody tr')]"
-    number = browser.value("[...document.querySelectorAll('#designs thead th')].findIndex((it) => it.innerText.startsWith('splitters'))")
+    number = browser.value(
+        "[...document.querySelectorAll('#designs thead th')].findIndex((it) => it.innerText.startsWith('splitters'))"
+    )
     column = f"{rows}.map((it) => Number(it.cells[{number}].dataset.sort))"
     button = f"document.querySelectorAll('#designs thead button')[{number}]"
     for way, down in (("upwards", False), ("downwards", True)):
@@ -220,7 +227,9 @@ def wrong_in_print(browser, address, folder):
     # The button's own script takes the mark away where the printing has ended.
     browser.value("document.body.classList.add('every')")
     browser.value(DRAWN)
-    designs, sheets = browser.value("document.querySelectorAll('.page').length"), browser.sheets(Path(folder, "all.pdf"))
+    designs, sheets = browser.value("document.querySelectorAll('.page').length"), browser.sheets(
+        Path(folder, "all.pdf")
+    )
     if browser.value("document.querySelectorAll('.page[data-kept]').length"):
         yield "not all designs are drawn before they are printed"
     if sheets != table + designs:

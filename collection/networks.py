@@ -1,9 +1,9 @@
 """Which designs have the same network, but for the numbers of its ends and splitters.
 
-Two networks are the same where a renaming is found that takes each edge of one to an edge of the other with the same cap,
-inputs to inputs, outputs to outputs and splitters to splitters; each renaming is tested before it is believed. Vertices
-are first told apart by what stands around them; where that leaves a choice, each is tried, so many in all at most, and
-beyond that two networks are taken for different ones."""
+Two networks are the same where a renaming is found that takes each edge of one to an edge of the other with the same
+cap, inputs to inputs, outputs to outputs and splitters to splitters; each renaming is tested before it is believed.
+Vertices are first told apart by what stands around them; where that leaves a choice, each is tried, so many in all at
+most, and beyond that two networks are taken for different ones."""
 
 from collections import Counter, defaultdict
 

@@ -7,7 +7,7 @@ from bisect import bisect_left, bisect_right
 from collections import defaultdict
 from dataclasses import dataclass, field, replace
 
-from . import design, ends, labels, refusals
+from . import design, ends, labels, leading, refusals
 from .design import EAST, PREFIXES, SOUTH, WEST, step
 from .entities import listed
 from .trace import Half, Layout, Untraced, bare_ends, place_of, same_network, spelled, tile
@@ -52,9 +52,11 @@ class Opened:
     gaps: list = field(default_factory=list)
     """The tiles at which a belt may be missing."""
     choices: list = field(default_factory=list)
-    """Where several choices of halves make the ends that the label tells of, the design with each, the likely one first."""
+    """Where several choices of halves make the ends that the label tells of, the design with each, the likely one
+    first."""
     is_marked: bool = False
-    """Whether the ends are marked in the network alone, since not all have room for belts: the network is what is judged."""
+    """Whether the ends are marked in the network alone, since not all have room for belts: the network is what is
+    judged."""
 
 
 class Ground:
@@ -104,8 +106,8 @@ def turned(ground, used, cell, direction, front):
 
 
 def ways_of(found, bystanders, most):
-    """The ways of all bare ends, with so many belts at most. No two of them cross: the shorter goes before, and the other
-    is turned where it can be."""
+    """The ways of all bare ends, with so many belts at most. No two of them cross: the shorter goes before, and the
+    other is turned where it can be."""
     ground, ways, used, ends = Ground(found, bystanders), {}, {}, []
     for bare in bare_ends(found.parts):
         part = found.parts[bare.part]
@@ -274,16 +276,30 @@ class Opening:
         return "\n".join([f"net {counts[0]} {counts[1]} {len(names)}", *lines, "end\n"])
 
     def opened_as(self, ways):
-        """The design with all of these ends: with belts where each has room for them, else marked."""
+        """The design with all of these ends: with belts where each has room for them, straight or along paths; else
+        marked."""
         if all(it.why is None for it in ways):
             found = self.opened(ways)
             if len(found.opened) == len(ways):
                 return found
-        return self.marked(ways)
+        return self.led(ways) or self.marked(ways)
+
+    def led(self, ways):
+        """The design with all of these ends led out along paths; None where that can't be, or makes another network."""
+        parts = self.found.parts
+        cells = [cell for it in parts for cell in it.cells]
+        pairs = [(self.bare[self.ways.index(way)], way) for way in ways]
+        found = leading.led(parts, [*self.taken, *cells], design.box_of(cells), self.bare, self.network, pairs)
+        belts = sum(len(it.belts) for it in found or ())
+        if not found or len(parts) + belts > design.MOST_ENTITIES:
+            return None
+        text, answer, why = self.with_ways(found)
+        places, after = [it.place for it in ways], self.more_ends(ways)
+        return Opened(text, answer, belts, places, [], self.ends(), after, after) if why is None else None
 
     def told_ends(self, label):
-        """What the rule of ends tells of the design, or None where its parts can't be traced; a pair that may be its own
-        size, and fits its size and not its ends, is none."""
+        """What the rule of ends tells of the design, or None where its parts can't be traced; a pair that may be its
+        own size, and fits its size and not its ends, is none."""
         if self.network is None:
             return None
         pairs = labels.told_with_sizes(label)
@@ -301,8 +317,8 @@ MODES = ("never", "label", "always")
 
 
 def opened(opening, mode, label):
-    """Opens bare halves: none; or all; or by the rule of ends those that the label tells of, and where it tells of none, all
-    where without them there is no input or no output."""
+    """Opens bare halves: none; or all; or by the rule of ends those that the label tells of, and where it tells of
+    none, all where without them there is no input or no output."""
     free = [it for it in opening.ways if it.why is None]
     told = opening.told_ends(label)
     gaps = list(told.gaps) if told else []

@@ -13,8 +13,8 @@ from .answers import SETTLED
 from .files import counted
 from .flows import flows
 from .rows import LABELS, Row, core_of
-from .states import KNOWN_AS, PROMISES, PROPERTIES
-from .words import NUMBERS, OF_ENDS, of_properties
+from .states import KNOWN_AS, PROMISES
+from .words import LATER, NUMBERS, OF_ENDS, PROPERTIES, UNIVERSAL, of_properties
 from .work import DESIGN_JSON, NETWORK, OF_SEARCHES, ORIGINAL, SMALLER, SMALLER_STRING
 
 HERE = Path(__file__).resolve().parent
@@ -36,7 +36,7 @@ MOST_DRAWN = 12
 """How many choices of bare halves are drawn at most."""
 AT_ONCE = 40
 """So many rows of the table are laid out when the page opens; those behind them once it is there."""
-SOMETIMES = ("bare", "same network", "smaller", "seconds")
+SOMETIMES = (*LATER, "universal", "bare", "same network", "smaller", "seconds")
 """The columns of the table that are there where at least one design has something in them."""
 LEAST_SECONDS = 0.05
 """So long the decisions on a design take at least where the table tells their time."""
@@ -76,6 +76,13 @@ def badge(told, prop=""):
     kind = verdict if verdict in SIGNS else "withheld"
     title = f"{prop}: {told.why or verdict}" if prop else ""
     return element("span", f"{SIGNS.get(verdict, '–')} {LABELS[verdict]}", class_=f"verdict {kind}", title=title)
+
+
+def mark(verdict, words, title):
+    """A verdict in the table: where there is room its sign alone is seen."""
+    sign = SIGNS.get(verdict)
+    content = f"{sign}{element('span', f' {words}', class_='word')}" if sign else f"– {words}"
+    return element("span", content, class_=f"verdict {verdict if sign else 'withheld'}", title=title)
 
 
 def note(*content):
@@ -127,7 +134,7 @@ def where(row, alone):
 
 def remarks(row, most):
     """What there is to say of how a design was read, with so many names in each sentence."""
-    told, warnings = row.remarks(most), set(row.warnings())
+    told, warnings = row.remarks(most), set(row.warnings)
     lines = [element("li", shown(it[0].upper() + it[1:]), class_="warning" * (it in warnings)) for it in told]
     return element("ul", *lines, class_="remarks") if lines else ""
 
@@ -168,13 +175,16 @@ def kin_of(row):
 
 def searched(row):
     """What became of the search for a smaller layout, in a few words."""
-    return OF_SEARCHES[{"found": "yes"}.get(row.smaller.verdict, row.smaller.verdict)]
+    if row.smaller.verdict == "found":
+        less = row.smaller.size[0] * row.smaller.size[1] < (row.cells() or 0)
+        return OF_SEARCHES["yes" if less else "larger"]
+    return OF_SEARCHES[row.smaller.verdict]
 
 
 def cells_of(row):
     """What the table tells of a design: of each column what is shown, and by what it is sorted."""
     net, size, order = row.net, row.size(), list(LABELS)
-    seconds = sum(row.answer(prop).processor or 0 for prop in PROPERTIES)
+    seconds = sum(row.answer(prop).processor or 0 for prop in row.asked)
     less = row.smaller.size[0] * row.smaller.size[1] if row.smaller and row.smaller.verdict == "found" else 0
     area = size[0] * size[1] if size else 0
     return {
@@ -183,33 +193,68 @@ def cells_of(row):
         "splitters": (net.splitters, net.splitters),
         "cells": (f"{size[0]} × {size[1]}", area) if size else ("–", -1),
         "tiers": (" ".join(map(tier_mark, row.tiers())) or "–", " ".join(row.tiers())),
-        **{it: (badge(row.answer(it), it), order.index(row.answer(it).verdict)) for it in PROPERTIES},
+        **{it: (marked(it, row.answer(it)), order.index(row.answer(it).verdict)) for it in row.told()},
+        **{it: ("", -1) for it in PROPERTIES if it not in row.told()},
+        "universal": universal(row),
         "same network": same_network(row),
         "smaller": (f"{area} → {less}", less - area) if less else (note(searched(row)), 0) if row.smaller else ("", 0),
         "seconds": (f"{seconds:.1f}" if seconds >= LEAST_SECONDS else "", seconds),
     }
 
 
+def marked(prop, told):
+    """What the table tells of a property."""
+    return mark(told.verdict, LABELS[told.verdict], f"{prop}: {told.why or LABELS[told.verdict]}")
+
+
+def universal(row):
+    """What the table tells of whether it is universal, and by what it is sorted."""
+    told = row.universal()
+    if told is None:
+        return ("–" if set(UNIVERSAL["properties"]) <= set(row.told()) else ""), 1
+    return mark(told.verdict, LABELS[told.verdict], told.words()), 0 if told.verdict == "yes" else 2
+
+
 def sought(row, words, **more):
-    """By what a row of a table is found: the design's own words, and apart those of the books and the file around it."""
+    """By what a row of a table is found: the design's own words, and apart those of the books and the file around
+    it."""
     own = files.plain(" ".join([row.found.label(), *words])).lower()
     around = files.plain(f"{row.found.books} {row.found.source}").lower()
     return {"data_words": own, "data_around": around, **more}
 
 
-def table_row(row, alone, columns):
-    """A design's row of the table, with these columns; whether all are from one file."""
-    net, verdicts_ = row.net, [f"{prop}:{row.answer(prop).verdict}" for prop in PROPERTIES]
-    also = (f"{it}:{row.answer(prop).verdict}" for prop, names in ALSO_KNOWN_AS.items() for it in names)
+@dataclass(frozen=True)
+class Line:
+    """A design's row of the table: its head, what there is of each column, and by what it is found and filtered."""
+
+    head: str
+    cells: dict
+    sought: dict
+
+    @classmethod
+    def of(cls, row, alone):
+        """The row of a design; whether all are from one file."""
+        head = element("th", who(row, alone), scope="row", data_sort=files.plain(row.found.name).lower())
+        return cls(head, cells_of(row), sought_in(row))
+
+    def with_columns(self, columns):
+        """The row's text, with these columns."""
+        rest = (element("td", self.cells[it][0], data_label=it, data_sort=self.cells[it][1]) for it in columns)
+        return element("tr", self.head, *rest, **self.sought)
+
+
+def sought_in(row):
+    """By what a design's row of the table is found and filtered."""
+    net, verdicts_ = row.net, [f"{prop}:{row.answer(prop).verdict}" for prop in row.told()]
+    known = ((prop, it) for prop, names in ALSO_KNOWN_AS.items() if prop in row.told() for it in names)
+    also = (f"{it}:{row.answer(prop).verdict}" for prop, it in known)
+    verdicts_ += [f"{UNIVERSAL['name']}:{row.universal().verdict}"] if row.universal() else []
     verdicts_ += [f"smaller:{searched(row).replace(' ', '-')}"] if row.smaller else []
-    marks = ("bare", row.bare), ("opened", row.of_reading("opened")), ("warning", row.warnings()), ("false", row.claims())
+    marks = ("bare", row.bare), ("opened", row.of_reading("opened")), ("warning", row.warnings), ("false", row.claims())
     words = [*row.tiers(), *verdicts_, *also, *(word for word, told in marks if told)]
     told = {"data_ends": f"{net.inputs}-{net.outputs}", "data_tiers": " ".join(row.tiers())}
     told |= {"data_verdicts": " ".join(verdicts_), "data_page": page_id(row.same_as or row)}
-    head = element("th", who(row, alone), scope="row", data_sort=files.plain(row.found.name).lower())
-    cells = cells_of(row)
-    rest = (element("td", cells[it][0], data_label=it, data_sort=cells[it][1]) for it in columns)
-    return element("tr", head, *rest, **sought(row, words, **told))
+    return sought(row, words, **told)
 
 
 def refused_row(row, alone):
@@ -227,12 +272,19 @@ def without_ends(core, size):
     return f", without its end belts {core[0]} × {core[1]}" if core and tuple(core) != tuple(size) else ""
 
 
+def badge_of_universal(told):
+    """Whether a balancer is universal, and what it isn't else."""
+    return element("span", f"{SIGNS[told.verdict]} {told.words()}", class_=f"verdict {told.verdict}")
+
+
 def facts(row):
     """What the design is made of."""
     told, net, size, (parts, _) = [], row.net, row.size(), row.design
     if net:
         kinds = ((net.inputs, "input"), (net.outputs, "output"), (net.splitters, "splitter"), (len(net.edges), "edge"))
         told.append(("Network", ", ".join(counted(*it) for it in kinds)))
+    if row.universal():
+        told.append(("Universal", badge_of_universal(row.universal())))
     if size:
         told.append(("Cells", f"{size[0]} × {size[1]}{without_ends(row.core_size(), size)}"))
     for tier, kinds in row.tiers().items():
@@ -252,7 +304,7 @@ def facts(row):
     is_told = net and not row.choices
     kept = [row.found.file(), *([ORIGINAL] if row.is_changed() else []), *([NETWORK] if is_told else [])]
     told.append(("Files", ", ".join(link(row, name) for name in kept)))
-    told.append(("Digest", element("code", shown(row.judged_digest()[:16]))))
+    told.append(("Digest", element("code", shown(row.judged_digest[:16]))))
     lines = (element("div", element("dt", key), element("dd", value)) for key, value in told)
     return element("dl", *lines, class_="facts")
 
@@ -271,7 +323,7 @@ def about(row, told):
 def verdicts(row):
     """The verdicts on a design."""
     lines = []
-    for prop in PROPERTIES:
+    for prop in row.told():
         told = row.answer(prop)
         seconds = note(spent_time(told)) if told.processor is not None else ""
         head = element("th", prop, note(KNOWN_AS[prop]), note(PROMISES[prop]), scope="row")
@@ -293,7 +345,7 @@ def marks_legend(row):
     return element("p", *shown_, class_="legend") if shown_ else ""
 
 
-def legend(unit):
+def legend(unit, apart):
     """What the lines and numbers of a state mean."""
     told = (
         element("i", class_="key free") + "free: all moves on",
@@ -301,6 +353,7 @@ def legend(unit):
         f"width and number: flow, in {unit}",
         "at the ends: load (i) and room (o)",
     )
+    told += (UNIVERSAL["apart"],) if apart else ()
     return element("p", *(element("span", it) for it in told), class_="legend")
 
 
@@ -325,29 +378,32 @@ def breaking(row, prop):
         ends = {f"i{k}": load for k, load in enumerate(state.loads)}
         ends |= {f"o{k}": room for k, room in enumerate(state.rooms)}
         below = element("use", class_="below", href=f"#p-{row.id()}")
-        drawn = below + flows(picture, state, f"w-{row.id()}") + picture.ends(ends)
+        apart = states.apart(prop, row.net, state)
+        drawn = below + flows(picture, state, f"w-{row.id()}") + picture.ends(ends, apart)
         content.append(figure(picture, drawn, f"{files.plain(row.found.name)}: a state that breaks {prop}"))
-        content.append(legend("full belts" if len(row.tiers()) == 1 else "full basic belts"))
+        content.append(legend("full belts" if len(row.tiers()) == 1 else "full basic belts", apart))
     summary = element("summary", "The state in full")
     content.append(element("details", summary, element("pre", escape(text)), state_table(row.net, state)))
     return element("section", *content, class_="breaking")
 
 
 SIDES_KEPT = "Each input and output that is at a side of the design is at that side here too."
+SIDES_FACING = "Its inputs stand side by side at the south, and its outputs at the north."
 SIDES_LEFT = "Its inputs and outputs may be at other sides: with each at its own side of the design none was found."
 """Which sides the ends of a smaller layout are at."""
 
 
 def smaller(row):
     """The smaller layout that was found: its size, its picture and its string; or why there is none."""
-    told, heading = row.smaller, element("h3", "A smaller layout")
+    is_facing = row.smaller.facing or "facing" in (row.smaller.limits or [])
+    told, heading = row.smaller, element("h3", "A layout with ends side by side" if is_facing else "A smaller layout")
     if told.verdict != "found":
         return element("section", heading, element("p", shown(row.why_no_smaller())), class_="smaller")
     width, height = told.size
     own = row.size()
     than = f", where the design has {own[0]} × {own[1]}, {counted(own[0] * own[1], 'cell')}" if own else ""
     links = " and ".join(link(row, it) for it in (SMALLER, SMALLER_STRING))
-    sides = SIDES_KEPT if told.sides else SIDES_LEFT
+    sides = SIDES_FACING if told.facing else SIDES_KEPT if told.sides else SIDES_LEFT
     picture = row.smaller_picture
     core = core_of(picture.design.parts, picture.network) if picture.network else None
     told = f"{width} × {height}, {counted(width * height, 'cell')}{without_ends(core, told.size)}{than}: "
@@ -377,7 +433,7 @@ def of_choice(row, at, choice):
         drawn = picture.parts(f"c-{row.id()}-{at}") + picture.ends() + picture.halves(*choice.marked())
         drawn = figure(picture, drawn, label)
     lines = []
-    for prop in PROPERTIES:
+    for prop in row.told():
         it = choice.answer(prop)
         what = "breaking state" if it.verdict == "no" else "certificate"
         leading = element("a", what, href=f"{folder}/{it.file}") if it.file else shown(it.why)
@@ -392,14 +448,15 @@ WAYS = element("nav", element("a", "← All designs", href="#all"), element("spa
 """The ways from a design's page: to all, and to those before and after it, which the order of the table tells."""
 UNSCRIPTED = ".designs .later{display:table-row-group}"
 """The style of a page without scripts: all rows are there from the beginning."""
-UNDRAWN = "Without scripts no picture is drawn here and no design’s page; the verdicts are below, and all files in designs/."
+UNDRAWN = "Without scripts no picture is drawn here and no design’s page; the verdicts are below, and all files in "
+UNDRAWN += "designs/."
 
 
 def arranged(row, picture, drawn):
     """A design's picture with what is told of it: beside it where none of its properties is broken, and else the states
     that break them stand beside it."""
     small, judged = not picture or picture.box[2] <= WIDEST_BESIDE, verdicts(row) if row.net else ""
-    noes = [prop for prop in PROPERTIES if row.net and row.answer(prop).verdict == "no" and row.answer(prop).file]
+    noes = [prop for prop in row.asked if row.net and row.answer(prop).verdict == "no" and row.answer(prop).file]
     if not noes:
         told = element("div", facts(row), judged)
         return element("div", element("div", drawn), told, class_="two" if small else "one")
@@ -435,13 +492,23 @@ def page(row):
     return "".join((element("h2", named(name)), described, refused, told, both, choices, less, string))
 
 
+def told_of(rows):
+    """The properties of which something is told of one of these designs."""
+    them = set().union(*(row.told() for row in rows))
+    return [it for it in PROPERTIES if it in them]
+
+
 def summary(rows):
     """How many designs there are, and how many have each property."""
     with_network = [row for row in rows if row.net]
     tiles = [(sum(not row.found.is_passed for row in rows), "found"), (len(with_network), "with a network")]
-    for prop in PROPERTIES:
+    for prop in told_of(with_network):
         number = sum(row.answer(prop).verdict == "yes" for row in with_network)
         tiles.append((f"{number}{element('small', f' of {len(with_network)}')}", prop))
+    universal_ = [it for row in with_network if (it := row.universal())]
+    if universal_:
+        number = sum(it.verdict == "yes" for it in universal_)
+        tiles.append((f"{number}{element('small', f' of {len(with_network)}')}", UNIVERSAL["name"]))
     return element(
         "ul", *(element("li", element("strong", it), element("span", word)) for it, word in tiles), class_="tiles"
     )
@@ -465,25 +532,25 @@ SEARCH = element(
 
 @dataclass(frozen=True)
 class Shown:
-    """A design as the page has it: which columns of the table it has something in, what its page tells, and its
-    picture's shapes."""
+    """A design as the page has it: its row of the table, or what the row is made of; which columns it has something in;
+    what its page tells, and its picture's shapes."""
 
     row: Row
     columns: set
+    line: object
     page: str = ""
     shapes: str = ""
 
 
 def show(row, alone):
     """A design as the page has it; whether all are from one file."""
-    cells = cells_of(row) if row.net else {}
-    columns = {it for it, (content, _) in cells.items() if content != ""}
-    table_row(row, alone, cells) if row.net else refused_row(row, alone)
+    line = Line.of(row, alone) if row.net else refused_row(row, alone)
+    columns = {it for it, (content, _) in line.cells.items() if content != ""} if row.net else set()
     if not row.folder or row.same_as:
-        return Shown(row, columns)
+        return Shown(row, columns, line)
     picture, _ = row.picture
     shapes = element("g", picture.parts(f"w-{row.id()}"), id=f"p-{row.id()}") if picture else ""
-    return Shown(row, columns, page(row), shapes)
+    return Shown(row, columns, line, page(row), shapes)
 
 
 def packed(text):
@@ -495,21 +562,24 @@ def front(designs, title, program):
     """The first page: the table of all designs, and what has no network."""
     alone = len({it.row.found.source for it in designs}) == 1
     there = set().union(*(it.columns for it in designs))
-    columns = ["ends", "bare", "splitters", "cells", "tiers", *PROPERTIES, "smaller", "same network", "seconds"]
+    told = told_of([it.row for it in designs if it.row.net])
+    columns = ["ends", "bare", "splitters", "cells", "tiers", *told, "universal", "smaller", "same network", "seconds"]
     columns = [it for it in columns if it in there or it not in SOMETIMES]
-    titles = (element("th", it, scope="col", title=KNOWN_AS.get(it, "")) for it in ("design", *columns))
+    titles_of = KNOWN_AS | {UNIVERSAL["name"]: UNIVERSAL["known_as"]}
+    titles = (element("th", it, scope="col", title=titles_of.get(it, "")) for it in ("design", *columns))
     head = element("tr", *titles)
-    lines = [table_row(it.row, alone, columns) for it in designs if it.row.net]
+    lines = [it.line.with_columns(columns) for it in designs if it.row.net]
     bodies = [element("tbody", *lines[:AT_ONCE])]
     bodies += [element("tbody", *lines[AT_ONCE:], class_="later")] if lines[AT_ONCE:] else []
     table = element("table", element("thead", head), *bodies, class_="designs", id="designs")
     promises = (
         element("div", element("dt", prop), element("dd", element("em", KNOWN_AS[prop]), f": {words}"))
         for prop, words in PROMISES.items()
+        if prop in told
     )
     content = [element("header", element("h1", shown(title)), summary([it.row for it in designs]))]
     content += [element("dl", *promises, class_="promises"), SEARCH, element("div", table, class_="wide")]
-    others = [refused_row(it.row, alone) for it in designs if not it.row.net]
+    others = [it.line for it in designs if not it.row.net]
     if others:
         table = element("table", element("tbody", *others), class_="others")
         content.append(element("section", element("h2", "Without a network"), table))
@@ -535,7 +605,9 @@ def policy(script):
 def whole(designs, title, program):
     """The whole page."""
     pages = (
-        element("article", WAYS, class_="page", id=page_id(it.row), data_kept=packed(it.page)) for it in designs if it.page
+        element(
+            "article", WAYS, class_="page", id=page_id(it.row), data_kept=packed(it.page)
+        ) for it in designs if it.page
     )
     style, script = ((HERE / name).read_text("utf-8") for name in ("report.css", "report.js"))
     head = (

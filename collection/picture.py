@@ -253,21 +253,23 @@ def badge_cells(parts, network):
     return cells
 
 
-def badges(cells, told=None):
-    """The elements that number the ends on these cells; with a state, each with its load or room, a fraction."""
+def badges(cells, told=None, apart=None):
+    """The elements that number the ends on these cells; with a state, each with its load or room, a fraction; and which
+    of two ends has less, and which more."""
     found = []
     for name, cell in cells.items():
         x, y = middle_of(cell)
         kind = "in" if name[0] == "i" else "out"
         height = 14 if told is None else 20
         size = {"x": x - 11, "y": y - height // 2, "width": 22, "height": height, "rx": 4}
-        found.append(["rect", {"class": f"badge {kind}", **size}, ""])
+        has = (apart or {}).get(name, "")
+        found.append(["rect", {"class": f"badge {kind}{' ' * bool(has)}{has}", **size}, ""])
         if told is None:
             found.append(sign(name, x, y + 3, "on"))
         else:
             what = f"{'load' if kind == 'in' else 'room'} {told[name]}"
             both = sign(name, x, y - 1, "on"), sign(short(told[name]), x, y + 8, "on")
-            found.append(titled(f"{name}: {what}", *both))
+            found.append(titled(f"{name}: {what}{f', has {has}' if has else ''}", *both))
     return found
 
 
@@ -327,7 +329,8 @@ class Picture:
         return svg(rules(self.box))
 
     def halves(self, places, before=(0, 0)):
-        """The text of the marks of ends at halves for whose belts there is no room, behind so many inputs and outputs."""
+        """The text of the marks of ends at halves for whose belts there is no room, behind so many inputs and
+        outputs."""
         at, found, counts = standing(self.design.parts), [], dict(zip(("input", "output"), before))
         for kind, *cell in places:
             name = f"{kind[0]}{counts[kind]}"
@@ -335,10 +338,12 @@ class Picture:
             (x, y), (along, down) = middle_of(cell), STEPS[self.design.parts[at[tuple(cell)].part].direction]
             away = -7 if kind == "input" else 7
             x, y, word = x + away * along, y + away * down, "in" if kind == "input" else "out"
-            found.append(["rect", {"class": f"badge {word}", "x": x - 8, "y": y - 5, "width": 16, "height": 10, "rx": 3}, ""])
+            found.append(
+                ["rect", {"class": f"badge {word}", "x": x - 8, "y": y - 5, "width": 16, "height": 10, "rx": 3}, ""]
+            )
             found.append(sign(name, x, y + 3, "on"))
         return svg(found)
 
-    def ends(self, told=None):
-        """The text of the numbers of the ends; with a state, each with its load or room."""
-        return svg(badges(self.badges, told))
+    def ends(self, told=None, apart=None):
+        """The text of the numbers of the ends; with a state, each with its load or room, and which has less or more."""
+        return svg(badges(self.badges, told, apart))

@@ -11,7 +11,7 @@ from pathlib import Path
 from .files import BLOCK, digest_of_file
 
 TOP = Path(__file__).resolve().parent.parent
-EXACT_STATUSES = {0, 1, 2, 3, 4, 5, 9, 10, 11}
+EXACT_STATUSES = {0, 1, 2, 3, 4, 5, 9, 10, 11, 12}
 """With these the program ended as its sources say; with others it lacked memory or a stream, or was ended."""
 
 

@@ -2,7 +2,9 @@
 // Sorting, search and filters, and the pages of the designs, which are kept compressed until they are shown.
 (() => {
   const table = document.getElementById("designs"), body = table.tBodies[0], base = document.title;
-  const rows = [...document.querySelectorAll("tr[data-words]")], order = [...table.tBodies].flatMap((it) => [...it.rows]);
+  const rows = [...document.querySelectorAll("tr[data-words]")], order = [...table.tBodies].flatMap(
+    (it) => [...it.rows]
+  );
   // The rows that aren't laid out at first; each is, once the page is there and nothing else is to be done.
   const later = table.querySelector(".later"), MORE = 60;
   const more = () => {
@@ -61,7 +63,9 @@
     return Math.min(3, ...asked.ends.map(ofEnds), ...asked.words.map(ofWord));
   };
   const filters = [["ends", "ends"], ["tiers", "tier"], ["verdicts", "verdict"]].map(([name, label]) => {
-    const select = document.createElement("select"), found = new Set(order.flatMap((row) => row.dataset[name].split(" ")));
+    const select = document.createElement("select"), found = new Set(
+      order.flatMap((row) => (row.dataset[name] ?? "").split(" "))
+    );
     select.append(new Option(`any ${label}`, ""));
     for (const it of [...found].filter(Boolean).sort((a, b) => compare(a, b))) {
       select.append(new Option(it.replace(/^(\d+)-(\d+)$/, "$1 → $2").replace(":", ": "), it));

@@ -8,14 +8,14 @@ from . import files, networks, page, results, trace
 from .answers import SETTLED
 from .rows import Row
 from .running import share
-from .states import KNOWN_AS, PROPERTIES
+from .states import KNOWN_AS
 from .work import SMALLER
 
 FORMULAS, QUOTES = set("=+-@"), "\"'` \u00a0\u3000"
 """How a text begins that a spreadsheet takes for a formula, as its widest form too, and what may stand before that."""
 
 COLUMNS = "design place source property verdict why steps processor_seconds clock_seconds accepted file".split()
-COLUMNS += "design_digest program_digest known_as ends bare opened remarks same_network_as".split()
+COLUMNS += "design_digest program_digest known_as ends bare opened remarks same_network_as universal".split()
 
 
 def took(told):
@@ -26,15 +26,17 @@ def took(told):
 def lines_of(row, program):
     """The results of a design, a line of words each."""
     start = [row.found.name, row.found.place, row.found.source]
-    digests = [row.judged_digest(), program if row.found.text is not None else ""]
+    digests = [row.judged_digest, program if row.found.text is not None else ""]
     halves = (trace.spelled(row.bare), trace.spelled(row.of_reading("opened")))
     same = row.kin[0].found.name if row.kin else ""
-    of_ends = [row.ends(), *halves, "; ".join(row.remarks()), same]
+    universal = row.universal()
+    of_ends = [row.ends(), *halves, "; ".join(row.remarks()), same, universal.verdict if universal else ""]
     if not row.net:
-        verdict = "failed" if row.trouble else "refused" if row.refusal() else "passed" if row.found.is_passed else "unread"
+        verdict = "passed" if row.found.is_passed else "unread"
+        verdict = "failed" if row.trouble else "refused" if row.refusal() else verdict
         return [[*start, "-", verdict, row.reason() or "not read yet", 0, 0, 0, "", "", *digests, "", *of_ends]]
     lines = []
-    for prop in PROPERTIES:
+    for prop in row.asked:
         told = row.answer(prop)
         file = f"designs/{row.id()}/{told.file}" if told.file else ""
         accepted = ("yes" if told.verdict in SETTLED else "no") if file else ""
@@ -43,7 +45,7 @@ def lines_of(row, program):
     if row.smaller:
         told = row.smaller
         found = told.verdict == "found"
-        sides = "each end at its own side" if told.sides else "ends at any side"
+        sides = "ends side by side" if told.facing else "each end at its own side" if told.sides else "ends at any side"
         why = "{} x {}, {}".format(*told.size, sides) if found else row.why_no_smaller()
         line = ["smaller", told.verdict, why, 0, *took(told), "", f"designs/{row.id()}/{SMALLER}" if found else ""]
         lines.append([*start, *line, *digests, "", *of_ends])
@@ -121,7 +123,7 @@ def guarded(row, alone, program, unshown):
         if row.folder:
             unshown.add(row.id())
         why = f"what is kept of it can't be shown ({type(fault).__name__}: {fault})"
-        bare = Row(row.found, trouble=why)
+        bare = Row(row.found, asked=row.asked, trouble=why)
         return page.show(bare, alone), lines_of(bare, program), results.unshown(bare, why)
 
 
@@ -138,7 +140,9 @@ def write(output, rows, program):
     lines = table(line for _, them, _ in made for line in them)
     text = page.whole([it for it, _, _ in made], title_of(rows), program)
     told = results.whole([it for _, _, it in made], program)
-    with files.replacing(output / "results.tsv", synced=True) as tsv, files.replacing(output / "results.json", True) as whole:
+    with files.replacing(output / "results.tsv", synced=True) as tsv, files.replacing(
+        output / "results.json", True
+    ) as whole:
         with files.replacing(output / "index.html", synced=True) as shown:
             for file, it in ((shown, text), (tsv, lines), (whole, told)):
                 file.write(it.encode())

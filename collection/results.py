@@ -5,7 +5,7 @@ import json
 from . import labels, states
 from .answers import SETTLED
 from .rows import LABELS
-from .states import KNOWN_AS, PROPERTIES
+from .states import KNOWN_AS
 from .work import SMALLER
 
 FORMAT = 1
@@ -35,6 +35,12 @@ def of_property(row, prop):
     }
 
 
+def of_universal(row):
+    """Whether it is universal, and which properties it hasn't; None where that isn't known."""
+    told = row.universal()
+    return {"verdict": told.verdict, "fails": list(told.failing)} if told else None
+
+
 def of_smaller(row):
     """What became of looking for a smaller layout, or None where it wasn't looked for."""
     told = row.smaller
@@ -46,6 +52,7 @@ def of_smaller(row):
         "why": "" if is_found else row.why_no_smaller(),
         "cells": told.size if is_found else None,
         "sides": is_found and told.sides,
+        "facing": is_found and told.facing,
         "file": f"designs/{row.id()}/{SMALLER}" if is_found else None,
     }
 
@@ -73,7 +80,7 @@ def of_design(row):
         "status": status_of(row),
         "reason": row.reason(),
         "digest": row.found.digest,
-        "judged_digest": row.judged_digest(),
+        "judged_digest": row.judged_digest,
         "ends": [row.net.inputs, row.net.outputs] if row.net else None,
         "splitters": row.net.splitters if row.net else None,
         "network": row.net_text if row.net else None,
@@ -83,11 +90,12 @@ def of_design(row):
         "bare": [place_of(it) for it in row.bare],
         "opened": [place_of(it) for it in row.of_reading("opened")],
         "gaps": [list(it) for it in row.of_reading("gaps")],
-        "warnings": row.warnings(),
+        "warnings": row.warnings,
         "remarks": row.remarks(),
         "claims": claims.properties,
         "same_network_as": row.kin[0].found.name if row.kin else None,
-        "properties": [of_property(row, prop) for prop in PROPERTIES] if row.net else [],
+        "properties": [of_property(row, prop) for prop in row.asked] if row.net else [],
+        "universal": of_universal(row),
         "smaller": of_smaller(row),
     }
 
@@ -101,8 +109,8 @@ def unshown(row, why):
 
 
 MEMBERS = (
-    "name label books place source folder same_as status reason digest judged_digest ends splitters network choices cells "
-    "tiers bare opened gaps warnings remarks claims same_network_as properties smaller"
+    "name label books place source folder same_as status reason digest judged_digest ends splitters network choices "
+    "cells tiers bare opened gaps warnings remarks claims same_network_as properties universal smaller"
 ).split()
 """The members of a design, in their order."""
 

@@ -1,5 +1,5 @@
-"""Loaders at the ends of a test rig: what a loader gives to a belt comes in there, and what it takes from one goes out, so
-without them the belts that they stand at are ends."""
+"""Loaders at the ends of a test rig: what a loader gives to a belt comes in there, and what it takes from one goes out,
+so without them the belts that they stand at are ends."""
 
 from . import design
 from .design import step

@@ -4,11 +4,11 @@ from dataclasses import dataclass, field, replace
 from functools import cached_property
 
 from . import design, ends, files, labels, refusals, states, trace
-from .answers import OF_HALVES, UNDECIDED, Answer, Network, Smaller
+from .answers import OF_HALVES, UNDECIDED, UNKNOWN, Answer, Network, Smaller
 from .files import counted
 from .inputs import Design
 from .picture import Marks, Picture
-from .words import CLAIMING, NUMBERS, OF_ENDS, PROPERTIES, WORDS
+from .words import CLAIMING, NUMBERS, OF_ENDS, PROPERTIES, UNIVERSAL, WORDS
 from .work import DESIGN_JSON, NETWORK, ORIGINAL, SMALLER, SMALLER_STRING, Folder
 
 LABELS = WORDS["verdicts"]
@@ -18,8 +18,8 @@ MOST_LISTED = 8
 
 
 def core_of(parts, network):
-    """How many cells wide and high parts are without the belts between an end and the first splitter or underground end;
-    None where that is all of them."""
+    """How many cells wide and high parts are without the belts between an end and the first splitter or underground
+    end; None where that is all of them."""
     gone = set()
     for edge in network.edges:
         run = [half.part for _, half in edge.run]
@@ -33,12 +33,28 @@ def core_of(parts, network):
     return most_x - least_x + 1, most_y - least_y + 1
 
 
+@dataclass(frozen=True)
+class Universal:
+    """Whether a balancer is universal, yes or no, and the properties that it hasn't."""
+
+    verdict: str
+    failing: tuple = ()
+
+    def words(self):
+        """What it is, in words."""
+        return UNIVERSAL[self.verdict].format(states.together(self.failing)) if self.failing else UNIVERSAL[
+            self.verdict
+        ]
+
+
 @dataclass
 class Row:
     """A design of the collection, with its folder and what became of it."""
 
     found: Design
     folder: Folder | None = None
+    asked: tuple = PROPERTIES
+    """The properties that are decided."""
     trouble: str | None = None
     same_as: "Row | None" = None
     network: Network | None = None
@@ -80,8 +96,8 @@ class Row:
 
     def choice(self, folder):
         """A choice of bare halves as a row."""
-        row = Row(self.found, folder, network=folder.network())
-        row.decided = {prop: it for prop in PROPERTIES if (it := folder.decided(prop))}
+        row = Row(self.found, folder, self.asked, network=folder.network())
+        row.decided = {prop: it for prop in self.asked if (it := folder.decided(prop))}
         return row
 
     def of_ends(self):
@@ -120,6 +136,21 @@ class Row:
             return Answer(OF_HALVES, OF_ENDS["undecided"])
         return self.decided.get(prop) or UNDECIDED
 
+    def told(self):
+        """The properties of which the report tells: those that are decided, but for what the program doesn't know."""
+        return [prop for prop in self.asked if self.answer(prop).verdict != UNKNOWN]
+
+    def universal(self):
+        """Whether it is universal, as the verdicts tell that this takes; None where they don't, or not all are asked
+        for."""
+        if not self.net or not set(UNIVERSAL["properties"]) <= set(self.asked):
+            return None
+        verdicts = {prop: self.answer(prop).verdict for prop in UNIVERSAL["properties"]}
+        failing = tuple(prop for prop, it in verdicts.items() if it == "no")
+        if failing:
+            return Universal("no", failing)
+        return Universal("yes") if set(verdicts.values()) == {"yes"} else None
+
     @cached_property
     def text(self):
         """The design's text as it is judged."""
@@ -127,6 +158,7 @@ class Row:
             return self.folder.text(DESIGN_JSON)
         return self.found.text.decode("utf-8", "replace") if self.found.text is not None else ""
 
+    @cached_property
     def judged_digest(self):
         """The digest of the design as it is judged."""
         file = self.folder.design_file() if self.folder else None
@@ -173,14 +205,15 @@ class Row:
         said = [CLAIMING["contradicted"].format(words, states.together(them)) for words, them in false.items()]
         return said + ([CLAIMING["lanes"]] if told.lanes else [])
 
+    @cached_property
     def warnings(self):
-        """What is amiss with its ends, and with what its label claims."""
+        """What is amiss with its ends, and with what its label claims; once all is decided."""
         return [it for it in [self.warning()] if it and it != self.reason()] + self.claims()
 
     def remarks(self, most=MOST_LISTED):
         """What there is to say of how the design was read, in sentences without stops, with so many halves each."""
         opened, unopened = self.of_reading("opened"), self.of_reading("unopened")
-        told = [*self.warnings()]
+        told = [*self.warnings]
         belts = counted(self.of_reading("belts") or 0, "belt")
         if opened and self.of_reading("is_marked"):
             told += [OF_ENDS["marked"].format(trace.spelled(opened, most))]
@@ -265,8 +298,8 @@ class Row:
         return most_x - least_x + 1, most_y - least_y + 1
 
     def sides(self):
-        """At which side of the design each end is, north, east, south or west, where it is at one and looks across it; None
-        where that can't be told."""
+        """At which side of the design each end is, north, east, south or west, where it is at one and looks across it;
+        None where that can't be told."""
         picture, _ = self.picture
         if not picture or not picture.network:
             return None
@@ -282,7 +315,8 @@ class Row:
         return found
 
     def core_size(self):
-        """How many cells wide and high the design is without the belts at its ends, where it has such and more than these."""
+        """How many cells wide and high the design is without the belts at its ends, where it has such and more than
+        these."""
         picture, _ = self.picture
         return core_of(picture.design.parts, picture.network) if picture and picture.network else None
 
@@ -312,7 +346,9 @@ class Row:
 
     def marked(self):
         """The ends that are marked in the network alone, and how many inputs and outputs stand before them."""
-        return (self.of_reading("opened"), tuple(self.of_reading("before"))) if self.of_reading("is_marked") else ([], (0, 0))
+        return (self.of_reading("opened"), tuple(self.of_reading("before"))) if self.of_reading("is_marked") else (
+            [], (0, 0)
+        )
 
     def places(self):
         """The places with a red frame: what is refused, and where a belt may be missing."""

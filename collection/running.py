@@ -1,5 +1,5 @@
-"""The work on all designs: each has its folder, what is to be done is done so many at once, and what goes wrong with one
-of them is told of this one and ends nothing else."""
+"""The work on all designs: each has its folder, what is to be done is done so many at once, and what goes wrong with
+one of them is told of this one and ends nothing else."""
 
 import os
 import shlex
@@ -11,7 +11,7 @@ from queue import Empty, SimpleQueue
 from . import cleaning, design, files, networks
 from .answers import Answer, Smaller
 from .progress import REDRAWN_EACH, Progress
-from .states import PROPERTIES
+from .words import PROPERTIES
 from .work import DESIGN_JSON, FAILED, Folder
 
 STOPS = signal.SIGINT, signal.SIGTERM
@@ -53,7 +53,7 @@ def fill(rows):
     for row in rows:
         if row.folder and row.folder.record.get("design") == row.found.digest:
             row.network, row.smaller = row.folder.network(), row.folder.smaller()
-            told = {prop: row.folder.decided(prop) for prop in PROPERTIES}
+            told = {prop: row.folder.decided(prop) for prop in row.asked}
             row.decided = {prop: it for prop, it in told.items() if it}
 
 
@@ -101,16 +101,19 @@ def shrink(worker, row, others=()):
     """Looks for a smaller layout of a design, and gives what is found to others with the same network and sides."""
     for it in [row, *others]:
         try:
-            it.smaller = worker.shrink(row.folder) if it is row else worker.share(it.folder, row.folder, it.cells() or 0)
+            it.smaller = worker.shrink(row.folder) if it is row else worker.share(
+                it.folder, row.folder, it.cells() or 0
+            )
         except Exception as fault:
             it.smaller = Smaller("failed", f"the smaller layout can't be written: {fault_of(fault)}")
 
 
-def alike(rows):
-    """Groups of designs with the same network, each end at the same side, and parts of the same tiers; the largest first."""
+def alike(rows, is_facing=False):
+    """Groups of designs with the same network, each end at the same side unless that is asked for, and parts of the
+    same tiers; the largest first."""
     groups = []
     for row in sorted(rows, key=lambda it: -(it.cells() or 0)):
-        group = next((them for them in groups if is_alike(them[0], row)), None)
+        group = next((them for them in groups if is_alike(them[0], row, is_facing)), None)
         if group is None:
             groups.append([row])
         else:
@@ -118,12 +121,16 @@ def alike(rows):
     return groups
 
 
-def is_alike(one, other):
+def is_alike(one, other, is_facing=False):
     """Whether one search for a smaller layout serves both designs."""
     try:
-        sides, theirs = one.sides(), other.sides()
-        if None in (sides, theirs) or list(one.tiers()) != list(other.tiers()) or len(one.net.edges) != len(other.net.edges):
+        sides, theirs = ({}, {}) if is_facing else (one.sides(), other.sides())
+        if None in (sides, theirs) or list(one.tiers()) != list(other.tiers()) or len(one.net.edges) != len(
+            other.net.edges
+        ):
             return False
+        if not (networks.is_plain(one.net_text) and networks.is_plain(other.net_text)):
+            return one.net_text == other.net_text and sides == theirs
         if networks.shape(one.net) != networks.shape(other.net):
             return False
         names = networks.renaming(one.net.edges, other.net.edges)
@@ -141,7 +148,7 @@ def is_to_shrink(folder, worker):
 
 def undecided(folder, worker):
     """The properties that are still to be decided."""
-    told = {prop: folder.decided(prop) for prop in PROPERTIES}
+    told = {prop: folder.decided(prop) for prop in worker.properties}
     return [prop for prop, it in told.items() if not (it and it.stands(worker.limits))]
 
 
@@ -149,10 +156,10 @@ def tasks_of(rows, worker):
     """What is to be done for each design and property, with its name."""
     for row in rows:
         left = undecided(row.folder, worker)
-        row.decided = {prop: row.folder.decided(prop) for prop in PROPERTIES if prop not in left}
+        row.decided = {prop: row.folder.decided(prop) for prop in row.asked if prop not in left}
         row.smaller = row.folder.smaller()
         yield from ((f"{row.found.name} {prop}", (decide, worker, row, prop)) for prop in left)
-    for row, *others in alike([row for row in rows if is_to_shrink(row.folder, worker)]):
+    for row, *others in alike([row for row in rows if is_to_shrink(row.folder, worker)], worker.limits.facing):
         yield f"{row.found.name} smaller", (shrink, worker, row, others)
 
 
@@ -168,8 +175,8 @@ def next_of(ended, progress):
 
 @contextmanager
 def stops_into(ended):
-    """What stops the work comes through the queue of what tasks leave, as if one had ended by it: raised wherever it comes,
-    it could leave a lock taken that a task waits for. What the caller ignores stays ignored."""
+    """What stops the work comes through the queue of what tasks leave, as if one had ended by it: raised wherever it
+    comes, it could leave a lock taken that a task waits for. What the caller ignores stays ignored."""
     before = {it: signal.getsignal(it) for it in STOPS}
     heeded = [it for it in STOPS if before[it] is not signal.SIG_IGN]
     for it in heeded:
@@ -225,18 +232,22 @@ def work(rows, worker, jobs):
     run_all(list(tasks_of(judged, worker)), jobs, worker.program, worker.least)
 
 
-def words_for_one(asked):
+def words_for_one(asked, worker):
     """The words of a command for one design that asks for the same."""
     given = [(f"--{name}", getattr(asked, name)) for name in ("seconds", "learnt", "pivots", "width", "program")]
     words = [word for name, value in given if value is not None for word in (name, str(value))]
     words += ["--smaller"] if asked.smaller else []
+    words += ["--side-by-side"] if asked.side_by_side else []
+    words += ["--properties", ",".join(worker.properties)] if worker.properties != PROPERTIES else []
     words += ["--bare-ends", asked.bare_ends] if asked.bare_ends != "label" else []
-    return words + [it for name, part in asked.treat_as for it in ("--treat-as", f"{name}={design.NAMES[part][1] if part else cleaning.NOTHING}")]
+    for name, part in asked.treat_as:
+        words += ["--treat-as", f"{name}={design.NAMES[part][1] if part else cleaning.NOTHING}"]
+    return words
 
 
 def plan(rows, worker, asked):
     """A command for each design that has work left."""
-    command, words = os.environ.get("COLLECTION_COMMAND", "bin/collection"), words_for_one(asked)
+    command, words = os.environ.get("COLLECTION_COMMAND", "bin/collection"), words_for_one(asked, worker)
     for row in own_rows(rows):
         if begin(worker, row) and (undecided(row.folder, worker) or is_to_shrink(row.folder, worker)):
             yield shlex.join([command, *words, "--one", str(row.folder.path)])

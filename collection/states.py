@@ -83,7 +83,8 @@ def together(names):
 
 
 def told_of_ends(word, names, told, rest):
-    """What is told of each of some ends, those of which the same is told together, and one thing last, of all others."""
+    """What is told of each of some ends, those of which the same is told together, and one thing last, of all
+    others."""
     groups = {}
     for name, it in zip(names, told):
         groups.setdefault(it, []).append(name)
@@ -100,15 +101,66 @@ def set_up(net, state):
     caps = {end: cap for source, target, cap in net.edges for end in (source, target)}
     inputs, outputs = ([f"{word}{k}" for k in range(count)] for word, count in (("i", net.inputs), ("o", net.outputs)))
     loads = [{0: "empty", caps[end]: "full"}.get(it, f"with {mixed(it)}") for end, it in zip(inputs, state.loads)]
-    rooms = [{0: "blocked", caps[end]: "open"}.get(it, f"open for {mixed(it)}") for end, it in zip(outputs, state.rooms)]
+    rooms = [
+        {0: "blocked", caps[end]: "open"}.get(it, f"open for {mixed(it)}") for end, it in zip(outputs, state.rooms)
+    ]
     return f"{told_of_ends('input', inputs, loads, 'empty')}; {told_of_ends('output', outputs, rooms, 'open')}"
 
 
+@dataclass(frozen=True)
+class Unshared:
+    """Two ends of a state in which what is left isn't shared evenly: an output that could take more, or an input that
+    could give more, with the flow and how much it could be, and another end with a greater flow."""
+
+    less: str
+    flow: Fraction
+    could: Fraction
+    more: str
+    greater: Fraction
+
+    @property
+    def is_output(self):
+        return self.less[0] == "o"
+
+
+def unshared(prop, net, state):
+    """The end that has least of those that could have more, and the end that has most, where the property is one of
+    sharing; else None."""
+    if prop not in ("fair", "drawn-fairly"):
+        return None
+    sign, flows, most = ("o", at_ends(net, state)[1], state.rooms) if prop == "fair" else (
+        "i", at_ends(net, state)[0], state.loads
+    )
+    short = [at for at, flow in enumerate(flows) if flow < most[at]]
+    less, more = min(short, key=flows.__getitem__), max(range(len(flows)), key=flows.__getitem__)
+    return Unshared(f"{sign}{less}", flows[less], most[less], f"{sign}{more}", flows[more])
+
+
+def apart(prop, net, state):
+    """Which end has less than is fair in a state, and which more, by their names."""
+    them = unshared(prop, net, state)
+    return {them.less: "less", them.more: "more"} if them else {}
+
+
+def told_of_unshared(them, belt, itemed):
+    """Which of two ends has more, and which less, in words."""
+    word, verb = ("output", "carries") if them.is_output else ("input", "gives")
+    could = f"would take {mixed(them.could)}" if them.is_output else f"has {mixed(them.could)}"
+    items = f" ({itemed(them.greater)} and {itemed(them.flow)} items a second)" if itemed else ""
+    belts = f"{mixed(them.greater)} {belt}{'' if them.greater == 1 else 's'}"
+    only = f"{them.less}, which {could}, only {mixed(them.flow)}{items}"
+    return f"{word.capitalize()} {them.more} {verb} {belts} and {only}"
+
+
 def shown(prop, net, state, tiers=()):
-    """What the state shows, in words: in belts and, where the tiers of the design's parts are known, in items a second."""
+    """What the state shows, in words: in belts and, where the tiers of the design's parts are known, in items a
+    second."""
     given, carried = at_ends(net, state)
     belt = "basic belt" if len(tiers) > 1 else "belt"
     speed = ITEMS * (SPEED[tiers[0]] if len(tiers) == 1 else 1)
+    if them := unshared(prop, net, state):
+        said = told_of_unshared(them, belt, (lambda it: decimal(it * speed)) if tiers else None)
+        return f"{said}: {set_up(net, state)}."
     if prop in ("balanced", "drawn-evenly"):
         what, flows = ("outputs carry", carried) if prop == "balanced" else ("inputs give", given)
         items = f", or {listed([it * speed for it in flows], decimal)} items a second" if tiers else ""

@@ -5,18 +5,20 @@ done again, as long as the files are there and are what they were. The design is
 isn't as it came, it is kept as it came too."""
 
 import json
+import os
 import re
 import shutil
 import threading
 from dataclasses import dataclass, field, replace
+from functools import cached_property
 from pathlib import Path
 
 from . import cleaning, design, files, labels, openings, strings
-from .answers import ANSWERS, FOUND, GAVE_UP, SETTLED, Answer, Limits, Network, Smaller, together
+from .answers import ANSWERS, FOUND, GAVE_UP, SETTLED, UNKNOWN, Answer, Limits, Network, Smaller, together
 from .inputs import design_digest
 from .program import EXACT_STATUSES
 from .states import PROPERTIES
-from .words import WORDS
+from .words import LATER, WORDS
 
 OF_SEARCHES = WORDS["searches"]
 RECORD = "record.json"
@@ -31,13 +33,17 @@ SMALLER, SMALLER_STRING, SMALLER_NETWORK = "smaller.json", "smaller.txt", "small
 """A smaller blueprint, the string to paste of it, and the network that is recovered from it."""
 REFUSED = 3
 """The program's status where it refuses a design."""
+USAGE, NOT_FOUND = 2, 12
+"""The program's status where it doesn't know its words, and where it looked for something and found nothing."""
 RULE = "2"
 """By which rule designs are read: what was read by another one is read anew."""
 FIRST_LEARNT, TIMES_LEARNT, DEFAULT_LEARNT = 500, 4, 100_000
-"""The steps of the first search where the time is bounded, how many times as many the next one has, and the program's own
-bound."""
-MOST_HIGH = 16
-"""How many tiles high a layout is at most of which the width is asked for."""
+"""The steps of the first search where the time is bounded, how many times as many the next one has, and the program's
+own bound."""
+USUAL_GRID, LARGE_GRID = 16, 160
+"""How many tiles wide and high a layout is at most, where the program knows no larger ones, and where it does."""
+FACING = ("side inputs south", "side outputs north", "row inputs", "row outputs")
+"""The lines that ask for inputs side by side at one side, and outputs at the other."""
 GRID = re.compile(rb"grid (\d{1,9})x(\d{1,9})")
 FAILED = -1
 """What stands for its status where it gave no answer."""
@@ -116,7 +122,8 @@ class Folder:
         return told if same else None
 
     def decided(self, prop):
-        """What the record tells of a property, where the files are what they were; of choices what they tell together."""
+        """What the record tells of a property, where the files are what they were; of choices what they tell
+        together."""
         choices = self.choices()
         if choices:
             return together([it.network() and it.decided(prop) for it in choices])
@@ -137,11 +144,12 @@ class Folder:
     def forget(self, record):
         """Takes away what another program answered, or what was answered to another design."""
         with self.guard:
-            self.record = record
+            self.record, self.of_choices = record, {}
+            if not self.path.is_dir():
+                return
             answers = (f"{word}-{prop}.txt" for word in ANSWERS.values() for prop in PROPERTIES)
             for name in [NETWORK, SMALLER, SMALLER_STRING, *answers]:
                 self.file(name).unlink(missing_ok=True)
-            self.of_choices = {}
             for it in self.path.glob(CHOICE.format("[0-9]*")):
                 if it.is_dir() and not it.is_symlink():
                     shutil.rmtree(it)
@@ -171,9 +179,15 @@ class Folder:
 
 
 def sizes(text):
-    """How many inputs, outputs, splitters and edges a network text tells of."""
+    """How many inputs, outputs, splitters and edges a network text tells of, and how many preferred ones."""
     lines = text.splitlines()
-    return [*lines[0].split(" ")[1:4], sum(line.startswith("edge ") for line in lines)] if lines else []
+    counts = (sum(line.startswith(f"{it} ") for line in lines) for it in ("edge", "give", "take"))
+    return [*lines[0].split(" ")[1:4], *counts] if lines else []
+
+
+def request_of(network, lines):
+    """A network's text with more lines before its end."""
+    return network.rstrip("\n").removesuffix("end") + "".join(f"{it}\n" for it in lines) + "end\n"
 
 
 def tier_words(text):
@@ -275,7 +289,9 @@ def with_words_of(text, blueprint):
     if not kept and own == root["blueprint"]:
         return blueprint
     root["blueprint"] = own | kept
-    return (json.dumps(root, separators=(",", ":"), default=float, ensure_ascii=False) + "\n").encode("utf-8", "surrogatepass")
+    return (json.dumps(root, separators=(",", ":"), default=float, ensure_ascii=False) + "\n").encode(
+        "utf-8", "surrogatepass"
+    )
 
 
 class NoAnswer(Exception):
@@ -304,20 +320,22 @@ class Worker:
     smaller: bool = False
     """Whether smaller layouts are looked for."""
     reading: Reading = field(default_factory=Reading)
+    properties: tuple = PROPERTIES
+    """The properties that are decided."""
     least: dict = field(default_factory=dict)
     """The least that was found so far, in words, by the names of the designs' folders."""
 
     def begin(self, folder, name, label, text, file):
         """Puts a design into its folder. What is there of another design or program is forgotten."""
-        digest = design_digest(text)
+        digest, is_new = design_digest(text), not folder.path.is_dir()
         record = folder.record
         if record.get("design") != digest or record.get("program") != self.program.digest:
             folder.forget({"design": digest, "program": self.program.digest})
         folder.record |= {"name": name, "label": label}
-        if folder.digest_of_original() != digest:
+        if is_new or folder.digest_of_original() != digest:
             folder.file(ORIGINAL).unlink(missing_ok=True)
             files.write(folder.file(file), text)
-        if folder.read() != folder.record:
+        if is_new or folder.read() != folder.record:
             folder.keep()
 
     def ask(self, folder, text):
@@ -340,7 +358,9 @@ class Worker:
             return told
         if told is not None:
             # The ends may be others, though the text stays.
-            folder.forget({key: it for key, it in folder.record.items() if key in ("design", "program", "name", "label")})
+            folder.forget(
+                {key: it for key, it in folder.record.items() if key in ("design", "program", "name", "label")}
+            )
         file = folder.original_file()
         try:
             if file.name == DESIGN_NET:
@@ -414,6 +434,8 @@ class Worker:
         verdict, line = VERDICT_OF.get(ended.status), first_line(answer)
         if ended.late:
             told = Answer("late", f"the time was up after {self.limits.seconds:g} seconds by the clock")
+        elif ended.status == USAGE and prop in LATER:
+            told = Answer(UNKNOWN, "the program doesn't know this property")
         elif verdict in SETTLED and line:
             told = self.settle(folder, prop, verdict, answer)
         elif verdict is None or not line:
@@ -466,11 +488,19 @@ class Worker:
         return told
 
     def shrink_anew(self, folder, answer):
-        """Looks for a smaller layout with each end at its own side, for half of the time where that is bounded, and where
-        none is found for one with ends at any side."""
+        """Looks for a smaller layout with each end at its own side, for half of the time where that is bounded, and
+        where none is found for one with ends at any side."""
         for name in (SMALLER, SMALLER_STRING):
             folder.file(name).unlink(missing_ok=True)
         seconds, spent = self.limits.seconds, Spent()
+        if self.limits.facing:
+            told = self.shrink_facing(folder, answer, spent)
+            return replace(
+                told,
+                processor=round(spent.processor, 3),
+                clock=round(spent.clock, 3),
+                limits=self.limits.told_to_find(),
+            )
         told = self.look_in_rounds(folder, answer, ["--sides"], seconds and seconds / 2, spent)
         if told.verdict == "found":
             told = replace(told, sides=True)
@@ -478,34 +508,61 @@ class Worker:
             first, told = told, self.look_in_rounds(folder, answer, [], seconds, spent)
             if first.verdict == told.verdict == "none":
                 told = replace(told, why=f"{first.why} with each end at its own side, and {told.why} with ends at any")
-        return replace(told, processor=round(spent.processor, 3), clock=round(spent.clock, 3), limits=self.limits.told_to_find())
+        return replace(
+            told, processor=round(spent.processor, 3), clock=round(spent.clock, 3), limits=self.limits.told_to_find()
+        )
 
-    def look_in_rounds(self, folder, answer, words, seconds, spent):
+    @cached_property
+    def most_of_grid(self):
+        """How many tiles wide and high a layout is at most."""
+        with open(os.devnull, "wb") as out:
+            ended = self.program.run(["smallest", "--found", "--most", f"{LARGE_GRID}x{LARGE_GRID}"], [b"net"], out)
+        return USUAL_GRID if ended.status == USAGE else LARGE_GRID
+
+    def shrink_facing(self, folder, answer, spent):
+        """Looks for a layout with inputs side by side at one side and outputs at the other: for half of the time where
+        that is bounded in the width of the lines, unless a width is asked for, and where none is found in any width."""
+        text, seconds = folder.text(NETWORK), self.limits.seconds
+        request, lines = request_of(text, FACING), max(map(int, text.split(" ", 3)[1:3]))
+        usual = min(self.most_of_grid, max(USUAL_GRID, 2 * lines))
+        widths = [self.limits.width] if self.limits.width else [lines, usual]
+        for at, width in enumerate(widths, 1):
+            grid = f"{min(width, self.most_of_grid)}x{self.most_of_grid if self.limits.width else usual}"
+            until = seconds and seconds * at / len(widths)
+            told = self.look_in_rounds(folder, answer, ["--most", grid], until, spent, request.encode())
+            if told.verdict not in ("none", "late"):
+                return replace(told, facing=told.verdict == "found")
+        return told
+
+    def look_in_rounds(self, folder, answer, words, seconds, spent, request=None):
         """Looks for a smaller layout with these words until so many seconds are spent; where the time is bounded, with
-        more and more steps, so that what was found stands when it is up."""
+        more and more steps, so that what was found stands when it is up. A request takes the design's place."""
         tier, found, told = tier_words(folder.text(folder.design_file().name)), None, None
-        tier = [*tier, *(["--most", f"{self.limits.width}x{MOST_HIGH}"] if self.limits.width else [])]
+        if self.limits.width and request is None:
+            tier += ["--most", f"{min(self.limits.width, self.most_of_grid)}x{self.most_of_grid}"]
         for steps in rounds(self.limits):
             left = seconds and max(0.001, seconds - spent.clock)
-            told = self.look(folder, answer, [*words, *tier, *steps], left, spent)
+            told = self.look(folder, answer, [*words, *tier, *steps], left, spent, request)
             if told.verdict == "found":
                 found = told
-                folder.keep(smaller=replace(told, sides="--sides" in words).kept())
+                folder.keep(smaller=replace(told, sides="--sides" in words, facing=request is not None).kept())
                 self.least[folder.path.name] = "{}x{} so far".format(*told.size)
             elif told.verdict != "none":
                 break
         return found if found and told.verdict in ("late", "none") else told
 
-    def look(self, folder, answer, words, seconds, spent):
+    def look(self, folder, answer, words, seconds, spent, request=None):
         """Looks for a smaller layout once, with these words and for so many seconds."""
         with open(answer, "wb") as out:
-            ended = self.program.run(["smallest", "--found", *words], [folder.design_file()], out, seconds)
+            ended = self.program.run(["smallest", "--found", *words], [request or folder.design_file()], out, seconds)
         spent.add(ended)
         line = first_line(answer)
         if ended.late:
             return Smaller("late", f"the time was up after {self.limits.seconds:g} seconds by the clock")
         if ended.status == 0 and line:
             return self.keep_smaller(folder, answer)
+        if ended.status == NOT_FOUND:
+            return Smaller("none", "none was found, which says nothing of whether there is one")
         if ended.status == 4 and word_of(line, 1).isdigit():
             within = f"{word_of(line, 1)} steps" if self.limits.seconds is None else f"{self.limits.seconds:g} seconds"
             return Smaller("none", f"none was found in {within}")
@@ -545,7 +602,7 @@ class Worker:
         for name in (SMALLER, SMALLER_STRING):
             folder.file(name).unlink(missing_ok=True)
         told = replace(told, processor=0.0, clock=0.0, limits=limits)
-        if told.verdict == "found" and told.size[0] * told.size[1] < cells:
+        if told.verdict == "found" and (told.facing or told.size[0] * told.size[1] < cells):
             blueprint = with_words_of(folder.text(DESIGN_JSON), leader.file(SMALLER).read_bytes())
             told = replace(told, digests=self.written(folder, blueprint))
         elif told.verdict == "found":
@@ -560,7 +617,7 @@ def all_of(worker, folder):
     if network.status == FAILED:
         return [network.line]
     judged = network.is_judged()
-    answers = [worker.decide(folder, prop) for prop in PROPERTIES] if judged else []
+    answers = [worker.decide(folder, prop) for prop in worker.properties] if judged else []
     if worker.smaller and judged and not network.choices and folder.judged_file() == folder.file(DESIGN_JSON):
         answers.append(worker.shrink(folder))
     return [it.why for it in answers if it.verdict == "failed"]

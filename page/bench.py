@@ -1,10 +1,11 @@
-"""Times the program in the page, in Chromium without a window, against the program beside the page, in one run and in turn.
+"""Times the program in the page, in Chromium without a window, against the program beside the page, in one run and in
+turn.
 
     python3 -m page.bench PAGE
 
-prints the seconds of both, their ratio, and the memory of both, for decisions on 64 lines, layouts of eight to eight and the
-check of a certificate of 9 MB; then the size of the page, and how long a click on a 4 to 4 balancer takes to its first
-verdict. Both are wall seconds, the least of several runs. It wants the command chromium."""
+prints the seconds of both, their ratio, and the memory of both, for decisions on 64 lines, layouts of eight to eight
+and the check of a certificate of 9 MB; then the size of the page, and how long a click on a 4 to 4 balancer takes to
+its first verdict. Both are wall seconds, the least of several runs. It wants the command chromium."""
 
 import base64
 import subprocess
@@ -40,7 +41,9 @@ def cases(program):
     splitter = (EXAMPLES / "splitter-2-to-2.net").read_bytes()
     yes = subprocess.run([program, "decide", "unlimited"], input=splitter, stdout=subprocess.PIPE, check=True).stdout
     verdict, *steps, _ = yes.decode().splitlines()
-    formula = subprocess.run([program, "formula", "unlimited"], input=splitter, stdout=subprocess.PIPE, check=True).stdout
+    formula = subprocess.run(
+        [program, "formula", "unlimited"], input=splitter, stdout=subprocess.PIPE, check=True
+    ).stdout
     clauses = next(int(it.split()[3]) for it in formula.decode().splitlines() if it.startswith("p cnf"))
     text = repeated(steps, clauses)
     yield "check, 9 MB", ["check", "unlimited"], splitter + f"{verdict}\n{text}end\n".encode(), 4
@@ -86,9 +89,10 @@ def by_program(program, words, data):
 
 
 def by_page(page, words):
-    """The same of the page's program, over the bytes that the page was given: of its memory the pages that hold something, since
-    no more of the program's is counted, and all that it grew to."""
-    script = f"program.run({words}, window.timed, 'timing', {{ isMeasured: true }}).told.then((it) => [it.seconds, it.touched, it.status, it.written?.length, it.memory])"
+    """The same of the page's program, over the bytes that the page was given: of its memory the pages that hold
+    something, since no more of the program's is counted, and all that it grew to."""
+    told = "(it) => [it.seconds, it.touched, it.status, it.written?.length, it.memory]"
+    script = f"program.run({words}, window.timed, 'timing', {{ isMeasured: true }}).told.then({told})"
     told = page.ask("Runtime.evaluate", expression=script, awaitPromise=True, returnByValue=True)
     return told["result"]["value"]
 
@@ -110,8 +114,9 @@ def main(path):
                 ours, theirs = best["page"], best["program"]
                 ratio, room_ratio = ours[0] / theirs[0], ours[1] / theirs[1]
                 print(
-                    f"{name}: page {ours[0]:.2f} s, program {theirs[0]:.2f} s, {ratio:.2f} times (at most {most}); memory "
-                    f"{ours[1] / 1e6:.0f} MB of {ours[4] / 1e6:.0f} MB and {theirs[1] / 1e6:.0f} MB, {room_ratio:.2f} times (at most {MOST_ROOM})",
+                    f"{name}: page {ours[0]:.2f} s, program {theirs[0]:.2f} s, {ratio:.2f} times (at most {most}); "
+                    f"memory {ours[1] / 1e6:.0f} MB of {ours[4] / 1e6:.0f} MB and {theirs[1] / 1e6:.0f} MB, "
+                    f"{room_ratio:.2f} times (at most {MOST_ROOM})",
                     flush=True,
                 )
                 if ours[2:4] != list(theirs[2:]):
@@ -119,7 +124,11 @@ def main(path):
             print(f"the page has {path.stat().st_size} bytes")
             string = deflate((EXAMPLES / "balancer-4-to-4.json").read_bytes())
             page.value(f"document.getElementById('text').value = '{string}'")
-            first = "new Promise((resolve) => { const began = performance.now(); document.getElementById('open').click(); const look = () => document.querySelector('.verdict.yes, .verdict.no') ? resolve((performance.now() - began) / 1000) : setTimeout(look, 1); look(); })"
+            first = (
+                "new Promise((resolve) => { const began = performance.now(); document.getElementById('open').click(); "
+                "const look = () => document.querySelector('.verdict.yes, .verdict.no') "
+                "? resolve((performance.now() - began) / 1000) : setTimeout(look, 1); look(); })"
+            )
             told = page.ask("Runtime.evaluate", expression=first, awaitPromise=True, returnByValue=True)
             print(f"the first verdict of a 4 to 4 balancer comes {told['result']['value']:.2f} s after the click")
         finally:

@@ -1,6 +1,6 @@
-// Blueprint books: the bytes of each design in a book, with its place there. Bytes are walked, and not made into values,
-// so that each design stays what it was, faults and all, for the program to judge; and without recursion. The same as
-// `collection/books.py`.
+// Blueprint books: the bytes of each design in a book, with its place there. Bytes are walked, and not made into
+// values, so that each design stays what it was, faults and all, for the program to judge; and without recursion. The
+// same as `collection/books.py`.
 
 /** How many books stand in one another at most, and how many designs are read. */
 const [MOST_NESTED, MOST_DESIGNS] = [WORDS.numbers.most_nested, WORDS.numbers.most_designs];
@@ -41,7 +41,9 @@ class Walk {
   }
 
   expect(sign) {
-    if (this.sign() !== SIGN[sign]) throw new Fault(`the text is damaged at byte ${this.at}: ${sign} is expected there`);
+    if (this.sign() !== SIGN[sign]) throw new Fault(
+      `the text is damaged at byte ${this.at}: ${sign} is expected there`
+    );
     this.at += 1;
   }
 
@@ -114,8 +116,8 @@ const text = (bytes) => {
   }
 };
 
-/** Goes past the value that stands here, of a design or of anything: its label, or null. Where it is damaged within, its
-    brackets and strings alone tell where it ends. */
+/** Goes past the value that stands here, of a design or of anything: its label, or null. Where it is damaged within,
+    its brackets and strings alone tell where it ends. */
 const labelOf = (walk) => {
   let label = null;
   if (walk.sign() === OPEN) {
@@ -152,8 +154,8 @@ const kindOf = (names) => {
   return names.every((it) => it === "index" || it === "active_index") ? "empty slot" : "";
 };
 
-/** Reads one entry: a design, a book, or what is neither. Its number is that of its place, as the book that it stands in
-    tells it; where it doesn't, counted from 1. */
+/** Reads one entry: a design, a book, or what is neither. Its number is that of its place, as the book that it stands
+    in tells it; where it doesn't, counted from 1. */
 function* entry(walk, found, book, number, depth) {
   walk.sign();
   const start = walk.at;
@@ -175,8 +177,9 @@ function* entry(walk, found, book, number, depth) {
       if (name === "index") number = indexOf(walk.bytes.subarray(begin, walk.at), number);
       if (held) held.number = number;
     }
+  if (held) return;
   if (found.length >= MOST_DESIGNS) throw new Fault(filledIn(WORDS.inputs.designs, MOST_DESIGNS));
-  if (!held) found.push({ book, number, label, kind: book ? kindOf(names) : "", bytes: walk.bytes.subarray(start, walk.at) });
+  found.push({ book, number, label, kind: book ? kindOf(names) : "", bytes: walk.bytes.subarray(start, walk.at) });
 }
 
 /** Reads a book: its label, and its entries. */

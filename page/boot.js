@@ -1,5 +1,5 @@
-// Unpacks what is packed in the page: the scripts, the examples and the program. The scripts are put in as a text whose digest
-// the page's policy names, so that no other text is run.
+// Unpacks what is packed in the page: the scripts, the examples and the program. The scripts are put in as a text whose
+// digest the page's policy names, so that no other text is run.
 
 /** The program, and the examples that can be chosen. */
 let unpackedProgram = null;
@@ -17,7 +17,9 @@ const unpackAll = (packed) => {
 };
 
 if (typeof DecompressionStream === "undefined" || typeof WebAssembly === "undefined") {
-  document.getElementById("given").textContent = "This browser is too old for the page: it lacks WebAssembly or DecompressionStream.";
+  document.getElementById(
+    "given"
+  ).textContent = "This browser is too old for the page: it lacks WebAssembly or DecompressionStream.";
 } else {
   document.getElementById("given").textContent = "Unpacking the program…";
   setTimeout(() => unpackAll(fromBase85(document.getElementById("program").textContent.trim())));

@@ -1,11 +1,11 @@
-"""Builds the page: takes the module of the proved program as the kit hands it to its compiler, makes WebAssembly of it, and
-puts it into one file.
+"""Builds the page: takes the module of the proved program as the kit hands it to its compiler, makes WebAssembly of it,
+and puts it into one file.
 
     python3 -m page.build FOLDER
 
-writes FOLDER/beltproof.html, of the program FOLDER/beltproof-x86_64-linux. The program's crate and those below it must be
-proved and built, as the gate and a release leave them. What is linked of the object that comes beside the module has to
-be that program, byte for byte: so this module is the program's."""
+writes FOLDER/beltproof.html, of the program FOLDER/beltproof-x86_64-linux. The program's crate and those below it must
+be proved and built, as the gate and a release leave them. What is linked of the object that comes beside the module has
+to be that program, byte for byte: so this module is the program's."""
 
 import os
 import shlex
@@ -31,11 +31,13 @@ WIDEST_DIVISION = 64
 PROCESSOR = [f"--target={TARGET}", "-mcpu=lime1", "--no-default-config"]
 DIVISIONS = [f"-expand-div-rem-bits={WIDEST_DIVISION}", f"-expand-fp-convert-bits={WIDEST_DIVISION}"]
 DEAREST_INLINED = 100
-"""How much a function may cost that is written into those that call it, where the compiler takes 225: the page is smaller
-by 4 %."""
+"""How much a function may cost that is written into those that call it, where the compiler takes 225: the page is
+smaller by 4 %."""
 
 ADAPTED = [*DIVISIONS, f"-inline-threshold={DEAREST_INLINED}"]
-COMPILED = ["-O2", "-Xclang", "-fmerge-functions", *(word for it in ADAPTED for word in ("-mllvm", it)), "-c", "-x", "ir"]
+COMPILED = [
+    "-O2", "-Xclang", "-fmerge-functions", *(word for it in ADAPTED for word in ("-mllvm", it)), "-c", "-x", "ir"
+]
 OF_C = ["-O3", "-std=c17", "-ffreestanding", "-fno-builtin", "-Wall", "-Wextra", "-Werror", "-c"]
 LINKED = ["-mwasm64", "--no-entry", "--stack-first", "-z", f"stack-size={STACK}", f"--max-memory={MOST_MEMORY}"]
 LINKED += ["--gc-sections", "--fatal-warnings", "--strip-all", "--export=__stack_pointer"]
@@ -98,7 +100,8 @@ class Kit:
         return own
 
     def caught(self, room):
-        """The module that the kit hands to its compiler for the proved program, and the program that is linked beside."""
+        """The module that the kit hands to its compiler for the proved program, and the program that is linked
+        beside."""
         module, made, program = room / "module.bc", room / "program.o", room / "program"
         folder = TOP / "crates" / CRATE
         crate = self.lib.Crate(str(folder), str(TOP), {})

@@ -1,5 +1,5 @@
-// What is left out of a design before the program reads it: bystanders, and what only reads a belt. All else of the text stays,
-// faults and all, for the program to judge. The same as `collection/cleaning.py`.
+// What is left out of a design before the program reads it: bystanders, and what only reads a belt. All else of the
+// text stays, faults and all, for the program to judge. The same as `collection/cleaning.py`.
 
 const CONTROL = "control_behavior";
 
@@ -7,7 +7,11 @@ const CONTROL = "control_behavior";
 const READING = ["circuit_read_hand_contents", "circuit_contents_read_mode"];
 
 /** What stops a belt where its condition fails, unless it is false, and that condition. */
-const ENABLING = { circuit_enable_disable: "circuit_condition", circuit_enabled: "circuit_condition", connect_to_logistic_network: "logistic_condition" };
+const ENABLING = {
+  circuit_enable_disable: "circuit_condition",
+  circuit_enabled: "circuit_condition",
+  connect_to_logistic_network: "logistic_condition",
+};
 
 /** Whether a belt's control behaviour leaves the belt running. */
 const onlyReads = (behaviour) => {
@@ -35,7 +39,9 @@ const cleaned = (bytes) => {
   const loaders = endLoaders(bytes);
   const nameIn = (entity) => found.value(entity, "name");
   const isGone = (entity, at) => loaders.has(at) || BYSTANDERS.has(nameIn(entity));
-  const numbers = new Set(found.entities.filter(isGone).map((it) => found.value(it, "entity_number")).filter(Number.isInteger));
+  const numbers = new Set(
+    found.entities.filter(isGone).map((it) => found.value(it, "entity_number")).filter(Number.isInteger)
+  );
   found.entities.forEach((entity, at) => {
     const name = nameIn(entity);
     if (isGone(entity, at)) {
@@ -45,10 +51,14 @@ const cleaned = (bytes) => {
     }
     const reads = isBelt(name) && entity.members.has(CONTROL) && onlyReads(found.value(entity, CONTROL));
     readers += reads;
-    const linked = numbers.size && entity.members.has(CONNECTIONS) ? connectionsOf(found.value(entity, CONNECTIONS), numbers) : null;
+    const linked = numbers.size && entity.members.has(CONNECTIONS) ? connectionsOf(
+      found.value(entity, CONNECTIONS), numbers
+    ) : null;
     const without = new Set([...(reads ? [CONTROL] : []), ...(linked === "" ? [CONNECTIONS] : [])]);
     const isChanged = reads || linked !== null;
-    texts.push(isChanged ? found.changed(entity, without, new Map(linked ? [[CONNECTIONS, linked]] : [])) : found.textOf(entity));
+    texts.push(
+      isChanged ? found.changed(entity, without, new Map(linked ? [[CONNECTIONS, linked]] : [])) : found.textOf(entity)
+    );
   });
   const counted = (them) => [...them].map(([name, number]) => `${number} × ${name}`).join(", ");
   const notes = leftOut.size ? [`left out, since it can't touch a belt: ${counted(leftOut)}`] : [];

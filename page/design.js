@@ -1,5 +1,5 @@
-// A design's parts as they are drawn: what each entity is, where it stands, and which way it goes. What is read here is only
-// drawn: the program has the last word on every design. The same as `collection/design.py`.
+// A design's parts as they are drawn: what each entity is, where it stands, and which way it goes. What is read here is
+// only drawn: the program has the last word on every design. The same as `collection/design.py`.
 
 const TIERS = ["basic", "fast", "express", "turbo"];
 const SPEED = { basic: 1, fast: 2, express: 3, turbo: 4 };
@@ -9,7 +9,9 @@ const REACH = { basic: 4, fast: 6, express: 8, turbo: 10 };
 
 const PREFIXES = { basic: "", fast: "fast-", express: "express-", turbo: "turbo-" };
 const BODIES = { "transport-belt": "belt", "underground-belt": "underground", splitter: "splitter" };
-const NAMES = new Map(TIERS.flatMap((tier) => Object.entries(BODIES).map(([body, kind]) => [PREFIXES[tier] + body, { kind, tier }])));
+const NAMES = new Map(
+  TIERS.flatMap((tier) => Object.entries(BODIES).map(([body, kind]) => [PREFIXES[tier] + body, { kind, tier }]))
+);
 const PIECES = { input: "entrance", output: "exit" };
 
 const [NORTH, EAST, SOUTH, WEST] = [0, 1, 2, 3];
@@ -23,7 +25,7 @@ const STEPS = [[0, -1], [1, 0], [0, 1], [-1, 0]];
 /** From this version on a full turn has sixteen directions, and eight before. */
 const SIXTEENTHS_SINCE = 2 * 2 ** 48;
 
-const MOST_ENTITIES = 4096;
+const MOST_ENTITIES = 16384;
 
 /** How many cells a picture has at most, from west to east and from north to south. */
 const WIDEST = 2048;
@@ -43,7 +45,9 @@ const leftHalf = (part) => (part.direction === NORTH || part.direction === EAST 
 const halves = (value) => (typeof value === "number" && Math.abs(2 * value) <= 2 ** 31 ? 2 * value : null);
 
 /** What can't touch a belt, with its size where it faces north. */
-const BYSTANDERS = new Map(Object.entries(BYSTANDER_TILES).flatMap(([size, names]) => names.map((name) => [name, size.split("x").map(Number)])));
+const BYSTANDERS = new Map(
+  Object.entries(BYSTANDER_TILES).flatMap(([size, names]) => names.map((name) => [name, size.split("x").map(Number)]))
+);
 
 /** The blueprint's members. */
 const blueprintOf = (bytes) => {
@@ -94,7 +98,9 @@ const directionOf = (entity, isSixteenths) => {
 };
 
 /** Whether a part has two cells along this axis: 0 from west to east, 1 from north to south. */
-const isWide = (kind, direction, axis) => kind === "splitter" && (direction === NORTH || direction === SOUTH) === (axis === 0);
+const isWide = (kind, direction, axis) => kind === "splitter" && (direction === NORTH || direction === SOUTH) === (
+  axis === 0
+);
 
 /** The side that a splitter prefers, where it prefers one. */
 const sideOf = (entity, member) => (entity[member] === "left" || entity[member] === "right" ? entity[member] : null);
@@ -146,7 +152,14 @@ const strangerOfEntity = (index, entity, middle, isSixteenths) => {
   const direction = directionOf(entity, isSixteenths);
   const size = own && (direction === EAST || direction === WEST) ? [own[1], own[0]] : own ?? [1, 1];
   const at = middle.map((it) => Math.trunc(it) + 0);
-  return { entity: index, name: nameOfEntity(entity), middle: at, size, standsBy: own !== undefined, cells: cellsOfStranger(at, size) };
+  return {
+    entity: index,
+    name: nameOfEntity(entity),
+    middle: at,
+    size,
+    standsBy: own !== undefined,
+    cells: cellsOfStranger(at, size),
+  };
 };
 
 /** An entity's name as it is written; as the report writes it where it has none, or one that is no text. */
@@ -155,7 +168,8 @@ const nameOfEntity = ({ name }) => {
   return name === undefined || name === null ? "None" : JSON.stringify(name);
 };
 
-/** The part that an entity is, on the grid with this shift, or where none is given on its own, and the shift; or null. */
+/** The part that an entity is, on the grid with this shift, or where none is given on its own, and the shift; or
+    null. */
 const partOf = (index, entity, middle, shift, isSixteenths) => {
   const direction = directionOf(entity, isSixteenths);
   const known = typeof entity.name === "string" ? NAMES.get(entity.name) : undefined;
@@ -164,16 +178,20 @@ const partOf = (index, entity, middle, shift, isSixteenths) => {
   const off = [0, 1].map((axis) => Math.abs(middle[axis] + (isWide(kind, direction, axis) ? 0 : 1)) % 2);
   if (shift && (off[0] !== shift[0] || off[1] !== shift[1])) return null;
   const cells = cellsOf(kind, direction, [middle[0] - off[0], middle[1] - off[1]]);
-  const [give, take] = kind === "splitter" ? [sideOf(entity, "output_priority"), sideOf(entity, "input_priority")] : [null, null];
+  const [give, take] = kind === "splitter" ? [sideOf(entity, "output_priority"), sideOf(entity, "input_priority")] : [
+    null, null
+  ];
   return { part: { entity: index, kind, tier: known.tier, direction, cells, give, take }, off };
 };
 
-/** The parts of a blueprint's text, and what is no part; the first part tells how the grid lies. What has no position is left
-    out. Where it is bounded, what is too much for a picture isn't read. */
+/** The parts of a blueprint's text, and what is no part; the first part tells how the grid lies. What has no position
+    is left out. Where it is bounded, what is too much for a picture isn't read. */
 const readDesign = (bytes, isBounded = true) => {
   const blueprint = blueprintOf(bytes);
   const entities = entitiesOf(blueprint);
-  if (isBounded && entities.length > MOST_ENTITIES) throw new Unreadable(`there are more than ${MOST_ENTITIES} entities`);
+  if (isBounded && entities.length > MOST_ENTITIES) throw new Unreadable(
+    `there are more than ${MOST_ENTITIES} entities`
+  );
   const isSixteenths = typeof blueprint.version === "number" && blueprint.version >= SIXTEENTHS_SINCE;
   const parts = [];
   const others = [];
@@ -186,12 +204,18 @@ const readDesign = (bytes, isBounded = true) => {
     if (found) parts.push(found.part);
     else others.push({ index, entity, middle });
   });
-  if (!parts.length && !others.length) throw new Unreadable(entities.length ? "no entity has a position" : "the blueprint has no entities");
+  if (!parts.length && !others.length) throw new Unreadable(
+    entities.length ? "no entity has a position" : "the blueprint has no entities"
+  );
   shift ??= [0, 0];
-  const strangers = others.map(({ index, entity, middle }) => strangerOfEntity(index, entity, [middle[0] - shift[0], middle[1] - shift[1]], isSixteenths));
+  const strangers = others.map(({ index, entity, middle }) => strangerOfEntity(
+    index, entity, [middle[0] - shift[0], middle[1] - shift[1]], isSixteenths
+  ));
   const found = { parts, strangers, shift, isSixteenths };
   const [leastX, leastY, mostX, mostY] = boxOfDesign(found);
-  if (isBounded && Math.max(mostX - leastX, mostY - leastY) >= WIDEST) throw new Unreadable(`the entities reach over more than ${WIDEST} tiles`);
+  if (isBounded && Math.max(mostX - leastX, mostY - leastY) >= WIDEST) throw new Unreadable(
+    `the entities reach over more than ${WIDEST} tiles`
+  );
   return found;
 };
 

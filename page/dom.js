@@ -35,7 +35,9 @@ const svgOf = (elements) =>
 const told = (text) => make("bdi", {}, plain(text));
 
 /** Saves bytes, or parts of them in a list, under a name. */
-const save = (bytes, name) => saveBlob(new Blob(Array.isArray(bytes) ? bytes : [bytes], { type: "application/octet-stream" }), name);
+const save = (bytes, name) => saveBlob(
+  new Blob(Array.isArray(bytes) ? bytes : [bytes], { type: "application/octet-stream" }), name
+);
 
 const saveBlob = (blob, name) => {
   if (!blob) return;

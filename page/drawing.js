@@ -25,7 +25,8 @@ class Picture {
 }
 
 class Drawing extends Picture {
-  /** The picture of a design, of its network where that is traced, with marks, and with columns and rows numbered if ruled. */
+  /** The picture of a design, of its network where that is traced, with marks, and with columns and rows numbered if
+      ruled. */
   constructor(design, network, marks, label, isRuled) {
     const cells = network ? badgeCells(design.parts, network) : [];
     const box = boxOf(design, cells);
@@ -36,7 +37,12 @@ class Drawing extends Picture {
     this.parts = document.createElementNS(SVG, "g");
     this.parts.append(...svgOf(drawn(design, marks, this.ways)));
     this.over = document.createElementNS(SVG, "g");
-    this.svg.append(...(isRuled ? svgOf(rulesOf(this.box)) : []), this.parts, this.over, ...svgOf(halfBadges(design.parts, marks.halves ?? [], marks.before)));
+    this.svg.append(
+      ...(isRuled ? svgOf(rulesOf(this.box)) : []),
+      this.parts,
+      this.over,
+      ...svgOf(halfBadges(design.parts, marks.halves ?? [], marks.before))
+    );
     this.fit(true);
     this.show(null);
   }
@@ -46,16 +52,16 @@ class Drawing extends Picture {
     return this.box[2] + (this.isRuled ? 28 : 8) / CELL;
   }
 
-  /** Draws a state, or none. */
-  show(state) {
-    this.showOf(this.network, state);
+  /** Draws a state, or none, with which of two ends has less and which more. */
+  show(state, apart = {}) {
+    this.showOf(this.network, state, apart);
   }
 
   /** The same of a network with other caps. */
-  showOf(network, state) {
+  showOf(network, state, apart = {}) {
     this.parts.setAttribute("class", state ? "below" : "");
     const flows = state ? flowing(this.design.parts, network, this.cells, state, this.ways) : [];
-    this.over.replaceChildren(...svgOf([...flows, ...badges(this.cells, state && toldAtEnds(state))]));
+    this.over.replaceChildren(...svgOf([...flows, ...badges(this.cells, state && toldAtEnds(state), apart)]));
   }
 }
 
@@ -73,17 +79,18 @@ class GraphDrawing extends Picture {
     return this.box[2];
   }
 
-  show(state) {
-    this.svg.replaceChildren(...svgOf(graphOf(this.net, state).elements));
+  show(state, apart = {}) {
+    this.svg.replaceChildren(...svgOf(graphOf(this.net, state, apart).elements));
   }
 }
 
 /** What tells the colours of a state. */
-const legend = (isMixed) =>
+const legend = (isMixed, apart = {}) =>
   make(
     "p",
     { class: "legend" },
     make("span", {}, make("span", { class: "key" }), "free: all moves on"),
     make("span", {}, make("span", { class: "key backed" }), "backed: items queue up and wait"),
     make("span", {}, `numbers: parts of a full ${isMixed ? "basic " : ""}belt`),
+    Object.keys(apart).length ? make("span", {}, WORDS.universal.apart) : null,
   );

@@ -1,5 +1,5 @@
-// Which bare halves of a design's splitters are ends, where its label tells how many inputs and outputs it has. The same as
-// `collection/ends.py`, which says what is chosen and why.
+// Which bare halves of a design's splitters are ends, where its label tells how many inputs and outputs it has. The
+// same as `collection/ends.py`, which says what is chosen and why.
 
 /** How many choices there are at most, and how many networks; where there are more, none is told. */
 const [MOST_CHOICES, MOST_NETWORKS] = [256, 64];
@@ -10,7 +10,8 @@ const MOST_LOOKED_AT = 20000;
 /** How many splitters, bare ends, and cells of the design's box there are at most where choices are looked for. */
 const [MOST_SPLITTERS, MOST_BARE, MOST_CELLS] = [512, 512, 65536];
 
-/** How many cells are come by at most where it is looked whether ends can be led out; beyond that there are too many to look at. */
+/** How many cells are come by at most where it is looked whether ends can be led out; beyond that there are too many to
+    look at. */
 const MOST_VISITED = 1000000;
 
 /** How many choices are tried to find that two networks are the same at most. */
@@ -22,8 +23,8 @@ const wayOut = (part, bare) => (bare.front ? part.direction : (part.direction + 
 /** The cell beyond a bare end of a splitter. */
 const outsideOf = (part, bare) => step(part.cells[bare.half], wayOut(part, bare));
 
-/** The free tiles that lie in front of an output or a bare half, and from which a belt would feed an input or a bare half, from
-    west to east and then from north to south. */
+/** The free tiles that lie in front of an output or a bare half, and from which a belt would feed an input or a bare
+    half, from west to east and then from north to south. */
 const gapsOf = (parts, taken, network, bare) => {
   const there = new Set([...parts.flatMap((it) => it.cells), ...taken].map(keyOf));
   const [fronts, fed] = [new Map(), new Map()];
@@ -31,7 +32,9 @@ const gapsOf = (parts, taken, network, bare) => {
   for (const it of network.outputs) put(fronts, step(parts[it.part].cells[it.half], parts[it.part].direction));
   for (const it of network.inputs) {
     const part = parts[it.part];
-    for (const turn of part.kind === "belt" ? [1, 2, 3] : [2]) put(fed, step(part.cells[it.half], (part.direction + turn) % 4));
+    for (const turn of part.kind === "belt" ? [1, 2, 3] : [2]) put(
+      fed, step(part.cells[it.half], (part.direction + turn) % 4)
+    );
   }
   for (const it of bare) put(it.front ? fronts : fed, outsideOf(parts[it.part], it));
   const found = [...fronts].filter(([key]) => fed.has(key) && !there.has(key)).map(([, cell]) => cell);
@@ -48,7 +51,9 @@ function* shares(least, most, whole, from = 0) {
   }
   const low = Math.max(least[from], whole - total(most.slice(from + 1)));
   const high = Math.min(most[from], whole - total(least.slice(from + 1)));
-  for (let count = low; count <= high; count += 1) for (const rest of shares(least, most, whole - count, from + 1)) yield [count, ...rest];
+  for (let count = low; count <= high; count += 1) for (
+    const rest of shares(least, most, whole - count, from + 1)
+  ) yield [count, ...rest];
 }
 
 /** A graph in which as much flows as can: edges in pairs, there and back, each with its room. */
@@ -101,8 +106,8 @@ class Flow {
   }
 }
 
-/** A design's splitters with their bare halves: what can be chosen, and what comes of it. A choice is two lists: how many ends
-    each splitter gets at its back, and in front. */
+/** A design's splitters with their bare halves: what can be chosen, and what comes of it. A choice is two lists: how
+    many ends each splitter gets at its back, and in front. */
 class Plan {
   constructor(parts, taken, network, bare) {
     Object.assign(this, { parts, bare, network });
@@ -178,7 +183,9 @@ class Plan {
           if (this.lead(side, cell)) line.push(cell);
         }
       }
-    for (const cell of line) for (let direction = 0; direction < 4; direction += 1) if (this.lead(this.into.get(keyOf(cell)) + 1, step(cell, direction))) line.push(step(cell, direction));
+    for (const cell of line) for (let direction = 0; direction < 4; direction += 1) if (
+      this.lead(this.into.get(keyOf(cell)) + 1, step(cell, direction))
+    ) line.push(step(cell, direction));
     this.outer = this.flooded(line);
     /** How many bare ends each splitter has at its back and in front that can be led out alone. */
     this.free = this.halves.map((sides) => sides.map((side) => side.filter((it) => this.isOut(it)).length));
@@ -211,7 +218,9 @@ class Plan {
   /** The free cells, those of this line, from which a way leads out of the box. */
   flooded(cells) {
     const found = new Map();
-    for (const cell of cells) if ([0, 1, 2, 3].some((it) => !this.isInside(step(cell, it)))) found.set(keyOf(cell), cell);
+    for (const cell of cells) if ([0, 1, 2, 3].some((it) => !this.isInside(step(cell, it)))) found.set(
+      keyOf(cell), cell
+    );
     for (const cell of found.values())
       for (let direction = 0; direction < 4; direction += 1) {
         const beside = step(cell, direction);
@@ -236,7 +245,8 @@ class Plan {
     return this.isAllLedOut || this.isFlowing(choice);
   }
 
-  /** How many ends each splitter gets at least and at most, where only some may get any; null where one that must may not. */
+  /** How many ends each splitter gets at least and at most, where only some may get any; null where one that must may
+      not. */
   bounds(front, may) {
     const least = (front ? this.isLeading : this.isFed).map((there) => (there ? 0 : 1));
     const most = this.free.map((sides, at) => (may[at] ? sides[front] : 0));
@@ -279,8 +289,8 @@ class Plan {
     return found;
   }
 
-  /** The splitters that are reached from all inputs; null where one is reached from none of them, or an output that stands isn't
-      reached from all. */
+  /** The splitters that are reached from all inputs; null where one is reached from none of them, or an output that
+      stands isn't reached from all. */
   common(ins) {
     const entered = this.stands.flatMap((it, at) => (ins[at] || it[0] ? [at] : []));
     if (!entered.length) return null;
@@ -315,8 +325,8 @@ class Plan {
     return [0, 1].map((which) => total(halves.map((it) => this.ways[it][which])));
   }
 
-  /** The bare ends of one choice for each network that they make, the likely one first, each the likeliest of its network; null
-      where there are too many networks. */
+  /** The bare ends of one choice for each network that they make, the likely one first, each the likeliest of its
+      network; null where there are too many networks. */
   grouped(choices) {
     const kept = choices.map((it) => this.halvesOf(it)).map((halves) => [this.cost(halves), halves]);
     kept.sort(([a], [b]) => a[0] - b[0] || a[1] - b[1]);
@@ -335,19 +345,23 @@ class Plan {
     return found;
   }
 
-  /** The network with these ends, as what stands at each splitter and the edges between splitters. Each edge has its cap, and
-      whether a splitter with two edges at that side prefers it. */
+  /** The network with these ends, as what stands at each splitter and the edges between splitters. Each edge has its
+      cap, and whether a splitter with two edges at that side prefers it. */
   told(halves) {
     const isMixed = new Set(this.parts.map((it) => it.tier)).size > 1;
     const at = (half) => this.number.get(half.part) ?? null;
-    const lines = this.network.edges.map(({ cap, run }) => [at(run[0].half), run[0].half.half, at(run[run.length - 1].half), run[run.length - 1].half.half, cap]);
+    const lines = this.network.edges.map(({ cap, run }) => [
+      at(run[0].half), run[0].half.half, at(run[run.length - 1].half), run[run.length - 1].half.half, cap
+    ]);
     for (const it of halves) {
       const bare = this.bare[it];
       const cap = isMixed ? SPEED[this.parts[bare.part].tier] : 1;
       lines.push(bare.front ? [at(bare), bare.half, null, 0, cap] : [null, 0, at(bare), bare.half, cap]);
     }
     const count = this.next.map(() => [0, 0]);
-    for (const [source, , target] of lines) for (const [which, front] of [[source, 1], [target, 0]]) if (which !== null) count[which][front] += 1;
+    for (const [source, , target] of lines) for (const [which, front] of [[source, 1], [target, 0]]) if (
+      which !== null
+    ) count[which][front] += 1;
     const [marks, found] = [this.next.map(() => []), []];
     for (const [source, first, target, last, cap] of lines) {
       const gives = source !== null && count[source][1] === 2 && this.prefers(source, first, "give");
@@ -392,10 +406,13 @@ const refined = (marks, edges) => {
 };
 
 /** What is equal of networks that are the same. */
-const shapeKey = (colours, edges) => JSON.stringify([[...colours].sort((a, b) => a - b), edges.map(([source, target, kind]) => [colours[source], colours[target], kind]).sort(byNumbers)]);
+const shapeKey = (colours, edges) => JSON.stringify([
+  [...colours].sort((a, b) => a - b),
+  edges.map(([source, target, kind]) => [colours[source], colours[target], kind]).sort(byNumbers),
+]);
 
-/** Whether a renaming of its splitters takes one network to another; two for which none is found in so many tries are taken for
-    different ones. Both are refined as one network, in which two vertices of a pair stay equal. */
+/** Whether a renaming of its splitters takes one network to another; two for which none is found in so many tries are
+    taken for different ones. Both are refined as one network, in which two vertices of a pair stay equal. */
 const isSameShape = (marks, edges, otherMarks, otherEdges) => {
   const count = marks.length;
   const both = [...edges, ...otherEdges.map(([source, target, kind]) => [source + count, target + count, kind])];
@@ -415,7 +432,10 @@ const isSameShape = (marks, edges, otherMarks, otherEdges) => {
     if (!open.length) {
       const name = new Map([...classes.values()].map(([ours, theirs]) => [ours[0], theirs[0] - count]));
       const renamed = edges.map(([source, target, kind]) => [name.get(source), name.get(target), kind]).sort(byNumbers);
-      if (JSON.stringify(renamed) === wanted && marks.every((it, at) => JSON.stringify(it) === JSON.stringify(otherMarks[name.get(at)]))) return true;
+      if (
+        JSON.stringify(renamed) === wanted
+        && marks.every((it, at) => JSON.stringify(it) === JSON.stringify(otherMarks[name.get(at)]))
+      ) return true;
       continue;
     }
     const [ours, theirs] = open.sort(([a], [b]) => a.length - b.length || a[0] - b[0])[0];
@@ -428,9 +448,10 @@ const isSameShape = (marks, edges, otherMarks, otherEdges) => {
   return false;
 };
 
-/** What is told of the ends of these parts, where other things stand on the taken cells, and a label tells of these pairs of
-    numbers: whether the ends that stand are those that are meant, or all bare halves, or one choice of them, or one of several
-    that make other networks, or none, or whether there are too many to look at, or a belt may be missing. */
+/** What is told of the ends of these parts, where other things stand on the taken cells, and a label tells of these
+    pairs of numbers: whether the ends that stand are those that are meant, or all bare halves, or one choice of them,
+    or one of several that make other networks, or none, or whether there are too many to look at, or a belt may be
+    missing. */
 const endsOf = (parts, taken, pairs) => {
   const network = new Layout(parts).network();
   const bare = bareEnds(parts);

@@ -1,5 +1,5 @@
-// The entities of a blueprint's bytes with their places in them, so that what is changed leaves all the rest as it was. The same
-// as `collection/entities.py`.
+// The entities of a blueprint's bytes with their places in them, so that what is changed leaves all the rest as it was.
+// The same as `collection/entities.py`.
 
 /** The entity that stands here; the walk goes past it. */
 const entityAt = (walk) => {
@@ -45,7 +45,9 @@ class Listed {
       for (const inner of walk.members()) {
         if (inner === "entities" && this.end === null && walk.sign() === SIGN["["]) {
           for (const _ of walk.parts("[", "]")) {
-            if (this.entities.length === MOST_ENTITIES_LISTED) throw new Fault(`there are more than ${MOST_ENTITIES_LISTED} entities`);
+            if (this.entities.length === MOST_ENTITIES_LISTED) throw new Fault(
+              `there are more than ${MOST_ENTITIES_LISTED} entities`
+            );
             this.entities.push(entityAt(walk));
           }
           this.end = walk.at - 1;
@@ -83,15 +85,24 @@ class Listed {
   /** An entity's text without some of its members, and with other texts for the values of some. */
   changed(entity, without, texts) {
     const kept = [...entity.members].filter(([it]) => !without.has(it));
-    const written = kept.map(([name, { start, valueStart, end }]) => (texts.has(name) ? glued([this.bytes.subarray(start, valueStart), asBytes(texts.get(name))]) : this.bytes.subarray(start, end)));
+    const written = kept.map(([name, { start, valueStart, end }]) => (
+      texts.has(name)
+        ? glued([this.bytes.subarray(start, valueStart), asBytes(texts.get(name))])
+        : this.bytes.subarray(start, end)
+    ));
     return glued([BRACES[0], ...between(written, COMMA), BRACES[1]]);
   }
 
-  /** The blueprint's bytes with these entities in place of its own, and other texts for the values of some of its other members. */
+  /** The blueprint's bytes with these entities in place of its own, and other texts for the values of some of its other
+      members. */
   withAll(texts, values = new Map()) {
-    const [first, last] = [this.entities[0]?.start ?? this.end, this.entities[this.entities.length - 1]?.end ?? this.end];
+    const [first, last] = [
+      this.entities[0]?.start ?? this.end, this.entities[this.entities.length - 1]?.end ?? this.end
+    ];
     const changes = [[first, last, glued(between(texts, COMMA_LINE))]];
-    for (const [name, it] of values) changes.push([this.others.get(name).valueStart, this.others.get(name).end, asBytes(it)]);
+    for (const [name, it] of values) changes.push(
+      [this.others.get(name).valueStart, this.others.get(name).end, asBytes(it)]
+    );
     const found = [];
     let at = 0;
     for (const [start, end, bytes] of changes.sort((a, b) => a[0] - b[0])) {

@@ -1,5 +1,5 @@
-// A drawing of a network without parts: inputs at the top, each splitter as far down as it is from them, outputs at the bottom,
-// and each edge as a line. Plain lists of elements, as those of pictures.
+// A drawing of a network without parts: inputs at the top, each splitter as far down as it is from them, outputs at the
+// bottom, and each edge as a line. Plain lists of elements, as those of pictures.
 
 /** How far apart the nodes of a rank and the ranks are. */
 const [ACROSS, DOWN] = [52, 64];
@@ -16,7 +16,9 @@ const ranksOf = (net) => {
   let last = [...ranks.keys()];
   for (let rank = 1; last.length; rank += 1) {
     const from = new Set(last);
-    const next = net.edges.filter((it) => from.has(it.source) && !ranks.has(it.target) && it.target[0] === "s").map((it) => it.target);
+    const next = net.edges.filter((it) => from.has(it.source) && !ranks.has(it.target) && it.target[0] === "s").map(
+      (it) => it.target
+    );
     last = [...new Set(next)];
     for (const it of last) ranks.set(it, rank);
   }
@@ -44,7 +46,9 @@ const orderedRanks = (net, ranks) => {
   spread();
   for (let sweep = 0; sweep < SWEEPS; sweep += 1)
     for (const rank of sweep % 2 ? [...rows.keys()].reverse() : rows.keys()) {
-      const side = (it) => joined.get(it).filter((other) => (sweep % 2 ? ranks.get(other) > rank : ranks.get(other) < rank));
+      const side = (it) => joined.get(it).filter(
+        (other) => (sweep % 2 ? ranks.get(other) > rank : ranks.get(other) < rank)
+      );
       const middle = (it) => {
         const them = side(it);
         return them.length ? them.reduce((sum, other) => sum + places.get(other), 0) / them.length : places.get(it);
@@ -60,11 +64,14 @@ const orderedRanks = (net, ranks) => {
 const placedNodes = (net) => {
   const rows = orderedRanks(net, ranksOf(net));
   const width = Math.max(...rows.map((it) => it.length)) * ACROSS;
-  const middles = new Map(rows.flatMap((row, rank) => row.map((it, at) => [it, [((at + 0.5) * width) / row.length, rank * DOWN + 20]])));
+  const middles = new Map(
+    rows.flatMap((row, rank) => row.map((it, at) => [it, [((at + 0.5) * width) / row.length, rank * DOWN + 20]]))
+  );
   return { middles, width, height: (rows.length - 1) * DOWN + 40 };
 };
 
-/** How far beside the middle of its node each edge leaves it and comes in: in the order of the nodes at the other ends. */
+/** How far beside the middle of its node each edge leaves it and comes in: in the order of the nodes at the other
+    ends. */
 const besides = (net, middles) => {
   const found = net.edges.map(() => [0, 0]);
   for (const [which, own, other] of [[0, "source", "target"], [1, "target", "source"]]) {
@@ -78,22 +85,29 @@ const besides = (net, middles) => {
   return found;
 };
 
-/** The line of an edge from one point to another, and where its number stands; one that leads back up, or to its own node, goes
-    around at the side. */
+/** The line of an edge from one point to another, and where its number stands; one that leads back up, or to its own
+    node, goes around at the side. */
 const edgeLine = ([x, y], [farX, farY], width) => {
   if (farY > y) {
     const bend = (farY - y) / 2;
     // Of two edges that cross, the one to the right has its number further up.
     const down = 0.5 - 0.17 * Math.sign(Math.round(farX - x));
     const along = 3 * down ** 2 - 2 * down ** 3;
-    return { path: `M${x} ${y}C${x} ${y + bend} ${farX} ${farY - bend} ${farX} ${farY}`, place: [x + (farX - x) * along, y + (farY - y) * down] };
+    return {
+      path: `M${x} ${y}C${x} ${y + bend} ${farX} ${farY - bend} ${farX} ${farY}`,
+      place: [x + (farX - x) * along, y + (farY - y) * down],
+    };
   }
   const out = (x + farX > width ? 1 : -1) * 36;
-  return { path: `M${x} ${y}C${x + out} ${y + 36} ${farX + out} ${farY - 36} ${farX} ${farY}`, place: [(x + farX) / 2 + out * 0.75, (y + farY) / 2] };
+  return {
+    path: `M${x} ${y}C${x + out} ${y + 36} ${farX + out} ${farY - 36} ${farX} ${farY}`,
+    place: [(x + farX) / 2 + out * 0.75, (y + farY) / 2],
+  };
 };
 
-/** The elements that draw a network, with a state where one is given; and how far they reach. */
-const graphOf = (net, state = null) => {
+/** The elements that draw a network, with a state where one is given and which of two ends has less and which more; and
+    how far they reach. */
+const graphOf = (net, state = null, apart = {}) => {
   const { middles, width, height } = placedNodes(net);
   const aside = besides(net, middles);
   const [lines, tags] = [[], []];
@@ -105,14 +119,26 @@ const graphOf = (net, state = null) => {
     const kind = state ? (state.marks[at] === "b" ? "backed" : "free") : "wire";
     const thick = state ? 1.5 + Number((6n * flow.above) / (BigInt(most) * flow.below)) : 1 + cap / 2;
     const words = `${source} to ${target}${state ? `: ${flow} of ${cap}, ${kind}` : cap > 1 ? `, cap ${cap}` : ""}`;
-    lines.push(titled(words, ["path", { class: state ? `flow ${kind}${flow.above === 0n ? " idle" : ""}` : kind, "stroke-width": thick, d: path }, ""]));
-    if (state) tags.push(["rect", { class: `tag ${kind}`, x: place[0] - 11, y: place[1] - 6, width: 22, height: 12, rx: 3 }, ""], sign(flow.short(), place[0], place[1] + 3, kind));
+    lines.push(titled(
+      words,
+      [
+        "path",
+        { class: state ? `flow ${kind}${flow.above === 0n ? " idle" : ""}` : kind, "stroke-width": thick, d: path },
+        "",
+      ],
+    ));
+    if (state) tags.push(
+      ["rect", { class: `tag ${kind}`, x: place[0] - 11, y: place[1] - 6, width: 22, height: 12, rx: 3 }, ""],
+      sign(flow.short(), place[0], place[1] + 3, kind),
+    );
   });
   const told = state && toldAtEnds(state);
   const nodes = [...middles].flatMap(([name, [x, y]]) => {
     const isEnd = name[0] !== "s";
     const tall = told && isEnd ? 22 : 16;
-    const box = ["rect", { class: isEnd ? `badge ${name[0] === "i" ? "in" : "out"}` : "node", x: x - 15, y: y - tall / 2, width: 30, height: tall, rx: 4 }, ""];
+    const badge = `badge ${name[0] === "i" ? "in" : "out"}${apart[name] ? ` ${apart[name]}` : ""}`;
+    const place = { x: x - 15, y: y - tall / 2, width: 30, height: tall, rx: 4 };
+    const box = ["rect", { class: isEnd ? badge : "node", ...place }, ""];
     const own = sign(name, x, told && isEnd ? y - 1 : y + 3, isEnd ? "on" : "");
     return told && isEnd ? [box, own, sign(told.get(name).short(), x, y + 8, "on")] : [box, own];
   });

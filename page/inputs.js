@@ -1,4 +1,5 @@
-// What was pasted or dropped: the designs in it, each with its name, its place in a book and its bytes, or why there is none.
+// What was pasted or dropped: the designs in it, each with its name, its place in a book and its bytes, or why there is
+// none.
 
 /** How many bytes are read of a file at most, and of a design. */
 const [MOST_READ, LONGEST_DESIGN] = [WORDS.numbers.most_read, WORDS.numbers.longest_design];
@@ -58,11 +59,15 @@ const isCrowded = (bytes) => {
 
 /** The designs in a text of JSON: itself, or those of a book. */
 const fromJson = (bytes, name) => {
-  if (isCrowded(bytes)) return [{ name, books: [], place: "", bytes: null, trouble: filledIn(WORDS.inputs.brackets, MOST_BRACKETS, MOST_COMMAS) }];
+  if (isCrowded(bytes)) return [
+    { name, books: [], place: "", bytes: null, trouble: filledIn(WORDS.inputs.brackets, MOST_BRACKETS, MOST_COMMAS) }
+  ];
   const { found, fault } = entries(bytes);
   // No book: the program tells what is wrong with the text.
   if (fault && !found.some((it) => it.book)) return [bounded({ name, books: [], place: "", bytes })];
-  if (!found.length) return [{ name, books: [], place: "", bytes: null, trouble: "it is a book in which nothing stands" }];
+  if (!found.length) return [
+    { name, books: [], place: "", bytes: null, trouble: "it is a book in which nothing stands" }
+  ];
   const passed = new Map();
   for (const { kind } of found) if (kind) passed.set(kind, (passed.get(kind) ?? 0) + 1);
   const designs = found.filter((it) => !it.kind).map((it) => {
@@ -73,8 +78,14 @@ const fromJson = (bytes, name) => {
     const label = plain(it.label ?? (it.book ? it.number : name));
     return bounded({ name: label, books, place, bytes: it.book ? it.bytes : bytes });
   });
-  if (passed.size) designs.push({ name: "no designs", books: [], place: "", bytes: null, isPassed: true, trouble: `passed over: ${[...passed].map(([kind, number]) => count(number, kind)).join(" and ")}` });
-  if (fault) designs.push({ name: "the rest", books: [], place: "", bytes: null, trouble: `${fault}, and what stands behind isn't read` });
+  if (passed.size) {
+    const told = [...passed].map(([kind, number]) => count(number, kind)).join(" and ");
+    const trouble = `passed over: ${told}`;
+    designs.push({ name: "no designs", books: [], place: "", bytes: null, isPassed: true, trouble });
+  }
+  if (fault) designs.push(
+    { name: "the rest", books: [], place: "", bytes: null, trouble: `${fault}, and what stands behind isn't read` }
+  );
   return designs;
 };
 
@@ -120,15 +131,23 @@ const designsIn = async (given, name) => {
     bytes = encoder.encode(written);
   }
   if (isJson(bytes)) return fromJson(bytes, name);
-  if (/^\s*net(\s|$)/.test(written)) return [bounded({ name, books: [], place: "", bytes: encoder.encode(written.replace(/\r\n/g, "\n")) })];
+  if (/^\s*net(\s|$)/.test(written)) return [
+    bounded({ name, books: [], place: "", bytes: encoder.encode(written.replace(/\r\n/g, "\n")) })
+  ];
   const found = stringsIn(written);
   const designs = [];
-  for (const [at, it] of found.slice(0, MOST_DESIGNS).entries()) designs.push(...(await fromString(it, found.length === 1 ? name : `${name}, string ${at + 1}`)));
-  if (found.length > MOST_DESIGNS) designs.push({ name: "the rest", books: [], place: "", bytes: null, trouble: filledIn(WORDS.inputs.designs, MOST_DESIGNS) });
+  for (const [at, it] of found.slice(0, MOST_DESIGNS).entries()) designs.push(
+    ...(await fromString(it, found.length === 1 ? name : `${name}, string ${at + 1}`))
+  );
+  if (found.length > MOST_DESIGNS) designs.push(
+    { name: "the rest", books: [], place: "", bytes: null, trouble: filledIn(WORDS.inputs.designs, MOST_DESIGNS) }
+  );
   if (designs.length) return designs;
   const begin = latin(bytes).search(JSON_START);
   if (begin >= 0) return fromJson(unworded(bytes.subarray(begin)), name);
   const word = written.trim();
   if (/^\d\S+$/.test(word)) return fromString(word, name);
-  return [{ name, books: [], place: "", bytes: null, trouble: "it is no blueprint string, no JSON and no network text" }];
+  return [
+    { name, books: [], place: "", bytes: null, trouble: "it is no blueprint string, no JSON and no network text" }
+  ];
 };

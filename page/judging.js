@@ -3,15 +3,24 @@
 /** How many bare halves a sentence names at most. */
 const MOST_REMARKED = 8;
 
-/** What there is to say of how the design was read, in sentences without their ends; these bare halves are left in it. */
+/** What there is to say of how the design was read, in sentences without their ends; these bare halves are left in
+    it. */
 const remarksOf = (reading, bare, notes) => {
   const { opened, unopened, belts, isMarked } = reading;
   const remarks = [];
-  if (opened.length) remarks.push(isMarked ? filledIn(WORDS.ends.marked, spelled(opened, MOST_REMARKED)) : `opened by ${count(belts, "belt")}: ${spelled(opened, MOST_REMARKED)}`);
-  const shut = bare.filter((it) => !opened.some((other) => other.kind === it.kind && keyOf(other.cell) === keyOf(it.cell)));
-  if (shut.length) remarks.push(filledIn(shut.length === 1 ? WORDS.ends.shut_one : WORDS.ends.shut, shut.length, spelled(shut, MOST_REMARKED)));
+  if (opened.length) remarks.push(
+    isMarked ? filledIn(WORDS.ends.marked, spelled(opened, MOST_REMARKED))
+    : `opened by ${count(belts, "belt")}: ${spelled(opened, MOST_REMARKED)}`
+  );
+  const shut = bare.filter(
+    (it) => !opened.some((other) => other.kind === it.kind && keyOf(other.cell) === keyOf(it.cell))
+  );
+  if (shut.length) remarks.push(
+    filledIn(shut.length === 1 ? WORDS.ends.shut_one : WORDS.ends.shut, shut.length, spelled(shut, MOST_REMARKED))
+  );
   const reasons = unopened.slice(0, MOST_REMARKED).map((it) => `${spelled([it.place])}, since ${it.why}`);
-  if (reasons.length) remarks.push(`not opened: ${reasons.join("; ")}${unopened.length > MOST_REMARKED ? `, and ${unopened.length - MOST_REMARKED} more` : ""}`);
+  const more = unopened.length > MOST_REMARKED ? `, and ${unopened.length - MOST_REMARKED} more` : "";
+  if (reasons.length) remarks.push(`not opened: ${reasons.join("; ")}${more}`);
   return [...remarks, ...notes];
 };
 
@@ -32,7 +41,9 @@ class NoAnswer extends Error {
 /** What is known of a design in this way of reading it, as long as the page is open. */
 class Judged {
   constructor(found, mode = "label") {
-    Object.assign(this, { found, mode, bytes: found.bytes, isRead: false, notes: [], bystanders: [], ways: 0, choices: [] });
+    Object.assign(
+      this, { found, mode, bytes: found.bytes, isRead: false, notes: [], bystanders: [], ways: 0, choices: [] }
+    );
     /** Each property's answer. */
     this.answers = new Map();
   }
@@ -112,7 +123,9 @@ class Judged {
   /** At which tiles a belt may be missing, in words; null where there is none. */
   get ofGaps() {
     const tiles = this.reading.gaps.map(tile);
-    return tiles.length ? filledIn(tiles.length === 1 ? WORDS.ends.gap : WORDS.ends.gaps, together(tiles.slice(0, MOST_REMARKED))) : null;
+    return tiles.length ? filledIn(
+      tiles.length === 1 ? WORDS.ends.gap : WORDS.ends.gaps, together(tiles.slice(0, MOST_REMARKED))
+    ) : null;
   }
 
   /** The places with a red frame: where a belt may be missing, and what is refused. */
@@ -145,8 +158,8 @@ class Judged {
     return [0, 1].includes(this.answers.get(property)?.status);
   }
 
-  /** Decides a property, of each choice of bare halves where there are several, and where it is asked for, has the answer checked.
-      Where all is known already, nothing is run. */
+  /** Decides a property, of each choice of bare halves where there are several, and where it is asked for, has the
+      answer checked. Where all is known already, nothing is run. */
   async decide(property, run, { steps = USUAL_STEPS, isChecked = false } = {}) {
     if (this.choices.length) {
       let last = null;
@@ -173,8 +186,8 @@ class Judged {
     return answer;
   }
 
-  /** What several choices of bare halves tell of a property: what became of them, and how long it took; null where not all are
-      asked yet. */
+  /** What several choices of bare halves tell of a property: what became of them, and how long it took; null where not
+      all are asked yet. */
   joined(property) {
     const answers = this.choices.map((it) => it.answers.get(property));
     if (!answers.every(Boolean)) return null;
@@ -182,34 +195,54 @@ class Judged {
     const settled = ["yes", "no"].filter((it) => kinds.includes(it));
     const open = answers.find((_, at) => !["yes", "no"].includes(kinds[at]));
     const whole = { seconds: total(answers.map((it) => it.seconds)), kept: null, check: null };
-    if (settled.length === 2) return { ...answers[0], ...whole, halves: settled.map((it) => `${it} for ${kinds.filter((kind) => kind === it).length} of ${kinds.length}`).join(", ") };
-    return open ? { ...open, ...whole } : { ...answers[0], ...whole, steps: Math.max(...answers.map((it) => it.steps)), of: answers.length };
+    if (settled.length === 2) return {
+      ...answers[0],
+      ...whole,
+      halves: settled.map((it) => `${it} for ${kinds.filter((kind) => kind === it).length} of ${kinds.length}`).join(
+        ", "
+      ),
+    };
+    return open ? { ...open, ...whole } : {
+      ...answers[0], ...whole, steps: Math.max(...answers.map((it) => it.steps)), of: answers.length
+    };
   }
 
   /** Checks a certificate or a state. */
   async check(property, saved, run) {
     const words = ["check", property];
     const ended = await run(words, lined(this.asked, saved), `Checking what was decided of ${property}`);
-    return { words, status: ended.status, trouble: ended.trouble, why: ended.why, seconds: ended.seconds, line: ended.written ? firstLine(ended.written) : "" };
+    return {
+      words,
+      status: ended.status,
+      trouble: ended.trouble,
+      why: ended.why,
+      seconds: ended.seconds,
+      line: ended.written ? firstLine(ended.written) : "",
+    };
   }
 
-  /** What is said of a property: of what `check` didn't accept, that; and where it isn't clear which bare halves are ends, only
-      what holds whichever they are. */
+  /** What is said of a property: of what `check` didn't accept, that; and where it isn't clear which bare halves are
+      ends, only what holds whichever they are. */
   verdict(property, parts = {}) {
     if (this.isOpen) return { kind: "open", badge: WORDS.verdicts.halves, says: `${capital(WORDS.ends.undecided)}.` };
     const answer = this.answers.get(property);
     if (!answer) return null;
     const told = { promise: FIELD[property].promise, name: FIELD[property].name, ...parts };
-    if (answer.halves) return sentenceOf("differ", answer, { differ: capital(filledIn(WORDS.ends.differ, answer.halves)) });
+    if (answer.halves) return sentenceOf(
+      "differ", answer, { differ: capital(filledIn(WORDS.ends.differ, answer.halves)) }
+    );
     if (answer.of) return sentenceOf("agreed", answer, { ...told, count: answer.of });
     const isBad = answer.check && answer.check.status !== answer.status;
     return isBad ? sentenceOf("check", answer.check) : sentenceOf("decide", answer, told);
   }
 
-  /** The field's word for a design that is fair, drawn fairly and unlimited, or nothing. */
+  /** Whether the design is universal, as the verdicts tell that this takes, with which of them fail; null where they
+      don't. */
   get universal() {
-    const isAll = UNIVERSAL.every((it) => this.verdict(it)?.kind === "yes");
-    return isAll ? sentenceOf("universal", this.answers.get(UNIVERSAL[0])).says : "";
+    const kindOf = (it) => this.verdict(it)?.kind;
+    const failing = UNIVERSAL.filter((it) => kindOf(it) === "no");
+    if (!failing.length && !UNIVERSAL.every((it) => kindOf(it) === "yes")) return null;
+    return sentenceOf("universal", this.answers.get(failing[0] ?? UNIVERSAL[0]), { name: together(failing) });
   }
 
   /** What is amiss with the number of ends, in words, where the label tells of others; or null. */
@@ -228,8 +261,12 @@ class Judged {
   get claims() {
     const { properties, lanes } = claimsIn(this.found.name);
     const failed = new Map();
-    for (const [property, claim] of Object.entries(properties)) if (this.verdict(property)?.kind === "no") failed.set(claim, [...(failed.get(claim) ?? []), property]);
-    const told = [...failed].map(([claim, them]) => sentenceOf("claim", this.answers.get(them[0]), { claim, name: together(them.map((it) => FIELD[it].known)) }).says);
+    for (const [property, claim] of Object.entries(properties)) if (this.verdict(property)?.kind === "no") failed.set(
+      claim, [...(failed.get(claim) ?? []), property]
+    );
+    const told = [...failed].map(([claim, them]) => sentenceOf(
+      "claim", this.answers.get(them[0]), { claim, name: together(them.map((it) => FIELD[it].known)) }
+    ).says);
     return [...told, ...(lanes ? [WORDS.claiming.lanes] : [])];
   }
 
@@ -256,5 +293,7 @@ const keptAnswer = async ({ written, ...ended }) => {
   const isSettled = ended.status === 0 || ended.status === 1;
   let lines = 0;
   for (const byte of written) lines += byte === 10;
-  return { ...ended, line: firstLine(written), steps: Math.max(0, lines - 2), kept: isSettled ? await packedOf(written) : null };
+  return {
+    ...ended, line: firstLine(written), steps: Math.max(0, lines - 2), kept: isSettled ? await packedOf(written) : null
+  };
 };

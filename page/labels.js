@@ -1,5 +1,5 @@
-// What a design's label tells: how many inputs and outputs, as "4 to 4", 4-4, 4:4, 4x4, 4→4 and the like, and which properties it
-// claims, as TU, balanced or universal. The same as `collection/labels.py`.
+// What a design's label tells: how many inputs and outputs, as "4 to 4", 4-4, 4:4, 4x4, 4→4 and the like, and which
+// properties it claims, as TU, balanced or universal. The same as `collection/labels.py`.
 
 const SIGNS_IN_LABELS = WORDS.labels;
 const [LABEL_BLANKS, BRIEF_SIGNS] = [new Set(SIGNS_IN_LABELS.blanks), new Set(SIGNS_IN_LABELS.brief)];
@@ -30,7 +30,9 @@ const markInWords = (mark) => {
 const inWords = (text) => text.replace(RICH_TEXT, markInWords).split(WHITE).filter(Boolean).join(" ");
 
 /** So much of a label as is looked at, without the game's marks. */
-const lookedAt = (label) => [...label.slice(0, 2 * SIGNS_IN_LABELS.most)].slice(0, SIGNS_IN_LABELS.most).join("").replace(RICH_TEXT, " ");
+const lookedAt = (label) => [...label.slice(0, 2 * SIGNS_IN_LABELS.most)].slice(0, SIGNS_IN_LABELS.most).join(
+  ""
+).replace(RICH_TEXT, " ");
 
 /** The place behind all of these signs that stand here. */
 const past = (text, at, signs) => {
@@ -40,12 +42,16 @@ const past = (text, at, signs) => {
 
 /** The place behind a word or an arrow that leads from inputs to outputs, or null where there is none. */
 const arrowEnd = (text, at) => {
-  for (const word of SIGNS_IN_LABELS.words) if (text.slice(at, at + word.length).toLowerCase() === word) return at + word.length;
+  for (const word of SIGNS_IN_LABELS.words) if (
+    text.slice(at, at + word.length).toLowerCase() === word
+  ) return at + word.length;
   for (const shaft of SIGNS_IN_LABELS.shafts) {
     const end = past(text, at, new Set(shaft));
     if (end > at && text[end] === SIGNS_IN_LABELS.head) return end + 1;
   }
-  return at < text.length && SIGNS_IN_LABELS.arrows.includes(text[at]) ? at + 1 + (text[at + 1] === SIGNS_IN_LABELS.selector) : null;
+  return at < text.length && SIGNS_IN_LABELS.arrows.includes(text[at]) ? at + 1 + (
+    text[at + 1] === SIGNS_IN_LABELS.selector
+  ) : null;
 };
 
 /** Where the second number begins of two between which a word or an arrow stands, or null. */
@@ -53,7 +59,9 @@ const plainlyAt = (text, at) => {
   const end = past(text, at, JOINTS);
   let found = arrowEnd(text, end);
   // The shaft of an arrow may be signs that were passed over.
-  if (found === null && end > at && SIGNS_IN_LABELS.shafts.includes(text[end - 1]) && text[end] === SIGNS_IN_LABELS.head) found = end + 1;
+  if (
+    found === null && end > at && SIGNS_IN_LABELS.shafts.includes(text[end - 1]) && text[end] === SIGNS_IN_LABELS.head
+  ) found = end + 1;
   return found === null ? null : past(text, found, JOINTS);
 };
 
@@ -74,10 +82,13 @@ const isEndOfPair = (text, at, isPlain) => {
 /** Whether a first number may begin here. */
 const isBeginOfPair = (text, at, isPlain) => {
   const before = text[at - 1];
-  return isPlain ? !(DIGITS.has(before) || before === ".") : !(LETTERS.has(before) || BRIEF_SIGNS.has(before) || before === ".");
+  return isPlain ? !(DIGITS.has(before) || before === ".") : !(
+    LETTERS.has(before) || BRIEF_SIGNS.has(before) || before === "."
+  );
 };
 
-/** The numbers of inputs and outputs that stand in a text: in words and arrows, or briefly; each with whether it may be a size. */
+/** The numbers of inputs and outputs that stand in a text: in words and arrows, or briefly; each with whether it may be
+    a size. */
 const pairsOfKind = (text, isPlain) => {
   const found = [];
   for (let at = 0; at < text.length; ) {
@@ -94,7 +105,11 @@ const pairsOfKind = (text, isPlain) => {
     const last = past(text, second, DIGITS);
     if (second < last && last <= second + LONGEST_NUMBER && isEndOfPair(text, last, isPlain)) {
       const sign = text[past(text, end, LABEL_BLANKS)].toLowerCase();
-      found.push([Number(text.slice(begin, end)), Number(text.slice(second, last)), !isPlain && SIGNS_IN_LABELS.size.includes(sign)]);
+      found.push([
+        Number(text.slice(begin, end)),
+        Number(text.slice(second, last)),
+        !isPlain && SIGNS_IN_LABELS.size.includes(sign),
+      ]);
       at = last;
     }
   }
@@ -144,8 +159,8 @@ const nearWords = (text, words, at) => {
   return found;
 };
 
-/** What a label claims: of each property the words that claim it, as they stand there; and whether it speaks of lanes. A claim
-    behind a word that denies it is none. */
+/** What a label claims: of each property the words that claim it, as they stand there; and whether it speaks of lanes.
+    A claim behind a word that denies it is none. */
 const claimsIn = (label) => {
   const text = lookedAt(label);
   const words = wordsIn(text);
@@ -162,7 +177,9 @@ const claimsIn = (label) => {
     const end = at + told.words.length;
     lanes ||= told.lanes ?? false;
     if (at === 0 || !WORDS.negations.includes(words[at - 1][0]))
-      for (const property of told.properties) if (PROPERTIES.includes(property)) properties[property] ??= text.slice(words[at][1], words[end - 1][2]).split(WHITE).filter(Boolean).join(" ");
+      for (const property of told.properties) if (PROPERTIES.includes(property)) properties[property] ??= text.slice(
+        words[at][1], words[end - 1][2]
+      ).split(WHITE).filter(Boolean).join(" ");
     at = end;
   }
   return { properties, lanes };

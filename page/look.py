@@ -2,7 +2,8 @@
 
     python3 -m page.look PAGE PICTURES
 
-It stands outside the merge gate, and wants the command chromium. It exits with 1 where a check fails, and tells which."""
+It stands outside the merge gate, and wants the command chromium. It exits with 1 where a check fails, and tells
+which."""
 
 import json
 import subprocess
@@ -13,10 +14,10 @@ from pathlib import Path
 
 from collection.look import NARROW, WIDE, Browser
 from collection.strings import deflate, inflate
+from collection.words import PROPERTIES
 
 from .sheet import EXAMPLES, TOP
 
-PROPERTIES = ("balanced", "drawn-evenly", "unlimited", "full")
 OWN = ("blob:", "data:")
 """How the addresses begin that load nothing."""
 
@@ -55,7 +56,9 @@ class Page(Browser):
 
     def give(self, text):
         """Opens a text as if it had been written into the field."""
-        self.value(f"document.getElementById('text').value = {json.dumps(text)}; document.getElementById('open').click()")
+        self.value(
+            f"document.getElementById('text').value = {json.dumps(text)}; document.getElementById('open').click()"
+        )
 
     def click(self, label, where="document"):
         """Clicks the button with this label; whether there is one."""
@@ -64,7 +67,10 @@ class Page(Browser):
 
     def verdicts(self):
         """The verdicts, once all are there."""
-        done = "(() => { const all = [...document.querySelectorAll('.verdict')].slice(0, 4).map((it) => it.textContent); return all.length === 4 && all.every((it) => it !== 'not yet' && it !== 'deciding…') && document.getElementById('work').hidden ? all : null; })()"
+        cards = f"[...document.querySelectorAll('ol.verdicts .verdict')].slice(0, {len(PROPERTIES)})"
+        told = f"{cards}.map((it) => it.textContent)"
+        is_told = "all.every((it) => it !== 'not yet' && it !== 'deciding…') && document.getElementById('work').hidden"
+        done = f"(() => {{ const all = {told}; return all.length === {len(PROPERTIES)} && {is_told} ? all : null; }})()"
         return self.wait(done)
 
     def saved(self, name):
@@ -82,7 +88,30 @@ class Page(Browser):
 
 def part(title):
     """The part of the page below this title."""
-    return f"[...document.querySelectorAll('details')].find((it) => it.firstChild.textContent.startsWith({json.dumps(title)}))"
+    begins = f"it.firstChild.textContent.startsWith({json.dumps(title)})"
+    return f"[...document.querySelectorAll('details')].find((it) => {begins})"
+
+
+def transferred(given, target, event):
+    """An expression that puts what is `given` into a DataTransfer, `data`, and has the target told of this event."""
+    return f"(() => {{ const data = new DataTransfer(); {given}; {target}.dispatchEvent({event}); }})()"
+
+
+def pasted(text, target):
+    """An expression that pastes a text there."""
+    event = "new ClipboardEvent('paste', { clipboardData: data, bubbles: true, cancelable: true })"
+    return transferred(f"data.setData('text/plain', {json.dumps(text)})", target, event)
+
+
+def dropped(text, name):
+    """An expression that drops a file of this name anywhere."""
+    event = "new DragEvent('drop', { dataTransfer: data, bubbles: true, cancelable: true })"
+    return transferred(f"data.items.add(new File([{json.dumps(text)}], {json.dumps(name)}))", "window", event)
+
+
+def opened(name):
+    """A condition: the design that is open has the name that this expression has."""
+    return f"document.querySelector('#name')?.textContent === {name}"
 
 
 def program(*words, data):
@@ -102,13 +131,15 @@ def first_looks(page, address):
     page.wait("document.querySelector('.verdict.yes, .verdict.no') !== null")
     print(f"the first verdict of a 4 to 4 balancer came after {time.monotonic() - began:.2f} s")
     told = page.verdicts()
-    if told != ["✓ yes", "✓ yes", "✕ no", "✓ yes"]:
+    if told != ["✓ yes", "✓ yes", "✕ no", "✓ yes", "✕ no", "✕ no"]:
         yield f"the balancer's verdicts are {told}"
     if page.value("document.querySelectorAll('.plane .badge').length") != 8:
         yield "its ends aren't drawn"
     if not page.click("See it") or page.value("document.querySelectorAll('.plane .flow').length") < 12:
         yield "its breaking state isn't drawn"
-    page.value("document.getElementById('state').value = 0; document.getElementById('state').dispatchEvent(new Event('input'))")
+    page.value(
+        "document.getElementById('state').value = 0; document.getElementById('state').dispatchEvent(new Event('input'))"
+    )
     if page.value("document.querySelectorAll('.plane .flow').length"):
         yield "the slider doesn't take the state away"
     for verdict, prop in (("yes", "balanced"), ("not", "unlimited")):
@@ -118,31 +149,37 @@ def first_looks(page, address):
         if page.saved(f"pasted-design.{verdict}-{prop}") != expected:
             yield f"what is saved of {prop} isn't what the program writes"
         page.click("Check it", card)
-        if page.wait(f"{card}.textContent.includes('check accepts the {'certificate' if verdict == 'yes' else 'state'}')") is None:
+        if page.wait(
+            f"{card}.textContent.includes('check accepts the {'certificate' if verdict == 'yes' else 'state'}')"
+        ) is None:
             yield f"the check of {prop} doesn't accept it"
 
 
 def ways(page):
     """What is pasted anywhere, pasted into the field though it is long, dropped, and chosen among the examples."""
     tree = deflate((EXAMPLES / "tree-1-to-4.json").read_bytes())
-    pasted = "(() => {{ const data = new DataTransfer(); data.setData('text/plain', {}); {}.dispatchEvent(new ClipboardEvent('paste', {{ clipboardData: data, bubbles: true, cancelable: true }})); }})()"
-    page.value(pasted.format(json.dumps(tree), "document.body"))
-    if page.wait("document.querySelector('#name')?.textContent === 'Pasted design' && document.querySelector('#design .facts').textContent.includes('1 → 4')") is None:
+    is_tree = "document.querySelector('#design .facts').textContent.includes('1 → 4')"
+    page.value(pasted(tree, "document.body"))
+    if page.wait(f"{opened('`Pasted design`')} && {is_tree}") is None:
         yield "what is pasted beside the field isn't opened"
     many = "\n\n".join([tree] * (200_000 // len(tree)))
-    page.value(pasted.format(json.dumps(many), "document.getElementById('text')"))
+    page.value(pasted(many, "document.getElementById('text')"))
     count = many.count("\n\n") + 1
-    if page.wait(f"document.querySelectorAll('#designs button').length === {count}") is None or page.value("document.getElementById('text').value.length") > 5000:
+    if page.wait(f"document.querySelectorAll('#designs button').length === {count}") is None or page.value(
+        "document.getElementById('text').value.length"
+    ) > 5000:
         yield "a long text isn't opened, or is written out"
     page.click("Open")
-    if page.wait(f"document.querySelectorAll('#designs button').length === {count} && document.getElementById('work').hidden") is None:
+    if page.wait(
+        f"document.querySelectorAll('#designs button').length === {count} && document.getElementById('work').hidden"
+    ) is None:
         yield "a long text isn't opened again"
-    dropped = f"(() => {{ const data = new DataTransfer(); data.items.add(new File([{json.dumps(tree)}], 'my tree.txt')); window.dispatchEvent(new DragEvent('drop', {{ dataTransfer: data, bubbles: true, cancelable: true }})); }})()"
-    page.value(dropped)
-    if page.wait("document.querySelector('#name')?.textContent === 'my tree' && document.querySelector('#design .facts').textContent.includes('1 → 4')") is None:
+    page.value(dropped(tree, "my tree.txt"))
+    if page.wait(f"{opened('`my tree`')} && {is_tree}") is None:
         yield "what is dropped isn't opened"
-    page.value("(() => { const it = document.getElementById('examples'); it.value = 1; it.dispatchEvent(new Event('change')); })()")
-    if page.wait("document.querySelector('#name')?.textContent === document.getElementById('examples').selectedOptions[0].textContent") is None:
+    examples = "document.getElementById('examples')"
+    page.value(f"{examples}.value = 1; {examples}.dispatchEvent(new Event('change'))")
+    if page.wait(opened(f"{examples}.selectedOptions[0].textContent")) is None:
         yield "an example isn't opened"
     if page.verdicts() is None:
         yield "an example isn't decided"
@@ -155,19 +192,27 @@ def more_looks(page):
     page.value(f"{smaller}.open = true")
     page.value(f"{smaller}.querySelectorAll('select')[1].value = 10")
     page.click("Look for one", smaller)
-    if page.wait(f"!{smaller}.querySelector('button.main').disabled && {smaller}.querySelector('.found').textContent") is None:
+    if page.wait(
+        f"!{smaller}.querySelector('button.main').disabled && {smaller}.querySelector('.found').textContent"
+    ) is None:
         yield "looking for a smaller layout doesn't end"
     checks = part("Check a saved")
     page.value(f"{checks}.open = true")
     certificate = program("decide", "full", data=text).stdout.decode()
-    for changed, words in ((certificate, "yes full"), (certificate.replace("r ", "r 1 ", 1), "not accepted"), ("maybe", "Its first line has to be")):
+    for changed, words in (
+        (certificate, "yes full"),
+        (certificate.replace("r ", "r 1 ", 1), "not accepted"),
+        ("maybe", "Its first line has to be"),
+    ):
         page.value(f"{checks}.querySelector('textarea').value = {json.dumps(changed)}")
         page.click("Check", f"{checks}.querySelector('div')")
         if page.wait(f"{checks}.textContent.includes({json.dumps(words)})") is None:
             yield f"the check of a saved certificate doesn't say {words!r}"
     pair = part("Compare")
     page.value(f"{pair}.open = true")
-    others = ((EXAMPLES / "butterfly-4-to-4.net").read_text(), "✓ the same"), ((EXAMPLES / "balancer-twice-4-to-4.pair").read_text().partition("end\n")[2], "✕ they differ")
+    others = ((EXAMPLES / "butterfly-4-to-4.net").read_text(), "✓ the same"), (
+        (EXAMPLES / "balancer-twice-4-to-4.pair").read_text().partition("end\n")[2], "✕ they differ"
+    )
     for other, words in others:
         page.value(f"{pair}.querySelector('textarea').value = {json.dumps(other)}")
         page.click("Compare", pair)
@@ -181,7 +226,8 @@ def more_looks(page):
     for saved, words in ((certificate, "shows that they behave the same"), ("same\nend\n", "not accepted")):
         page.value(
             f"(() => {{ const input = {pair}.querySelector('input'); const given = new DataTransfer();"
-            f" given.items.add(new File([{json.dumps(saved)}], 'saved')); input.files = given.files; input.dispatchEvent(new Event('change')); }})()"
+            f" given.items.add(new File([{json.dumps(saved)}], 'saved')); input.files = given.files;"
+            " input.dispatchEvent(new Event('change')); })()"
         )
         if page.wait(f"{pair}.textContent.includes({json.dumps(words)})") is None:
             yield f"the check of a saved comparison doesn't say {words!r}"
@@ -191,7 +237,9 @@ def books(page):
     """A book's list, its search, its keys, and labels that hold markup."""
     blueprint = json.loads((EXAMPLES / "splitter-2-to-2.json").read_text())["blueprint"]
     names = ["<img src=x onerror=alert(1)>", "‮backwards", "plain 2 to 2"]
-    whole = {"blueprint_book": {"label": "<b>", "blueprints": [{"blueprint": {**blueprint, "label": it}} for it in names]}}
+    whole = {
+        "blueprint_book": {"label": "<b>", "blueprints": [{"blueprint": {**blueprint, "label": it}} for it in names]}
+    }
     page.give(deflate(json.dumps(whole).encode()))
     if page.wait("document.querySelectorAll('#designs button').length === 3") is None:
         yield "the book's designs aren't listed"
@@ -202,7 +250,8 @@ def books(page):
         page.ask("Input.dispatchKeyEvent", type=kind, key="ArrowDown", code="ArrowDown", windowsVirtualKeyCode=40)
     if page.value("document.activeElement === document.querySelectorAll('#designs button')[1]") is not True:
         yield "the arrow keys don't move in the list"
-    page.value("document.getElementById('filter').value = 'plain'; document.getElementById('filter').dispatchEvent(new Event('input'))")
+    field = "document.getElementById('filter')"
+    page.value(f"{field}.value = 'plain'; {field}.dispatchEvent(new Event('input'))")
     if page.value("[...document.querySelectorAll('#designs tr')].filter((it) => !it.hidden).length") != 1:
         yield "the search leaves another number of designs"
     page.give((EXAMPLES / "collection" / "book.txt").read_text())
@@ -225,14 +274,25 @@ def refused(page):
         yield "what is no design isn't told"
     splitters = json.loads((EXAMPLES / "balancer-4-to-4.json").read_text())
     entities = splitters["blueprint"]["entities"]
-    facing = {"entity_number": 99, "name": "transport-belt", "position": {"x": entities[0]["position"]["x"], "y": -30.5}, "direction": 4}
+    facing = {
+        "entity_number": 99,
+        "name": "transport-belt",
+        "position": {"x": entities[0]["position"]["x"], "y": -30.5},
+        "direction": 4,
+    }
     for it in ({"x": 0.5, "y": -30.5}, {"x": 1.5, "y": -30.5}):
         entities.append({**facing, "position": it, "direction": 2 if it["x"] < 1 else 6})
     page.give(json.dumps(splitters))
-    if page.wait("document.querySelector('.trouble')?.textContent.includes('head-on')") is None or not page.value("document.querySelectorAll('.frame').length"):
+    if page.wait("document.querySelector('.trouble')?.textContent.includes('head-on')") is None or not page.value(
+        "document.querySelectorAll('.frame').length"
+    ):
         yield "a refusal isn't told with its tiles"
     trimmed = json.loads((EXAMPLES / "balancer-4-to-4.json").read_text())
-    inside = [it for it in trimmed["blueprint"]["entities"] if "splitter" in it["name"] or it["position"]["y"] not in (-0.5, 7.5, 0.5)]
+    inside = [
+        it
+        for it in trimmed["blueprint"]["entities"] if "splitter" in it["name"]
+        or it["position"]["y"] not in (-0.5, 7.5, 0.5)
+    ]
     trimmed["blueprint"]["entities"] = inside
     page.give(json.dumps(trimmed))
     page.wait("document.querySelector('.tools select') !== null")
@@ -251,7 +311,7 @@ def links(page, address):
     """A link with a design behind its #, and one with a network text."""
     text = (EXAMPLES / "tree-1-to-4.json").read_bytes()
     page.open(f"{address}#{deflate(text)}")
-    if page.verdicts() != ["✓ yes"] * 4:
+    if page.verdicts() != ["✓ yes", "✓ yes", "✓ yes", "✓ yes", "✕ no", "✓ yes"]:
         yield "a link with a design doesn't open it"
     page.value("location.hash = 'net 1 1 0%0Aedge i0 o0%0Aend%0A'")
     if page.wait("document.querySelector('#design').textContent.includes('1 → 1')") is None:
@@ -290,7 +350,14 @@ def main(path, folder):
     with tempfile.TemporaryDirectory(ignore_cleanup_errors=True) as room:
         page = Page(room)
         try:
-            looks = [first_looks(page, address), more_looks(page), ways(page), refused(page), books(page), links(page, address)]
+            looks = [
+                first_looks(page, address),
+                more_looks(page),
+                ways(page),
+                refused(page),
+                books(page),
+                links(page, address),
+            ]
             looks.append(pictures(page, address, Path(folder)))
             wrong = []
             for it in looks:

@@ -1,9 +1,9 @@
 """From WebAssembly with an address space of 64 bits to the same module with one of 32, which every browser has.
 
-Only what addresses, indexes a table, or tells a size of memory is cut to 32 bits, right where it is used: the addresses of
-loads and stores, the three operands of memory.copy and memory.fill that are one, that of memory.grow (whose answer, and
-that of memory.size, is widened again), and the index of an indirect call. All other arithmetic stays as it is, in 64
-bits. A module with anything else that would have to change is refused."""
+Only what addresses, indexes a table, or tells a size of memory is cut to 32 bits, right where it is used: the addresses
+of loads and stores, the three operands of memory.copy and memory.fill that are one, that of memory.grow (whose answer,
+and that of memory.size, is widened again), and the index of an indirect call. All other arithmetic stays as it is, in
+64 bits. A module with anything else that would have to change is refused."""
 
 from dataclasses import dataclass
 
@@ -23,7 +23,8 @@ ONE_INDEX = (0x0C, 0x0D, 0x10, 0x20, 0x21, 0x22, 0x23, 0x24)
 PLAIN = {0x00, 0x01, 0x05, 0x0B, 0x0F, 0x1A, 0x1B, *range(0x45, 0xC5)}
 """Instructions with no operand of their own: control, drop and select, and arithmetic."""
 
-BR_TABLE, INDIRECT, SIZE, GROW, I32_CONST, I64_CONST, F32_CONST, F64_CONST, MORE = 0x0E, 0x11, 0x3F, 0x40, 0x41, 0x42, 0x43, 0x44, 0xFC
+BR_TABLE, INDIRECT, SIZE, GROW = 0x0E, 0x11, 0x3F, 0x40
+I32_CONST, I64_CONST, F32_CONST, F64_CONST, MORE = 0x41, 0x42, 0x43, 0x44, 0xFC
 COPY, FILL = 10, 11
 CUSTOM, TABLES, MEMORIES, ELEMENTS, CODE, DATA = 0, 4, 5, 9, 10, 11
 MAGIC = b"\0asm\1\0\0\0"
@@ -165,8 +166,8 @@ def data_segments(data):
 
 
 class Function:
-    """The code of a function as it is written anew: an operand that lies under others is reached by way of locals, which
-    are added behind its own, at most two of i64 and one of each other type."""
+    """The code of a function as it is written anew: an operand that lies under others is reached by way of locals,
+    which are added behind its own, at most two of i64 and one of each other type."""
 
     def __init__(self, parameters, body):
         self.reader, self.parts, self.added = Reader(body), [], []

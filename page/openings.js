@@ -1,7 +1,7 @@
-// Bare halves of splitters, and how they are opened: with belts of the splitter's tier, straight from the half to one cell
-// beyond the border of the design, where that way is free; where it crosses another such way, turned at the first belt. What
-// comes out has the network of before and just these ends more, by the program's own word; a half for which that isn't so
-// stays bare. The same as `collection/openings.py`.
+// Bare halves of splitters, and how they are opened: with belts of the splitter's tier, straight from the half to one
+// cell beyond the border of the design, where that way is free; where it crosses another such way, turned at the first
+// belt. What comes out has the network of before and just these ends more, by the program's own word; a half for which
+// that isn't so stays bare. The same as `collection/openings.py`.
 
 /** Why a design has no network, as the program says it. */
 class Refused extends Error {}
@@ -12,7 +12,9 @@ const WITHOUT_ENDS = `refused ${NO_ENDS} `;
 class Ground {
   constructor(found, bystanders) {
     this.taken = new Map(bystanders.flatMap((it) => it.cells.map((cell) => [keyOf(cell), { cell, by: it.name }])));
-    for (const part of found.parts) for (const cell of part.cells) this.taken.set(keyOf(cell), { cell, by: `the ${part.kind}` });
+    for (const part of found.parts) for (const cell of part.cells) this.taken.set(
+      keyOf(cell), { cell, by: `the ${part.kind}` }
+    );
     this.box = spanOf(found.parts.flatMap((it) => it.cells));
     this.lines = new Map();
     for (const { cell } of this.taken.values())
@@ -53,14 +55,16 @@ const turnedWay = (ground, used, cell, direction, isFront) => {
   const found = [(direction + 3) % 4, (direction + 1) % 4].flatMap((aside) => {
     const count = ground.toBorder(first, aside);
     if (count <= 0 || ground.firstTaken(first, aside, count)) return [];
-    return [[{ cell: first, direction: isFront ? aside : (direction + 2) % 4 }, ...straight(first, aside, count, isFront)]];
+    return [
+      [{ cell: first, direction: isFront ? aside : (direction + 2) % 4 }, ...straight(first, aside, count, isFront)]
+    ];
   });
   const free = found.filter((way) => !way.some((it) => used.has(keyOf(it.cell))));
   return free.sort((a, b) => a.length - b.length)[0] ?? null;
 };
 
-/** The ways of all bare ends, with so many belts at most. No two of them cross: the shorter goes before, and the other is
-    turned where it can be. */
+/** The ways of all bare ends, with so many belts at most. No two of them cross: the shorter goes before, and the other
+    is turned where it can be. */
 const waysOf = (found, bystanders, most) => {
   const ground = new Ground(found, bystanders);
   const used = new Map();
@@ -103,7 +107,9 @@ const beltsOf = (found, bytes, ways) => {
       number += 1;
       const [x, y] = cell.map((it, axis) => (2 * it + 1 + found.shift[axis]) / 2);
       const name = `${PREFIXES[way.splitter.tier]}transport-belt`;
-      return asBytes(`{"entity_number":${number},"name":"${name}","position":{"x":${x},"y":${y}},"direction":${quarter * direction}}`);
+      return asBytes(
+        `{"entity_number":${number},"name":"${name}","position":{"x":${x},"y":${y}},"direction":${quarter * direction}}`
+      );
     }),
   );
 };
@@ -130,7 +136,9 @@ const linesWithout = (lines, ends) => {
       numbers.set(String(number), numbers.size);
       kept.push(["edge", places.get(source) ?? source, places.get(target) ?? target, ...cap].join(" "));
     });
-  for (const [word, splitter, edge] of told) if ((word === "give" || word === "take") && numbers.has(edge)) kept.push(`${word} ${splitter} ${numbers.get(edge)}`);
+  for (const [word, splitter, edge] of told) if ((word === "give" || word === "take") && numbers.has(edge)) kept.push(
+    `${word} ${splitter} ${numbers.get(edge)}`
+  );
   return [`net ${counts[0]} ${counts[1]} ${head[3]}`, ...kept, "end"];
 };
 
@@ -143,7 +151,9 @@ class Opening {
   static async of(bytes, bystanders, recover) {
     const it = new Opening();
     const taken = bystanders.flatMap((other) => other.cells);
-    Object.assign(it, { bytes, recover, taken, answer: await recover(bytes), found: null, network: null, ways: [], bare: [] });
+    Object.assign(
+      it, { bytes, recover, taken, answer: await recover(bytes), found: null, network: null, ways: [], bare: [] }
+    );
     it.isWhole = it.answer.startsWith("net ");
     if (!it.isWhole && !it.answer.startsWith(WITHOUT_ENDS)) throw new Refused(it.answer);
     it.lines = it.isWhole ? linesIn(it.answer) : [];
@@ -177,7 +187,9 @@ class Opening {
     const bytes = new Listed(this.bytes).withMore(beltsOf(this.found, this.bytes, ways));
     const answer = await this.recover(bytes);
     const other = "with belts there the network would be another one";
-    if (!answer.startsWith("net ") && !answer.startsWith(WITHOUT_ENDS)) return { bytes, answer, why: `with belts there the program says: ${toldRefusal(answer, bytes).words}` };
+    if (!answer.startsWith("net ") && !answer.startsWith(WITHOUT_ENDS)) return {
+      bytes, answer, why: `with belts there the program says: ${toldRefusal(answer, bytes).words}`
+    };
     let network = null;
     try {
       network = new Layout(readDesign(bytes).parts).network();
@@ -213,10 +225,14 @@ class Opening {
         left.push(batch.slice(middle), batch.slice(0, middle));
       }
     }
-    const unopened = this.ways.filter((it) => it.why || refused.has(it)).map((it) => ({ place: it.place, why: it.why ?? refused.get(it) }));
+    const unopened = this.ways.filter((it) => it.why || refused.has(it)).map(
+      (it) => ({ place: it.place, why: it.why ?? refused.get(it) })
+    );
     const after = this.moreEnds(kept);
     const belts = kept.reduce((count, it) => count + it.belts.length, 0);
-    return { ...UNTOLD, ...best, belts, opened: kept.map((it) => it.place), unopened, before: this.ends(), after, would: after };
+    return {
+      ...UNTOLD, ...best, belts, opened: kept.map((it) => it.place), unopened, before: this.ends(), after, would: after
+    };
   }
 
   /** The design with these ends marked in its network alone; null where that is another one. */
@@ -224,10 +240,23 @@ class Opening {
     const bytes = asBytes(this.withEnds(ways));
     const answer = await this.recover(bytes);
     const [ends, after] = [this.ends(), this.moreEnds(ways)];
-    const added = new Set(["i", "o"].flatMap((sign, side) => Array.from({ length: after[side] - ends[side] }, (_, k) => `${sign}${ends[side] + k}`)));
+    const added = new Set(["i", "o"].flatMap(
+      (sign, side) => Array.from({ length: after[side] - ends[side] }, (_, k) => `${sign}${ends[side] + k}`)
+    ));
     if (!answer.startsWith("net ")) return null;
     const isSame = !this.isWhole || areSame(linesWithout(linesIn(answer), added).sort(), [...this.lines].sort());
-    return isSame ? { ...UNTOLD, bytes: this.bytes, answer, belts: 0, opened: ways.map((it) => it.place), unopened: [], before: ends, after, would: after, isMarked: true } : null;
+    return isSame ? {
+      ...UNTOLD,
+      bytes: this.bytes,
+      answer,
+      belts: 0,
+      opened: ways.map((it) => it.place),
+      unopened: [],
+      before: ends,
+      after,
+      would: after,
+      isMarked: true,
+    } : null;
   }
 
   /** The network's text with these bare halves as ends, behind those that there are. */
@@ -235,14 +264,19 @@ class Opening {
     const { parts } = this.found;
     const names = new Map(this.network.splitters.map((part, k) => [part, `s${k}`]));
     const isMixed = new Set(parts.map((it) => it.tier)).size > 1;
-    const edges = this.network.edges.map(({ source, target, cap, run }) => ({ source, target, cap, first: nameOf(run[0].half), last: nameOf(run[run.length - 1].half) }));
+    const edges = this.network.edges.map(({ source, target, cap, run }) => (
+      { source, target, cap, first: nameOf(run[0].half), last: nameOf(run[run.length - 1].half) }
+    ));
     const counts = this.ends();
     for (const bare of ways.map((it) => this.bare[this.ways.indexOf(it)])) {
       const cap = isMixed ? SPEED[parts[bare.part].tier] : 1;
       const side = Number(bare.front);
       const [end, name] = [`${"io"[side]}${counts[side]}`, names.get(bare.part)];
       counts[side] += 1;
-      edges.push(bare.front ? { source: name, target: end, cap, first: nameOf(bare), last: null } : { source: end, target: name, cap, first: null, last: nameOf(bare) });
+      edges.push(
+        bare.front ? { source: name, target: end, cap, first: nameOf(bare), last: null }
+        : { source: end, target: name, cap, first: null, last: nameOf(bare) }
+      );
     }
     const lines = edges.map((it) => `edge ${it.source} ${it.target}${it.cap === 1 ? "" : ` ${it.cap}`}`);
     for (const [part, name] of names)
@@ -255,17 +289,41 @@ class Opening {
     return [`net ${counts[0]} ${counts[1]} ${names.size}`, ...lines, "end\n"].join("\n");
   }
 
-  /** The design with all of these ends: with belts where each has room for them, else marked. */
+  /** The design with all of these ends: with belts where each has room for them, straight or along paths; else
+      marked. */
   async openedAs(ways) {
     if (ways.every((it) => !it.why)) {
       const found = await this.opened(ways);
       if (found.opened.length === ways.length) return found;
     }
-    return this.marked(ways);
+    return (await this.led(ways)) ?? this.marked(ways);
   }
 
-  /** What the rule of ends tells of the design, or null where its parts can't be traced; a pair that may be its own size, and
-      fits its size and not its ends, is none. */
+  /** The design with all of these ends led out along paths; null where that can't be, or makes another network. */
+  async led(ways) {
+    const { parts } = this.found;
+    const cells = parts.flatMap((it) => it.cells);
+    const pairs = ways.map((way) => ({ way, bare: this.bare[this.ways.indexOf(way)] }));
+    const found = ledAlong(parts, [...this.taken, ...cells].map(keyOf), spanOf(cells), this.bare, this.network, pairs);
+    const belts = found?.reduce((count, it) => count + it.belts.length, 0);
+    if (!found || parts.length + belts > MOST_ENTITIES) return null;
+    const { bytes, answer, why } = await this.withWays(found);
+    const after = this.moreEnds(ways);
+    return why === null ? {
+      ...UNTOLD,
+      bytes,
+      answer,
+      belts,
+      opened: ways.map((it) => it.place),
+      unopened: [],
+      before: this.ends(),
+      after,
+      would: after,
+    } : null;
+  }
+
+  /** What the rule of ends tells of the design, or null where its parts can't be traced; a pair that may be its own
+      size, and fits its size and not its ends, is none. */
   toldEnds(label) {
     if (!this.network) return null;
     const pairs = pairsWithSizes(label);
@@ -273,7 +331,9 @@ class Opening {
     const told = ofPairs(pairs);
     const [leastX, leastY, mostX, mostY] = spanOf(this.found.parts.flatMap((it) => it.cells));
     const [width, height] = [mostX - leastX + 1, mostY - leastY + 1];
-    const left = pairs.filter(([inputs, outputs, isSize]) => !(isSize && isAmong([inputs, outputs], [[width, height], [height, width]])));
+    const left = pairs.filter(
+      ([inputs, outputs, isSize]) => !(isSize && isAmong([inputs, outputs], [[width, height], [height, width]]))
+    );
     return told.status === "none" && left.length < pairs.length ? ofPairs(left) : told;
   }
 }
@@ -284,8 +344,8 @@ const UNTOLD = { ends: "", gaps: [], choices: [], isMarked: false };
 /** What the rule of ends tells where nothing is decided. */
 const UNJUDGED = ["none", "many", "gap"];
 
-/** Opens bare halves: none; or all; or by the rule of ends those that the label tells of, and where it tells of none, all where
-    without them there is no input or no output. */
+/** Opens bare halves: none; or all; or by the rule of ends those that the label tells of, and where it tells of none,
+    all where without them there is no input or no output. */
 const openedBy = async (opening, mode, label) => {
   const free = opening.ways.filter((it) => !it.why);
   const told = opening.toldEnds(label);
@@ -294,14 +354,18 @@ const openedBy = async (opening, mode, label) => {
   if (mode === "always") return { ...(await opening.opened(free)), gaps };
   const shut = { ...(await opening.opened([])), ...could, gaps };
   if (mode === "never" || !told) return shut;
-  if (told.status === "all" && !pairsIn(label).length) return { ...(await opening.opened(free)), ...could, ends: "all" };
+  if (told.status === "all" && !pairsIn(label).length) return {
+    ...(await opening.opened(free)), ...could, ends: "all"
+  };
   return byChoices(opening, told, { ...shut, ends: told.status, unopened: [] });
 };
 
 /** Opens the choice of halves that is told, or makes of several a design each; else the design as it stands. */
 const byChoices = async (opening, told, shut) => {
   const found = [];
-  for (const halves of told.choices) if (halves.length) found.push(await opening.openedAs(halves.map((it) => opening.ways[it])));
+  for (const halves of told.choices) if (halves.length) found.push(
+    await opening.openedAs(halves.map((it) => opening.ways[it]))
+  );
   if (found.includes(null)) return { ...shut, ends: "none" };
   const choices = found.map((it) => ({ ...it, ends: told.status, would: told.could, unopened: [] }));
   return told.status === "several" ? { ...shut, choices } : choices[0] ?? shut;

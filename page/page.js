@@ -1,5 +1,5 @@
-// The page: what is given, the list of designs, and what is told of the chosen one. All that is said of a design was said by
-// the program; only pictures are drawn here.
+// The page: what is given, the list of designs, and what is told of the chosen one. All that is said of a design was
+// said by the program; only pictures are drawn here.
 
 const USAGE = 2;
 const LONGEST_SHOWN = 20000;
@@ -30,10 +30,15 @@ const write = (whole) => {
 /** What the field holds, all of it. */
 const fieldText = () => ($("text").value === written.shown ? written.whole : $("text").value);
 
-/** What is drawn of a design: its parts and its network where that is the one that the program told, and what is lacking.
-    Behind all other parts so many belts were added, and besides what stands by is drawn, and ends without belts are marked. */
-const drawingOf = (bytes, network, refused, label, { belts = 0, bystanders = [], isRuled = false, halves = [], before = [0, 0] } = {}) => {
-  if (!isJson(bytes)) return network ? { lack: null, canDraw: true, drawing: new GraphDrawing(readNet(network), label) } : { lack: "There is no picture." };
+/** What is drawn of a design: its parts and its network where that is the one that the program told, and what is
+    lacking. Behind all other parts so many belts were added, and besides what stands by is drawn, and ends without
+    belts are marked. */
+const drawingOf = (
+  bytes, network, refused, label, { belts = 0, bystanders = [], isRuled = false, halves = [], before = [0, 0] } = {}
+) => {
+  if (!isJson(bytes)) return network ? {
+    lack: null, canDraw: true, drawing: new GraphDrawing(readNet(network), label)
+  } : { lack: "There is no picture." };
   let design = null;
   try {
     design = readDesign(bytes);
@@ -45,12 +50,20 @@ const drawingOf = (bytes, network, refused, label, { belts = 0, bystanders = [],
   const isNear = ([x, y]) => x >= leastX - 1 && x <= mostX + 1 && y >= leastY - 1 && y <= mostY + 1;
   const seen = { ...design, strangers: [...design.strangers, ...bystanders.filter((it) => it.cells.some(isNear))] };
   const first = design.parts.length - belts;
-  const marks = { bare: bareEnds(design.parts), added: new Set(design.parts.map((_, at) => at).filter((at) => at >= first)), refused, halves, before };
+  const marks = {
+    bare: bareEnds(design.parts),
+    added: new Set(design.parts.map((_, at) => at).filter((at) => at >= first)),
+    refused,
+    halves,
+    before,
+  };
   const plainly = (lack) => ({ design, lack, canDraw: false, drawing: new Drawing(seen, null, marks, label, isRuled) });
   if (!network) return plainly(null);
   try {
     const traced = new Layout(design.parts).network();
-    if (!isSameNetwork(traced, network)) return plainly("Ends and states aren't drawn: traced for the picture, the network is another one.");
+    if (!isSameNetwork(traced, network)) return plainly(
+      "Ends and states aren't drawn: traced for the picture, the network is another one."
+    );
     return { design, lack: null, traced, canDraw: true, drawing: new Drawing(seen, traced, marks, label, isRuled) };
   } catch (fault) {
     if (!(fault instanceof Untraced)) throw fault;
@@ -71,7 +84,14 @@ class Verdict {
     this.badge = make("span", { class: "verdict" }, "not yet");
     this.words = make("p", {}, `${promise[0].toUpperCase()}${promise.slice(1)}.`);
     this.row = make("div", { class: "row" });
-    this.element = make("li", { class: "card", "data-property": property }, make("h3", {}, `${title} `, make("code", {}, property)), this.badge, this.words, this.row);
+    this.element = make(
+      "li",
+      { class: "card", "data-property": property },
+      make("h3", {}, `${title} `, make("code", {}, property)),
+      this.badge,
+      this.words,
+      this.row,
+    );
   }
 
   tell({ kind, badge, says }, ...buttons) {
@@ -92,7 +112,9 @@ class Verdict {
     if (!view.judged.isSettled(property)) this.tell({ badge: "deciding…" });
     const answer = await view.judged.decide(property, (...all) => view.run(...all), { steps });
     this.answer = answer;
-    const state = answer.status === 1 && !answer.trouble && answer.kept ? readState(decoder.decode(await unpackedOf(answer.kept))) : null;
+    const state = answer.status === 1 && !answer.trouble && answer.kept ? readState(
+      decoder.decode(await unpackedOf(answer.kept))
+    ) : null;
     const told = state ? shown(property, view.net, state, tiersOf(view.design)) : "";
     const verdict = view.judged.verdict(property, { state: told }) ?? sentenceOf("decide", answer);
     this.tell(verdict, ...this.buttons(verdict, state));
@@ -109,7 +131,9 @@ class Verdict {
       const see = this.view.canDraw ? [this.button("See it", () => this.view.showState(at, true))] : [];
       return [...see, this.saving("no"), this.checking()];
     }
-    if (answerOf(this.answer) !== "decide 4" || this.steps >= MOST_STEPS) return [this.button("Decide again", () => this.decide())];
+    if (answerOf(this.answer) !== "decide 4" || this.steps >= MOST_STEPS) return [
+      this.button("Decide again", () => this.decide())
+    ];
     const more = Math.min(MOST_STEPS, this.steps * 10);
     const longer = () => {
       this.steps = more;
@@ -125,7 +149,10 @@ class Verdict {
   saving(kind) {
     const name = `${slug(inWords(this.view.found.name))}.${kind === "yes" ? "yes" : "not"}-${this.property}`;
     const { kept } = this.answer;
-    return this.button(`Save the ${kind === "yes" ? "certificate" : "state"} (${size(kept.length)})`, async () => save(await unpackedOf(kept), name));
+    return this.button(
+      `Save the ${kind === "yes" ? "certificate" : "state"} (${size(kept.length)})`,
+      async () => save(await unpackedOf(kept), name),
+    );
   }
 
   checking() {
@@ -191,7 +218,15 @@ class View {
     const about = this.judged.isRead ? descriptionOf(this.judged.bytes) : "";
     this.facts = make("ul", { class: "facts" });
     this.remarks = make("ul", { class: "remarks" });
-    return make("div", { class: "title" }, crumbs ? make("p", { class: "crumbs" }, told(inWords(crumbs))) : null, make("h2", { tabindex: -1, id: "name" }, told(inWords(name))), about ? make("p", { class: "described" }, told(inWords(about))) : null, this.facts, this.remarks);
+    return make(
+      "div",
+      { class: "title" },
+      crumbs ? make("p", { class: "crumbs" }, told(inWords(crumbs))) : null,
+      make("h2", { tabindex: -1, id: "name" }, told(inWords(name))),
+      about ? make("p", { class: "described" }, told(inWords(about))) : null,
+      this.facts,
+      this.remarks,
+    );
   }
 
   fail(words) {
@@ -223,11 +258,22 @@ class View {
     Object.assign(this, { states: [], at: 0, drawing: null, design: null, traced: null, canDraw: false });
     const name = plain(inWords(this.found.name));
     const network = judged.choices.length || reading.isMarked ? null : this.network;
-    Object.assign(this, drawingOf(judged.bytes, network, places, `${name}, drawn from its parts`, { belts: reading.belts, bystanders, isRuled: true, ...markedOf(reading) }));
+    Object.assign(
+      this,
+      drawingOf(
+        judged.bytes,
+        network,
+        places,
+        `${name}, drawn from its parts`,
+        { belts: reading.belts, bystanders, isRuled: true, ...markedOf(reading) },
+      ),
+    );
     if (reading.isMarked) this.lack = "Ends and states aren't drawn: not all of them have room for a belt.";
     this.element.replaceChildren(this.heading());
     this.tellRemarks();
-    if (refusal) this.fail(sentenceOf("recover", { words: ["recover"], status: 3, seconds: 0 }, { refusal: refusal.words }).says);
+    if (refusal) this.fail(
+      sentenceOf("recover", { words: ["recover"], status: 3, seconds: 0 }, { refusal: refusal.words }).says
+    );
     const drawn = this.drawing ? this.stage() : make("p", { class: "note" }, this.lack);
     if (!judged.isJudged && !judged.isOpen) {
       this.element.append(drawn);
@@ -266,13 +312,19 @@ class View {
       const { drawing } = drawingOf(it.bytes, reading.isMarked ? null : it.network, [], `choice ${at + 1}`, more);
       const label = `Choice ${at + 1}${at ? "" : `, ${WORDS.ends.likely}`}`;
       const open = make("button", { type: "button", onclick: () => openChoice(this.found, it, this) }, label);
-      return make("li", { class: "card" }, open, drawing?.plane ?? null, make("p", { class: "note" }, spelled(reading.opened, MOST_REMARKED)));
+      return make(
+        "li",
+        { class: "card" },
+        open,
+        drawing?.plane ?? null,
+        make("p", { class: "note" }, spelled(reading.opened, MOST_REMARKED)),
+      );
     });
     return make("section", {}, make("h3", {}, "Which halves are meant?"), make("ol", { class: "choices" }, ...cards));
   }
 
-  /** Decides one property after the other; what is left where one was stopped can be asked for. Where one alone fails, its
-      state is shown. */
+  /** Decides one property after the other; what is left where one was stopped can be asked for. Where one alone fails,
+      its state is shown. */
   async decideAll() {
     const left = [...this.verdicts];
     while (left.length && !this.isLeft && (await left.shift().decide())) if (this.found.row) book?.note(this.found.row);
@@ -287,8 +339,12 @@ class View {
     if (this.net && judged.isJudged) this.tellFacts();
     const sentence = (it) => `${capital(it)}.`;
     const warnings = judged.warnings.map((it) => make("li", { class: "held" }, told(sentence(it))));
-    const remarks = remarksOf(judged.reading, this.network && !judged.choices.length ? judged.bare : [], judged.notes).map((it) => make("li", {}, told(sentence(it))));
-    if (isJson(judged.bytes) && judged.net && !hasVersion(judged.bytes)) remarks.push(make("li", {}, "It tells no version of the game: directions are read as before 2.0."));
+    const remarks = remarksOf(
+      judged.reading, this.network && !judged.choices.length ? judged.bare : [], judged.notes
+    ).map((it) => make("li", {}, told(sentence(it))));
+    if (isJson(judged.bytes) && judged.net && !hasVersion(judged.bytes)) remarks.push(
+      make("li", {}, "It tells no version of the game: directions are read as before 2.0.")
+    );
     this.remarks.replaceChildren(...warnings, ...remarks);
   }
 
@@ -296,13 +352,20 @@ class View {
     const { inputs, outputs, splitters, edges } = this.net;
     const strong = (text) => make("strong", {}, text);
     const some = (number, word) => make("li", {}, strong(number), ` ${word}${number === 1 ? "" : "s"}`);
-    const facts = [make("li", {}, strong(`${inputs} → ${outputs}`)), some(splitters, "splitter"), make("li", {}, strong(edges.length), ` belt${edges.length === 1 ? "" : "s"} between`)];
+    const facts = [
+      make("li", {}, strong(`${inputs} → ${outputs}`)),
+      some(splitters, "splitter"),
+      make("li", {}, strong(edges.length), ` belt${edges.length === 1 ? "" : "s"} between`),
+    ];
     if (this.design) {
       const within = sizeWithin(this.design, this.traced);
-      facts.push(make("li", {}, strong(sizeOf(this.design).join(" × ")), ` tiles${toldWithin(within, sizeOf(this.design))}`));
+      facts.push(
+        make("li", {}, strong(sizeOf(this.design).join(" × ")), ` tiles${toldWithin(within, sizeOf(this.design))}`)
+      );
       for (const tier of tiersOf(this.design)) facts.push(make("li", { class: `tier ${tier}` }, tier));
     }
-    if (this.judged.universal) facts.push(make("li", {}, make("span", { class: "verdict yes" }, this.judged.universal)));
+    const { universal } = this.judged;
+    if (universal) facts.push(make("li", {}, make("span", { class: classOf(universal) }, universal.says)));
     this.facts.replaceChildren(...facts);
   }
 
@@ -317,8 +380,17 @@ class View {
       fitted.setAttribute("aria-pressed", String(isFitted));
     });
     const name = slug(inWords(this.found.name));
-    const savings = [quiet("SVG", () => save(encoder.encode(pictureText(this.drawing)), `${name}.svg`)), quiet("PNG", async () => saveBlob(await pictureImage(this.drawing), `${name}.png`))];
-    this.tools = make("div", { class: "tools" }, fitted, make("span", {}, make("span", { class: "note" }, "Save as"), ...savings), ...this.opening());
+    const savings = [
+      quiet("SVG", () => save(encoder.encode(pictureText(this.drawing)), `${name}.svg`)),
+      quiet("PNG", async () => saveBlob(await pictureImage(this.drawing), `${name}.png`)),
+    ];
+    this.tools = make(
+      "div",
+      { class: "tools" },
+      fitted,
+      make("span", {}, make("span", { class: "note" }, "Save as"), ...savings),
+      ...this.opening()
+    );
     if (this.lack) this.tools.append(make("span", { class: "note" }, this.lack));
     this.slider = make("div", { class: "states", hidden: true });
     this.figure = make("figure", { class: "card stage" }, this.drawing.plane, this.slider, this.tools);
@@ -329,8 +401,16 @@ class View {
   opening() {
     const { ways, isOpen } = this.judged;
     if (!ways && !isOpen) return [];
-    const options = [["label", "ends by its label"], ["never", "ends as it is drawn"], ["always", ways === 1 ? "its bare half open" : `all ${ways} bare halves open`]].filter(([value]) => ways || value !== "always");
-    const field = make("select", { "aria-label": "Which bare halves are ends" }, ...options.map(([value, words]) => make("option", { value, selected: value === this.mode }, words)));
+    const options = [
+      ["label", "ends by its label"],
+      ["never", "ends as it is drawn"],
+      ["always", ways === 1 ? "its bare half open" : `all ${ways} bare halves open`],
+    ].filter(([value]) => ways || value !== "always");
+    const field = make(
+      "select",
+      { "aria-label": "Which bare halves are ends" },
+      ...options.map(([value, words]) => make("option", { value, selected: value === this.mode }, words))
+    );
     field.addEventListener("change", () => {
       this.leave();
       view = new View(this.found, field.value);
@@ -348,9 +428,22 @@ class View {
 
   drawSlider() {
     const at = this.at ?? 0;
-    this.range = make("input", { type: "range", id: "state", min: 0, max: this.states.length, step: 1, value: at, oninput: () => this.showState(Number(this.range.value), false) });
+    this.range = make(
+      "input",
+      {
+        type: "range",
+        id: "state",
+        min: 0,
+        max: this.states.length,
+        step: 1,
+        value: at,
+        oninput: () => this.showState(Number(this.range.value), false),
+      },
+    );
     this.says = make("p", { role: "status" });
-    const row = make("div", { class: "row" }, make("label", { for: "state" }, count(this.states.length, "breaking state")), this.range);
+    const row = make(
+      "div", { class: "row" }, make("label", { for: "state" }, count(this.states.length, "breaking state")), this.range
+    );
     this.slider.replaceChildren(row, this.says, legend(tiersOf(this.design).length > 1));
     this.slider.hidden = false;
     this.showState(at, false);
@@ -360,10 +453,17 @@ class View {
   showState(at, isAsked) {
     this.at = at;
     const told = at ? this.states[at - 1] : null;
-    this.drawing.show(told?.state ?? null);
+    const apart = told ? apartOf(told.property, this.net, told.state) : {};
+    this.drawing.show(told?.state ?? null, apart);
     this.range.value = at;
     this.range.setAttribute("aria-valuetext", told ? `not ${FIELD[told.property].name}` : "none");
-    this.says.replaceChildren(...(told ? [make("strong", {}, `Not ${FIELD[told.property].name}. `), shown(told.property, this.net, told.state, tiersOf(this.design))] : ["Move the slider to see how items stand where a promise fails."]));
+    const says = ["Move the slider to see how items stand where a promise fails."];
+    if (told) {
+      says[0] = make("strong", {}, `Not ${FIELD[told.property].name}. `);
+      says.push(shown(told.property, this.net, told.state, tiersOf(this.design)));
+    }
+    this.says.replaceChildren(...says);
+    this.slider.querySelector(".legend").replaceWith(legend(tiersOf(this.design).length > 1, apart));
     this.slider.querySelector(".legend").hidden = !told;
     if (isAsked) this.figure.scrollIntoView({ block: "nearest" });
   }
@@ -397,7 +497,9 @@ const choose = (at, isFocused = true) => {
   const opened = view.open();
   if (isFocused) {
     $("name")?.focus({ preventScroll: true });
-    if ($("design").getBoundingClientRect().top > innerHeight / 2 || matchMedia("(max-width: 62rem)").matches) $("design").scrollIntoView();
+    if ($("design").getBoundingClientRect().top > innerHeight / 2 || matchMedia("(max-width: 62rem)").matches) $(
+      "design"
+    ).scrollIntoView();
   }
   return opened;
 };
@@ -484,7 +586,8 @@ const watch = () => {
   $("stop").addEventListener("click", () => program.stopAll());
 };
 
-/** Opens what is pasted: into the field, where it is put at the cursor unless it is long, or anywhere but in another field. */
+/** Opens what is pasted: into the field, where it is put at the cursor unless it is long, or anywhere but in another
+    field. */
 const paste = (event) => {
   const field = event.target.closest?.("textarea, input");
   if (field && field !== $("text")) return;
@@ -508,12 +611,14 @@ const listen = () => {
   $("file").addEventListener("change", () => $("file").files[0] && openFile($("file").files[0]));
   $("filter").addEventListener("input", () => book?.search());
   $("all").addEventListener("click", () => book?.decideAll());
-  $("limit").addEventListener("change", () => book?.tell());
+  for (const id of ["limit", "which"]) $(id).addEventListener("change", () => book?.tell());
   $("wide").addEventListener("click", () => {
     const isWide = $("main").classList.toggle("wide-list");
     $("wide").textContent = isWide ? "As a list" : "As a table";
   });
-  for (const [id, act] of [["save-table", "saveTable"], ["save-certificates", "saveCertificates"], ["save-pictures", "savePictures"]])
+  for (const [id, act] of [
+    ["save-table", "saveTable"], ["save-certificates", "saveCertificates"], ["save-pictures", "savePictures"]
+  ])
     $(id).addEventListener("click", async () => {
       $(id).disabled = true;
       await book?.[act]();
@@ -556,11 +661,18 @@ const offerExamples = (samples) => {
 
 const start = () => {
   $("given").textContent = "";
-  $("promises").append(...PROPERTIES.map((it) => make("div", {}, make("dt", {}, `${FIELD[it].title} `, make("code", {}, it)), make("dd", {}, FIELD[it].promise))));
+  for (const it of PROPERTIES) {
+    const name = make("dt", {}, `${FIELD[it].title} `, make("code", {}, it));
+    $("promises").append(make("div", {}, name, make("dd", {}, FIELD[it].promise)));
+  }
   offerExamples(unpackedSamples);
   program = new Program(unpackedProgram, $("worker").textContent);
   watch();
   listen();
+  offerWishes(
+    (words, what = "Asking for what is known") => program.run(words, new Uint8Array(), what).told,
+    (it) => addDesigns([it]),
+  );
   openFragment();
 };
 

@@ -1,10 +1,13 @@
-// Pictures of designs, as plain lists of elements: the same as `collection/picture.py` and `collection/flows.py` draw, which
-// say what tells what, and a test compares both. An element is a name of SVG, its members, and a text or a list of elements.
+// Pictures of designs, as plain lists of elements: the same as `collection/picture.py` and `collection/flows.py` draw,
+// which say what tells what, and a test compares both. An element is a name of SVG, its members, and a text or a list
+// of elements.
 
 const CELL = 24;
 const HALF = CELL / 2;
 
-const shapeOf = (words) => words.split(/ (?=[MLAZ])/).map((it) => [it[0], ...it.slice(1).trim().split(" ").filter(Boolean).map(Number)]);
+const shapeOf = (words) => words.split(/ (?=[MLAZ])/).map(
+  (it) => [it[0], ...it.slice(1).trim().split(" ").filter(Boolean).map(Number)]
+);
 const STRAIGHT = shapeOf("M-9 12 L-9 -12 L9 -12 L9 12 Z");
 const STRAIGHT_RIM = shapeOf("M-9 12 L-9 -12 M9 12 L9 -12");
 const STRAIGHT_WAY = shapeOf("M-5 4 L0 -2 L5 4");
@@ -32,7 +35,8 @@ const LAYERS = ["body", "body added", "rim", "rim added", "way", "bend", "run", 
 /** The layers that are the same for all tiers. */
 const UNTIERED = ["body", "body added", "hole", "cut"];
 
-/** What is marked on a picture where nothing is: bare ends, the numbers of added belts, and what is refused, with words. */
+/** What is marked on a picture where nothing is: bare ends, the numbers of added belts, and what is refused, with
+    words. */
 const NO_MARKS = { bare: [], added: new Set(), refused: [] };
 
 /** The shape seen in a mirror that stands north to south. */
@@ -43,7 +47,9 @@ const mirrored = (shape) =>
   });
 
 /** The shape turned by half a turn. */
-const backwards = (shape) => shape.map((it) => (it.length > 1 ? [...it.slice(0, -2), -it[it.length - 2], -it[it.length - 1]] : it));
+const backwards = (shape) => shape.map(
+  (it) => (it.length > 1 ? [...it.slice(0, -2), -it[it.length - 2], -it[it.length - 1]] : it)
+);
 
 const turned = (x, y, direction) => {
   for (let count = 0; count < direction; count += 1) [x, y] = [-y, x];
@@ -120,15 +126,21 @@ const layersOf = (parts, marks) => {
     layers.get(name).push(path);
   };
   parts.forEach((part, number) => {
-    const shapes = part.kind === "belt" ? beltShapes(fedFromSide(parts, at, part), marks.added.has(number)) : SHAPES[part.kind];
+    const shapes = part.kind === "belt" ? beltShapes(fedFromSide(parts, at, part), marks.added.has(number)) : SHAPES[
+      part.kind
+    ];
     for (const [layer, shape] of shapes) put(layer, part.tier, placed(shape, part.direction, middleOfAll(part.cells)));
     if (part.kind === "splitter")
       part.cells.forEach((cell, which) => {
         const [front, back] = [true, false].map((it) => bare.has(`${number}.${which}.${it}`));
-        for (const [layer, shape] of halfShapes(which === leftHalf(part), front, back)) put(layer, part.tier, placed(shape, part.direction, middleOf(cell)));
+        for (const [layer, shape] of halfShapes(which === leftHalf(part), front, back)) put(
+          layer, part.tier, placed(shape, part.direction, middleOf(cell))
+        );
       });
     const exit = part.kind === "entrance" ? exitAhead(parts, at, part) : null;
-    if (exit !== null) put("run", part.tier, `M${middleOf(part.cells[0]).join(" ")}L${middleOf(parts[exit].cells[0]).join(" ")}`);
+    if (exit !== null) put(
+      "run", part.tier, `M${middleOf(part.cells[0]).join(" ")}L${middleOf(parts[exit].cells[0]).join(" ")}`
+    );
   });
   return layers;
 };
@@ -154,7 +166,10 @@ const preferredOf = (part) =>
   [[part.give, "output", PREFERRED_FRONT], [part.take, "input", PREFERRED_BACK]].flatMap(([side, word, shape]) => {
     if (!side) return [];
     const which = side === "left" ? leftHalf(part) : 1 - leftHalf(part);
-    return [titled(`prefers its ${side} ${word}`, ["path", { class: "preferred", d: placed(shape, part.direction, middleOf(part.cells[which])) }, ""])];
+    return [titled(
+      `prefers its ${side} ${word}`,
+      ["path", { class: "preferred", d: placed(shape, part.direction, middleOf(part.cells[which])) }, ""],
+    )];
   });
 
 /** The frame around what is refused, with the reason. */
@@ -169,7 +184,9 @@ const framed = ({ cells, words }) => {
 const strangerOf = (it) => {
   const [x, y] = it.middle.map((value) => value * HALF);
   const [width, height] = it.size.map((value) => value * CELL - 4);
-  const box = { class: it.standsBy ? "bystander" : "stranger", x: x - half(width), y: y - half(height), width, height, rx: 3 };
+  const box = {
+    class: it.standsBy ? "bystander" : "stranger", x: x - half(width), y: y - half(height), width, height, rx: 3
+  };
   return titled(plain(it.name), ["rect", box, ""], ...(it.standsBy ? [] : [sign("?", x, y + 3)]));
 };
 
@@ -201,16 +218,20 @@ const badgeCells = (parts, network) => {
   return cells;
 };
 
-/** The elements that number the ends on these cells; with a state, each with its load or room. */
-const badges = (cells, told = null) =>
+/** The elements that number the ends on these cells; with a state, each with its load or room, and which of two ends
+    has less and which more. */
+const badges = (cells, told = null, apart = {}) =>
   cells.flatMap(([name, cell]) => {
     const [x, y] = middleOf(cell);
     const kind = name[0] === "i" ? "in" : "out";
     const height = told ? 20 : 14;
-    const box = ["rect", { class: `badge ${kind}`, x: x - 11, y: y - height / 2, width: 22, height, rx: 4 }, ""];
+    const has = apart[name] ?? "";
+    const look = `badge ${kind}${has ? ` ${has}` : ""}`;
+    const box = ["rect", { class: look, x: x - 11, y: y - height / 2, width: 22, height, rx: 4 }, ""];
     if (!told) return [box, sign(name, x, y + 3, "on")];
     const what = `${kind === "in" ? "load" : "room"} ${told.get(name)}`;
-    return [box, titled(`${name}: ${what}`, sign(name, x, y - 1, "on"), sign(told.get(name).short(), x, y + 8, "on"))];
+    const title = `${name}: ${what}${has ? `, has ${has}` : ""}`;
+    return [box, titled(title, sign(name, x, y - 1, "on"), sign(told.get(name).short(), x, y + 8, "on"))];
   });
 
 /** The marks of ends at halves for whose belts there is no room, behind so many inputs and outputs. */
@@ -224,7 +245,10 @@ const halfBadges = (parts, places, before = [0, 0]) => {
     const [along, down] = STEPS[parts[at.get(keyOf(cell)).part].direction];
     const away = side ? 7 : -7;
     const [x, y] = [middleOf(cell)[0] + away * along, middleOf(cell)[1] + away * down];
-    return [["rect", { class: `badge ${side ? "out" : "in"}`, x: x - 8, y: y - 5, width: 16, height: 10, rx: 3 }, ""], sign(name, x, y + 3, "on")];
+    return [
+      ["rect", { class: `badge ${side ? "out" : "in"}`, x: x - 8, y: y - 5, width: 16, height: 10, rx: 3 }, ""],
+      sign(name, x, y + 3, "on"),
+    ];
   });
 };
 
@@ -253,7 +277,9 @@ const rulesOf = ([x, y, width, height]) => {
 /** An edge's way as lists of points, each with whether it lies under the ground. */
 const pieces = (parts, edge) => {
   const points = edge.run.map((it) => middleOf(it.cell));
-  const beside = (point, part, sense) => [point[0] + sense * HALF * STEPS[part.direction][0], point[1] + sense * HALF * STEPS[part.direction][1]];
+  const beside = (point, part, sense) => [
+    point[0] + sense * HALF * STEPS[part.direction][0], point[1] + sense * HALF * STEPS[part.direction][1]
+  ];
   const last = points.length - 1;
   if (edge.source[0] === "i") points[0] = beside(points[0], parts[edge.run[0].half.part], -1);
   if (edge.target[0] === "o") points.push(beside(points[last], parts[edge.run[last].half.part], 1));
@@ -294,8 +320,8 @@ const labelPlace = (parts, edge, taken) => {
   return middleOf(cell);
 };
 
-/** The elements that draw a state's flows. Between them and their numbers stands what tells the belts' directions, the group
-    of this name. */
+/** The elements that draw a state's flows. Between them and their numbers stands what tells the belts' directions, the
+    group of this name. */
 const flowing = (parts, network, cells, state, ways) => {
   const lines = [];
   const labels = [];
@@ -309,12 +335,22 @@ const flowing = (parts, network, cells, state, ways) => {
     const width = 2 + Number((8n * flow.above) / (BigInt(most) * flow.below));
     for (const [points, isUnder] of pieces(parts, edge)) {
       const path = drawnLine(points);
-      lines.push(["path", { class: `flow ${kind}${isUnder ? " under" : ""}${flow.above === 0n ? " idle" : ""}`, "stroke-width": width, d: path }, ""]);
+      lines.push([
+        "path",
+        {
+          class: `flow ${kind}${isUnder ? " under" : ""}${flow.above === 0n ? " idle" : ""}`,
+          "stroke-width": width,
+          d: path,
+        },
+        "",
+      ]);
       if (isBacked && !isUnder) lines.push(["path", { class: "ties", d: path }, ""]);
     }
     const [x, y] = labelPlace(parts, edge, taken);
     const box = ["rect", { class: `tag ${kind}`, x: x - 11, y: y - 6, width: 22, height: 12, rx: 3 }, ""];
-    labels.push(titled(`${edge.source} to ${edge.target}: ${flow} of ${edge.cap}, ${kind}`, box, sign(flow.short(), x, y + 3, kind)));
+    labels.push(titled(
+      `${edge.source} to ${edge.target}: ${flow} of ${edge.cap}, ${kind}`, box, sign(flow.short(), x, y + 3, kind)
+    ));
   });
   return [...lines, ["use", { class: "over", href: `#${ways}` }, ""], ...labels];
 };

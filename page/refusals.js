@@ -1,7 +1,9 @@
 // Refusals of designs, in words, with the entities that they name. The same as `collection/refusals.py`.
 
 /** The text without characters that steer what shows it: each of these as its number. */
-const plain = (text) => text.replace(/[\p{Cc}\p{Cf}\p{Cs}\p{Co}\p{Cn}\p{Zl}\p{Zp}]/gu, (it) => `\\u${it.codePointAt(0).toString(16).padStart(4, "0")}`);
+const plain = (text) => text.replace(
+  /[\p{Cc}\p{Cf}\p{Cs}\p{Co}\p{Cn}\p{Zl}\p{Zp}]/gu, (it) => `\\u${it.codePointAt(0).toString(16).padStart(4, "0")}`
+);
 
 /** How much of a name or a number is told, and how many bare halves. */
 const [LONGEST, MOST_NAMED] = [WORDS.numbers.longest_name, WORDS.numbers.most_named];
@@ -41,7 +43,9 @@ const feedersOf = (parts, part) => {
     [0, 1, 2, 3].flatMap((direction) => {
       const there = at.get(keyOf(step(cell, direction, -1)));
       const other = there && parts[there.part];
-      return other && other !== part && other.kind !== "entrance" && other.direction === direction ? [other.cells[there.half]] : [];
+      return other && other !== part && other.kind !== "entrance" && other.direction === direction ? [
+        other.cells[there.half]
+      ] : [];
     }),
   );
 };
@@ -68,7 +72,9 @@ const around = (number, parts, part) => {
     return { more: cells.length ? `, from ${tilesIn(cells)}` : "", cells };
   }
   const found = number === BLOCKED ? obstacleOf(parts, part) : null;
-  return found ? { more: `: it ${found.how} the ${KINDS[found.other.kind]} at ${tilesIn([found.ahead])}`, cells: [found.ahead] } : { more: "", cells: [] };
+  return found ? {
+    more: `: it ${found.how} the ${KINDS[found.other.kind]} at ${tilesIn([found.ahead])}`, cells: [found.ahead]
+  } : { more: "", cells: [] };
 };
 
 /** The refusal of a side that a splitter prefers, where what was asked is of designs in which none does. */
@@ -78,10 +84,13 @@ const PREFERRED = 27;
 const isOfPreference = (line, given) => {
   const words = line.split(" ");
   if (numberOf(line) === PREFERRED) return /_priority$/.test(words[words.length - 1]);
-  return numberOf(line) === 40 && /^(?:give|take) /.test(new TextDecoder().decode(given).split("\n")[Number(words[3]) - 1] ?? "");
+  return numberOf(line) === 40 && /^(?:give|take) /.test(
+    new TextDecoder().decode(given).split("\n")[Number(words[3]) - 1] ?? ""
+  );
 };
 
-/** What a refusal's line says where something else was asked than what a design is: of these words, where it is one of them. */
+/** What a refusal's line says where something else was asked than what a design is: of these words, where it is one of
+    them. */
 const toldOfAsking = (line, given, said, otherwise) => {
   const number = isOfPreference(line, given) ? PREFERRED : numberOf(line);
   const words = number === PREFERRED && !isOfPreference(line, given) ? null : said[number];
@@ -89,13 +98,17 @@ const toldOfAsking = (line, given, said, otherwise) => {
 };
 
 /** What a refusal's line says where a layout was looked for. */
-const toldOfLayouts = (line, given) => toldOfAsking(line, given, WORDS.refusals.to_lay_out, () => toldRefusal(line, given).words);
+const toldOfLayouts = (line, given) => toldOfAsking(
+  line, given, WORDS.refusals.to_lay_out, () => toldRefusal(line, given).words
+);
 
 /** What a refusal's line says where two designs were compared. */
-const toldOfPairs = (line, given) => toldOfAsking(line, given, WORDS.refusals.to_compare, () => toldRefusal(line, new Uint8Array()).words);
+const toldOfPairs = (line, given) => toldOfAsking(
+  line, given, WORDS.refusals.to_compare, () => toldRefusal(line, new Uint8Array()).words
+);
 
-/** What a refusal's line says of a design's text, in words, and the places that it names, each with words; of any other line,
-    the line. */
+/** What a refusal's line says of a design's text, in words, and the places that it names, each with words; of any other
+    line, the line. */
 const toldRefusal = (line, bytes) => {
   const number = numberOf(line);
   const words = line.split(" ");
@@ -111,13 +124,19 @@ const toldRefusal = (line, bytes) => {
     entities = [];
   }
   const standsAt = new Map([...found.parts, ...found.strangers].map((it) => [it.entity, it]));
-  const cellsAt = (index) => (standsAt.has(index) && (number !== OFF_GRID || found.parts.includes(standsAt.get(index))) ? standsAt.get(index).cells : null);
+  const cellsAt = (index) => (
+    standsAt.has(index) && (number !== OFF_GRID || found.parts.includes(standsAt.get(index)))
+    ? standsAt.get(index).cells : null
+  );
   const rest = [...named.map((it) => toldEntity(entities, it, cellsAt(it))), ...words.slice(3 + named.length)];
   const start = `refused ${number} ${words[2]}: ${REFUSALS[number].replace(/\{(\d)\}/g, (_, at) => rest[at] ?? "")}`;
   if (number === NO_ENDS) {
     const them = bareEnds(found.parts).map((it) => placeOf(found.parts, it));
     const wanted = them.length ? `; belts are wanted at halves of splitters: ${spelled(them, MOST_NAMED)}` : "";
-    return { words: start + wanted, places: them.map(({ kind, cell }) => ({ cells: [cell], words: `a belt is wanted here, for an ${kind}` })) };
+    return {
+      words: start + wanted,
+      places: them.map(({ kind, cell }) => ({ cells: [cell], words: `a belt is wanted here, for an ${kind}` })),
+    };
   }
   const marked = named.filter((it) => standsAt.has(it)).map((it) => ({ cells: standsAt.get(it).cells, words: start }));
   const first = named.length ? standsAt.get(named[0]) : null;

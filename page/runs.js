@@ -76,7 +76,9 @@ class Program {
 
 /** Why a run told nothing of the design, in words, or null where it did. */
 const faultOf = (told) => {
-  if (told.trouble) return told.trouble === "fault" && told.why ? `${TROUBLES.fault} (${told.why})` : TROUBLES[told.trouble];
+  if (told.trouble) return told.trouble === "fault" && told.why ? `${TROUBLES.fault} (${told.why})` : TROUBLES[
+    told.trouble
+  ];
   return FAULTS[told.status] ?? null;
 };
 

@@ -15,14 +15,14 @@ FIRST = "strings unpacking boot".split()
 """What unpacks the rest, and is all that stands in the page as it is written here."""
 
 SCRIPTS = (
-    "words books design trace picture states refusals entities links rigs cleaning labels ends openings inputs runs sentences judging graph"
-    " saving lanes dom drawing table asking page"
+    "words books design trace picture states refusals entities links rigs cleaning labels ends leading openings inputs"
+    " runs sentences judging networks graph saving lanes dom drawing table asking wishes page"
 ).split()
 """What is packed with the program, and put into the page by its own text, whose digest the page's policy names."""
 
 PICTURE_RULES = re.compile(r"^\.body\{.*?(?=^@media)", re.M | re.S)
 COLORS = re.compile(r"^:root\{.*?\n(?=\*\{)", re.M | re.S)
-MOST_BYTES = 500_000
+MOST_BYTES = 650_000
 
 
 COMMENT = re.compile(r"^\s*(?://.*|/\*\*(?:[^*]|\*(?!/))*\*/)$", re.M)
@@ -35,16 +35,24 @@ def stripped(script):
 
 
 def data():
-    """What the scripts read of data that others read too: what can't touch a belt, the words and numbers that the report has
-    too, and the sentences that state a verdict."""
-    tiles, words = (json.loads((TOP / "collection" / f"{it}.json").read_text("utf-8")) for it in ("bystanders", "words"))
+    """What the scripts read of data that others read too: what can't touch a belt, the words and numbers that the
+    report has too, and the sentences that state a verdict."""
+    tiles, words = (
+        json.loads((TOP / "collection" / f"{it}.json").read_text("utf-8")) for it in ("bystanders", "words")
+    )
     sentences = json.loads((HERE / "sentences.json").read_text("utf-8"))["page"]
-    told = {"BYSTANDER_TILES": tiles["tiles"], "WORDS": {k: it for k, it in words.items() if k != "what"}, "SENTENCES": sentences}
+    told = {
+        "BYSTANDER_TILES": tiles["tiles"],
+        "WORDS": {k: it for k, it in words.items() if k != "what"},
+        "SENTENCES": sentences,
+    }
     return [f"const {name} = {json.dumps(it, separators=(',', ':'), ensure_ascii=False)};" for name, it in told.items()]
 
 
 def joined(names, listed):
-    return "\n".join(['"use strict";', *listed, *(stripped((HERE / f"{name}.js").read_text("utf-8")) for name in names)])
+    return "\n".join(
+        ['"use strict";', *listed, *(stripped((HERE / f"{name}.js").read_text("utf-8")) for name in names)]
+    )
 
 
 def scripts(names):
@@ -93,7 +101,8 @@ def unsqueezed(text):
 
 
 def packed(module, script):
-    """The scripts, the examples and the program, packed: the length of the former in four bytes, their JSON, and the module."""
+    """The scripts, the examples and the program, packed: the length of the former in four bytes, their JSON, and the
+    module."""
     told = json.dumps({"script": script, "samples": samples()}, separators=(",", ":")).encode()
     return squeezed(struct.pack("<I", len(told)) + told + module)
 

@@ -51,7 +51,9 @@ class Fraction {
     const text = this.toString();
     if (text.length <= 5) return text;
     const thousandths = (2000n * this.above + this.below) / (2n * this.below);
-    return `${thousandths / 1000n}.${String(thousandths % 1000n).padStart(3, "0")}`.replace(/0+$/, "").replace(/\.$/, "");
+    return `${thousandths / 1000n}.${String(thousandths % 1000n).padStart(3, "0")}`.replace(/0+$/, "").replace(
+      /\.$/, ""
+    );
   }
 }
 
@@ -62,7 +64,9 @@ const readNet = (text) => {
   const [head, ...lines] = text.split("\n");
   const [inputs, outputs, splitters] = head.split(" ").slice(1, 4).map(Number);
   const words = lines.filter((it) => it.startsWith("edge ")).map((it) => it.split(" ").slice(1));
-  return { inputs, outputs, splitters, edges: words.map(([source, target, cap]) => ({ source, target, cap: Number(cap ?? 1) })) };
+  return {
+    inputs, outputs, splitters, edges: words.map(([source, target, cap]) => ({ source, target, cap: Number(cap ?? 1) }))
+  };
 };
 
 /** The state of a text that the program wrote: of a property, or the first or second of two networks. */
@@ -74,7 +78,9 @@ const readState = (text, which = 0) => {
 };
 
 /** The load at each input and the room at each output, by the end's name. */
-const toldAtEnds = (state) => new Map([...state.loads.map((it, k) => [`i${k}`, it]), ...state.rooms.map((it, k) => [`o${k}`, it])]);
+const toldAtEnds = (state) => new Map(
+  [...state.loads.map((it, k) => [`i${k}`, it]), ...state.rooms.map((it, k) => [`o${k}`, it])]
+);
 
 /** The flow at each input, and at each output. */
 const atEnds = (net, state) => {
@@ -95,7 +101,8 @@ const listed = (numbers, spelled = (it) => it.mixed()) => {
   if (numbers.length <= MOST_LISTED) return numbers.map(spelled).join(", ");
   const least = numbers.reduce((a, b) => (b.isLess(a) ? b : a));
   const most = numbers.reduce((a, b) => (a.isLess(b) ? b : a));
-  return `${numbers.slice(0, MOST_LISTED).map(spelled).join(", ")} and so on, from ${spelled(least)} to ${spelled(most)}`;
+  const first = numbers.slice(0, MOST_LISTED).map(spelled).join(", ");
+  return `${first} and so on, from ${spelled(least)} to ${spelled(most)}`;
 };
 
 /** A number with two decimal places at most: the nearest, of two the greater. */
@@ -112,7 +119,9 @@ const toldOfEnds = (word, names, told, rest) => {
   const groups = new Map();
   names.forEach((name, at) => groups.set(told[at], [...(groups.get(told[at]) ?? []), name]));
   if (groups.size === 1 && names.length > 1) return `all ${word}s ${told[0]}`;
-  const shownOnes = [...groups].filter(([it]) => it !== rest || groups.size === 1).map(([it, them]) => `${together(them)} ${it}`);
+  const shownOnes = [...groups].filter(([it]) => it !== rest || groups.size === 1).map(
+    ([it, them]) => `${together(them)} ${it}`
+  );
   const others = groups.has(rest) && groups.size > 1 ? [`the others ${rest}`] : [];
   const isMany = names.length - (groups.get(rest) ?? []).length > 1;
   return `${word}${isMany ? "s" : ""} ${[...shownOnes, ...others].join(", ")}`;
@@ -122,11 +131,43 @@ const toldOfEnds = (word, names, told, rest) => {
 const setUp = (net, state) => {
   const caps = new Map(net.edges.flatMap(({ source, target, cap }) => [[source, cap], [target, cap]]));
   const namesOf = (word, count) => Array.from({ length: count }, (_, k) => `${word}${k}`);
-  const wordOf = (end, number, none, whole, part) => (`${number}` === "0" ? none : `${number}` === `${caps.get(end)}` ? whole : `${part} ${number.mixed()}`);
+  const wordOf = (end, number, none, whole, part) => (
+    `${number}` === "0" ? none : `${number}` === `${caps.get(end)}` ? whole : `${part} ${number.mixed()}`
+  );
   const [inputs, outputs] = [namesOf("i", net.inputs), namesOf("o", net.outputs)];
   const loads = inputs.map((end, at) => wordOf(end, state.loads[at], "empty", "full", "with"));
   const rooms = outputs.map((end, at) => wordOf(end, state.rooms[at], "blocked", "open", "open for"));
   return `${toldOfEnds("input", inputs, loads, "empty")}; ${toldOfEnds("output", outputs, rooms, "open")}`;
+};
+
+/** Two ends of a state in which what is left isn't shared evenly: the end that has least of those that could have more,
+    with its flow and how much it could be, and the end that has most; null where the property isn't one of sharing. */
+const unshared = (property, net, state) => {
+  if (property !== "fair" && property !== "drawn-fairly") return null;
+  const isOutput = property === "fair";
+  const [given, carried] = atEnds(net, state);
+  const [sign, flows, most] = isOutput ? ["o", carried, state.rooms] : ["i", given, state.loads];
+  const short = flows.map((_, at) => at).filter((at) => flows[at].isLess(most[at]));
+  const less = short.reduce((a, b) => (flows[b].isLess(flows[a]) ? b : a));
+  const more = flows.map((_, at) => at).reduce((a, b) => (flows[a].isLess(flows[b]) ? b : a));
+  return {
+    isOutput, less: `${sign}${less}`, flow: flows[less], could: most[less], more: `${sign}${more}`, greater: flows[more]
+  };
+};
+
+/** Which end has less than is fair in a state, and which more, by their names. */
+const apartOf = (property, net, state) => {
+  const them = unshared(property, net, state);
+  return them ? { [them.less]: "less", [them.more]: "more" } : {};
+};
+
+/** Which of two ends has more, and which less, in words. */
+const toldOfUnshared = ({ isOutput, less, flow, could, more, greater }, belt, itemsOf) => {
+  const [word, verb] = isOutput ? ["Output", "carries"] : ["Input", "gives"];
+  const wants = isOutput ? `would take ${could.mixed()}` : `has ${could.mixed()}`;
+  const items = itemsOf ? ` (${itemsOf(greater)} and ${itemsOf(flow)} items a second)` : "";
+  const belts = `${greater.mixed()} ${belt}${`${greater}` === "1" ? "" : "s"}`;
+  return `${word} ${more} ${verb} ${belts} and ${less}, which ${wants}, only ${flow.mixed()}${items}`;
 };
 
 /** What the state shows, in words: in belts and, where the tiers of the design's parts are known, in items a second. */
@@ -138,20 +179,15 @@ const shown = (property, net, state, tiers = []) => {
   if (property === "balanced" || property === "drawn-evenly") {
     const [ends, verb, flows] = property === "balanced" ? ["outputs", "carry", carried] : ["inputs", "give", given];
     const items = tiers.length ? `, or ${listed(flows, itemsOf)} items a second` : "";
-    return `The ${ends} ${verb} ${listed(flows)} ${belt}s${items}, and should all ${verb} the same: ${setUp(net, state)}.`;
+    const told = `${listed(flows)} ${belt}s${items}`;
+    return `The ${ends} ${verb} ${told}, and should all ${verb} the same: ${setUp(net, state)}.`;
   }
-  if (property === "fair" || property === "drawn-fairly") {
-    const [word, verb, more, flows, mosts] = property === "fair" ? ["output", "carries", "and has room for", carried, state.rooms] : ["input", "gives", "and is loaded with", given, state.loads];
-    // What is short and has least, and what has most.
-    const short = flows.map((_, at) => at).filter((at) => flows[at].isLess(mosts[at]));
-    const least = short.reduce((a, b) => (flows[b].isLess(flows[a]) ? b : a));
-    const most = flows.map((_, at) => at).reduce((a, b) => (flows[a].isLess(flows[b]) ? b : a));
-    const name = (at) => `${word} ${word[0]}${at}`;
-    return `${capital(name(least))} ${verb} ${flows[least].mixed()} ${belt}s ${more} ${mosts[least].mixed()}, and should not have less than ${name(most)}, which ${verb} ${flows[most].mixed()}: ${setUp(net, state)}.`;
-  }
+  const them = unshared(property, net, state);
+  if (them) return `${toldOfUnshared(them, belt, tiers.length ? itemsOf : null)}: ${setUp(net, state)}.`;
   const [out, loaded, taken] = [carried, state.loads, state.rooms].map(sum);
   const most = taken.isLess(loaded) ? taken : loaded;
   const items = tiers.length ? `, ${itemsOf(out)} of ${itemsOf(most)} items a second` : "";
   const comes = `${most}` === "1" || (out.above > 0n && out.above <= out.below) ? "comes" : "come";
-  return `${out.mixed()} of ${most.mixed()} ${belt}${`${most}` === "1" ? "" : "s"} ${comes} through${items}: ${setUp(net, state)}.`;
+  const belts = `${belt}${`${most}` === "1" ? "" : "s"}`;
+  return `${out.mixed()} of ${most.mixed()} ${belts} ${comes} through${items}: ${setUp(net, state)}.`;
 };

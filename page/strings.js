@@ -71,7 +71,9 @@ const through = async (bytes, stream, most) => {
 
 /** The bytes that a blueprint string holds. */
 const inflate = async (string) => {
-  if (!string.startsWith("0")) throw new Damaged(`a blueprint string begins with 0, its version byte, and not with ${string.slice(0, 1)}`);
+  if (!string.startsWith("0")) throw new Damaged(
+    `a blueprint string begins with 0, its version byte, and not with ${string.slice(0, 1)}`
+  );
   let packed = null;
   try {
     packed = fromBase64(string.slice(1));

@@ -1,13 +1,16 @@
-"""The module of the proved program as text, changed for WebAssembly: the layout of data and the target, the attributes that
-are of the other processor, and the entry, which calls the crate's own start and asks for no processor first."""
+"""The module of the proved program as text, changed for WebAssembly: the layout of data and the target, the attributes
+that are of the other processor, and the entry, which calls the crate's own start and asks for no processor first."""
 
 import re
 
 LAYOUT = re.compile(r'^target datalayout = ".*"$', re.M)
 TRIPLE = re.compile(r'^target triple = ".*"$', re.M)
-FOREIGN = [re.compile(it) for it in (' "probe-stack"="inline-asm"', ' "stack-probe-size"="3072"', ' "target-cpu"="x86-64(?:-v2)?"')]
-"""What an attribute group of the program's own functions says of the other processor, each once: how its stack is probed, and
-which processor it is."""
+FOREIGN = [
+    re.compile(it)
+    for it in (' "probe-stack"="inline-asm"', ' "stack-probe-size"="3072"', ' "target-cpu"="x86-64(?:-v2)?"')
+]
+"""What an attribute group of the program's own functions says of the other processor, each once: how its stack is
+probed, and which processor it is."""
 
 OTHERWISE = re.compile(r"probe|target-|tune-|frame-|sanitize")
 GROUP = re.compile(r"^attributes #(\d+) = \{.*\}$", re.M)
@@ -39,8 +42,8 @@ def groups_of_functions(text):
 
 
 def without_processor(text):
-    """The text whose attribute groups don't name the other processor: those of the functions that it defines do, each in the
-    same three words, and no other group does."""
+    """The text whose attribute groups don't name the other processor: those of the functions that it defines do, each
+    in the same three words, and no other group does."""
     own = groups_of_functions(text)
 
     def plain(group):

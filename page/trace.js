@@ -1,6 +1,6 @@
-// The network that a design's parts form, with the cells that each of its edges runs over. The program has the last word on
-// networks: this only tells where on a picture an edge lies, and only where its text is what the program prints. The same as
-// `collection/trace.py`.
+// The network that a design's parts form, with the cells that each of its edges runs over. The program has the last
+// word on networks: this only tells where on a picture an edge lies, and only where its text is what the program
+// prints. The same as `collection/trace.py`.
 
 /** Why parts have no network, in words. */
 class Untraced extends Error {}
@@ -8,20 +8,26 @@ class Untraced extends Error {}
 const keyOf = ([x, y]) => `${x},${y}`;
 
 /** What stands on each cell: a part's number, and which of its cells it is. */
-const standing = (parts) => new Map(parts.flatMap((part, number) => part.cells.map((cell, at) => [keyOf(cell), { part: number, half: at }])));
+const standing = (parts) => new Map(
+  parts.flatMap((part, number) => part.cells.map((cell, at) => [keyOf(cell), { part: number, half: at }]))
+);
 
 /** The number of the exit that an entrance leads to, or null: the first piece of its tier on its line decides. */
 const exitAhead = (parts, at, entrance) => {
   for (let count = 1; count < REACH[entrance.tier] + 2; count += 1) {
     const there = at.get(keyOf(step(entrance.cells[0], entrance.direction, count)));
     const part = there && parts[there.part];
-    if (part && (part.kind === "entrance" || part.kind === "exit") && part.tier === entrance.tier && (part.direction - entrance.direction) % 2 === 0)
+    if (
+      part && (part.kind === "entrance" || part.kind === "exit") && part.tier === entrance.tier
+      && (part.direction - entrance.direction) % 2 === 0
+    )
       return part.kind === "exit" && part.direction === entrance.direction ? there.part : null;
   }
   return null;
 };
 
-/** The ends of splitters' halves to which no belt leads, in the order of the parts, and of a half that at the back first. */
+/** The ends of splitters' halves to which no belt leads, in the order of the parts, and of a half that at the back
+    first. */
 const bareEnds = (parts) => {
   const at = standing(parts);
   const found = [];
@@ -29,7 +35,9 @@ const bareEnds = (parts) => {
     (part.kind === "splitter" ? part.cells : []).forEach((cell, which) => {
       const behind = at.get(keyOf(step(cell, part.direction, -1)));
       const feeder = behind && parts[behind.part];
-      if (!feeder || feeder.kind === "entrance" || feeder.direction !== part.direction) found.push({ part: number, half: which, front: false });
+      if (!feeder || feeder.kind === "entrance" || feeder.direction !== part.direction) found.push(
+        { part: number, half: which, front: false }
+      );
       if (!at.has(keyOf(step(cell, part.direction)))) found.push({ part: number, half: which, front: true });
     });
   });
@@ -58,7 +66,9 @@ class Layout {
   constructor(parts) {
     this.parts = parts;
     this.at = standing(parts);
-    if (this.at.size !== parts.reduce((sum, it) => sum + it.cells.length, 0)) throw new Untraced("two parts stand on one tile");
+    if (this.at.size !== parts.reduce((sum, it) => sum + it.cells.length, 0)) throw new Untraced(
+      "two parts stand on one tile"
+    );
     this.exitOf = new Map();
     parts.forEach((it, number) => it.kind === "entrance" && this.exitOf.set(number, exitAhead(parts, this.at, it)));
     if ([...this.exitOf.values()].includes(null)) throw new Untraced("an underground belt has no other end");
@@ -88,8 +98,12 @@ class Layout {
     if (!taker) return null;
     const other = this.parts[taker.part];
     const turn = (other.direction - part.direction + 4) % 4;
-    if (turn === 2 || (turn && other.kind === "splitter") || (turn === 0 && other.kind === "exit")) throw new Untraced("what leaves a part can't go on");
-    if (turn && (other.kind === "entrance" || other.kind === "exit")) throw new Untraced("an underground belt is loaded from its side");
+    if (turn === 2 || (turn && other.kind === "splitter") || (turn === 0 && other.kind === "exit")) throw new Untraced(
+      "what leaves a part can't go on"
+    );
+    if (turn && (other.kind === "entrance" || other.kind === "exit")) throw new Untraced(
+      "an underground belt is loaded from its side"
+    );
     return taker;
   }
 
@@ -100,7 +114,9 @@ class Layout {
   /** The network, numbered as the program numbers it; its caps as the program tells them, or in basic belts. */
   network(inBasicBelts = false) {
     const { parts } = this;
-    const ofKinds = (...kinds) => parts.flatMap((it, number) => (kinds.includes(it.kind) ? [{ part: number, half: 0 }] : []));
+    const ofKinds = (...kinds) => parts.flatMap(
+      (it, number) => (kinds.includes(it.kind) ? [{ part: number, half: 0 }] : [])
+    );
     const fromWest = (a, b) => this.cell(a)[0] - this.cell(b)[0] || this.cell(a)[1] - this.cell(b)[1];
     const inputs = ofKinds("belt", "entrance").filter((it) => !this.fed.has(nameOf(it))).sort(fromWest);
     const outputs = ofKinds("belt", "exit").filter((it) => !this.next.get(nameOf(it))).sort(fromWest);
@@ -117,15 +133,24 @@ class Layout {
     });
     const edges = sources.map(([source, run]) => this.edge(source, run, names, isMixed || inBasicBelts));
     const seen = new Set(edges.flatMap((edge) => edge.run.map((it) => it.half.part)));
-    if (!parts.every((it, number) => it.kind === "splitter" || seen.has(number))) throw new Untraced("a ring of belts has no splitter");
+    if (!parts.every((it, number) => it.kind === "splitter" || seen.has(number))) throw new Untraced(
+      "a ring of belts has no splitter"
+    );
     return { edges, inputs, outputs, splitters };
   }
 
   /** An edge from here on: what it runs over, each cell with the part there. */
   edge(source, run, names, inBasicBelts) {
-    for (let last = run[run.length - 1]; !names.has(nameOf(last)); last = run[run.length - 1]) run.push(this.next.get(nameOf(last)));
+    for (let last = run[run.length - 1]; !names.has(nameOf(last)); last = run[run.length - 1]) run.push(
+      this.next.get(nameOf(last))
+    );
     const cap = inBasicBelts ? Math.min(...run.map((it) => SPEED[this.parts[it.part].tier])) : 1;
-    return { source, target: names.get(nameOf(run[run.length - 1])), cap, run: run.map((it) => ({ cell: this.cell(it), half: it })) };
+    return {
+      source,
+      target: names.get(nameOf(run[run.length - 1])),
+      cap,
+      run: run.map((it) => ({ cell: this.cell(it), half: it })),
+    };
   }
 }
 

@@ -128,7 +128,9 @@ class Steps {
   constructor() {
     this.state = 0;
     this.ways = [0, 0, 0, 0];
-    [this.copies, this.again, this.first, this.single, this.second, this.third] = Array.from({ length: 6 }, () => chances(12));
+    [this.copies, this.again, this.first, this.single, this.second, this.third] = Array.from(
+      { length: 6 }, () => chances(12)
+    );
     this.lengths = new Lengths();
     this.lengthsAgain = new Lengths();
     this.far = new Ways();
@@ -179,7 +181,9 @@ const fromLzma = (packed, count) => {
     if (steps.isCopy(bits)) {
       const length = steps.copy(bits);
       const from = at - steps.ways[0] - 1;
-      if (from < 0 || at + length > count) throw new Damaged("what is packed in the page copies bytes that aren't there");
+      if (from < 0 || at + length > count) throw new Damaged(
+        "what is packed in the page copies bytes that aren't there"
+      );
       for (let more = 0; more < length; more += 1) whole[at + more] = whole[from + more];
       at += length;
     } else {

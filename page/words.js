@@ -3,9 +3,15 @@
 const count = (number, word) => `${number} ${word}${number === 1 ? "" : "s"}`;
 
 /** A length of bytes, in words. */
-const size = (bytes) => (bytes < 1000 ? count(bytes, "byte") : bytes < 1e6 ? `${(bytes / 1000).toFixed(1)} KB` : `${(bytes / 1e6).toFixed(1)} MB`);
+const size = (bytes) => (
+  bytes < 1000 ? count(bytes, "byte") : bytes < 1e6 ? `${(bytes / 1000).toFixed(1)} KB`
+  : `${(bytes / 1e6).toFixed(1)} MB`
+);
 
-const seconds = (number) => (number < 0.1 ? "under 0.1 s" : number < 60 ? `${number.toFixed(1)} s` : `${Math.floor(number / 60)} min ${Math.floor(number % 60)} s`);
+const seconds = (number) => (
+  number < 0.1 ? "under 0.1 s" : number < 60 ? `${number.toFixed(1)} s`
+  : `${Math.floor(number / 60)} min ${Math.floor(number % 60)} s`
+);
 
 /** A file's name for a design of this name: letters, digits and dashes alone. */
 const slug = (name) =>

@@ -7,7 +7,9 @@ const PAGE = 4096;
 const touched = (memory) => {
   const numbers = new BigUint64Array(memory.buffer);
   let pages = 0;
-  for (let at = 0; at < numbers.length; at += PAGE / 8) pages += numbers.subarray(at, at + PAGE / 8).some((it) => it !== 0n);
+  for (let at = 0; at < numbers.length; at += PAGE / 8) pages += numbers.subarray(at, at + PAGE / 8).some(
+    (it) => it !== 0n
+  );
   return pages * PAGE;
 };
 
@@ -42,8 +44,13 @@ const run = (program, words, input) => {
     return { status, written, memory };
   } catch (fault) {
     const stack = BigInt.asIntN(64, exports.__stack_pointer.value);
-    const ended = stack < 0n || (fault instanceof RangeError && /call stack/.test(fault.message)) || /recursion/.test(fault.message);
-    return { trouble: ended ? "stack" : fault instanceof WebAssembly.RuntimeError ? "trap" : "fault", why: String(fault.message) };
+    const ended = stack < 0n || (fault instanceof RangeError && /call stack/.test(fault.message)) || /recursion/.test(
+      fault.message
+    );
+    return {
+      trouble: ended ? "stack" : fault instanceof WebAssembly.RuntimeError ? "trap" : "fault",
+      why: String(fault.message),
+    };
   }
 };
 
@@ -70,7 +77,9 @@ const answer = (program, { words, input, isMeasured = false }) => {
   }
   const seconds = (performance.now() - began) / 1000;
   const { memory, ...rest } = told;
-  return { ...rest, seconds, ...(isMeasured && memory ? { memory: memory.buffer.byteLength, touched: touched(memory) } : {}) };
+  return {
+    ...rest, seconds, ...(isMeasured && memory ? { memory: memory.buffer.byteLength, touched: touched(memory) } : {})
+  };
 };
 
 const receive = async ({ data }) => {

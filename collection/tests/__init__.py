@@ -64,6 +64,7 @@ case "$1 $2 {how}" in
   check*unaccepted) echo 'refused 52 NoVerdict'; exit 9 ;;
   check*) echo "yes $2" ;;
   'decide full killed') kill -9 $$ ;;
+  'decide fair earlier' | 'decide drawn-fairly earlier') echo usage; exit 2 ;;
   decide*slow) exec sleep 60 ;;
   decide*spent) printf 'spent 1\\nr 0 1 0\\nend\\n'; exit 4 ;;
   *) printf 'yes %s\\nr 0 1 0\\nend\\n' "$2" ;;

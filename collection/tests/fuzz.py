@@ -1,10 +1,10 @@
-"""Throws labels, books and members at the tool for collections that nobody would publish, and looks whether each file is
-told or refused in time, with a report.
+"""Throws labels, books and members at the tool for collections that nobody would publish, and looks whether each file
+is told or refused in time, with a report.
 
     python3 -B -m collection.tests.fuzz PROGRAM SEED COUNT
 
-writes what goes wrong, and how long the slowest took; `python3 -B -m collection.tests.fuzz PROGRAM large` throws files of
-16 MB. Some seeds are in the merge gate."""
+writes what goes wrong, and how long the slowest took; `python3 -B -m collection.tests.fuzz PROGRAM large` throws files
+of 16 MB. Some seeds are in the merge gate."""
 
 import contextlib
 import io
@@ -21,7 +21,9 @@ from .. import strings
 from ..command import main as collection
 from ..program import TOP
 
-SIGNS = list("4-x:→to=>[]{}\"'\\\t\n\r@＝＋ \u202e\ud800\u0000é✓") + ["[item=", "[color=red]", "<script>", "</script>", "&amp;"]
+SIGNS = list("4-x:→to=>[]{}\"'\\\t\n\r@＝＋ \u202e\ud800\u0000é✓") + [
+    "[item=", "[color=red]", "<script>", "</script>", "&amp;"
+]
 NAMES = ["transport-belt", "splitter", "underground-belt", "fast-splitter", "small-lamp", "inserter", "x" * 300, ""]
 NUMBERS = [0, 0.5, 1, 1.5, 2, -1, 1e300, -0.0, 10**400, None, True, "1", [], {}, 281479271677952, 562949953421312]
 MOST_SECONDS, MOST_BYTES = 10, 500 * 2**20
@@ -38,7 +40,9 @@ def value(chance, depth=0):
     if kind < 3:
         return (label(chance)[:50], chance.choice(NUMBERS), chance.choice([True, False, None]))[kind]
     many = range(chance.randrange(4))
-    return [value(chance, depth + 1) for _ in many] if kind == 3 else {label(chance)[:9]: value(chance, depth + 1) for _ in many}
+    return [value(chance, depth + 1) for _ in many] if kind == 3 else {
+        label(chance)[:9]: value(chance, depth + 1) for _ in many
+    }
 
 
 def entity(chance):
@@ -50,14 +54,26 @@ def entity(chance):
     if name == "underground-belt":
         found["type"] = chance.choice(("input", "output"))
     while chance.random() < 0.15:
-        keys = ["name", "position", "direction", "type", "control_behavior", "output_priority", "filter", "wires", label(chance)]
+        keys = [
+            "name",
+            "position",
+            "direction",
+            "type",
+            "control_behavior",
+            "output_priority",
+            "filter",
+            "wires",
+            label(chance),
+        ]
         found[chance.choice(keys)] = value(chance)
     return found
 
 
 def design(chance):
     """A design, or what stands in the place of one."""
-    told = {"item": "blueprint", "entities": [entity(chance) for _ in range(chance.randrange(12))], "label": label(chance)}
+    told = {
+        "item": "blueprint", "entities": [entity(chance) for _ in range(chance.randrange(12))], "label": label(chance)
+    }
     if chance.random() < 0.2:
         told[chance.choice(["entities", "label", "version", "description", "icons", "wires"])] = value(chance)
     return {chance.choice(["blueprint"] * 9 + ["deconstruction_planner"]): told, "index": chance.choice(NUMBERS)}
@@ -65,7 +81,10 @@ def design(chance):
 
 def book(chance, depth=0):
     """A book, some of them deep."""
-    inner = [design(chance) if depth > 3 or chance.random() < 0.7 else book(chance, depth + 1) for _ in range(chance.randrange(5))]
+    inner = [
+        design(chance) if depth > 3 or chance.random() < 0.7 else book(chance, depth + 1)
+        for _ in range(chance.randrange(5))
+    ]
     return {"blueprint_book": {"blueprints": inner, "label": label(chance)}, "index": chance.randrange(5)}
 
 
@@ -106,7 +125,9 @@ def large():
     yield "blanks", b" \n" * (size // 2)
     yield "a bomb", strings.deflate(b'{"blueprint":{"entities":[' + b" " * (30 * 2**20) + b"]}}").encode()
     yield "a larger bomb", strings.deflate(bytes(60 * 2**20)).encode()
-    yield "belts", opened + b",".join(b'{"name":"transport-belt","position":{"x":%d.5,"y":0.5}}' % at for at in range(280000)) + b"]}}"
+    yield "belts", opened + b",".join(
+        b'{"name":"transport-belt","position":{"x":%d.5,"y":0.5}}' % at for at in range(280000)
+    ) + b"]}}"
     yield "a description", b'{"blueprint":{"description":"' + b"[item=" * (size // 6) + b'","entities":[]}}'
     yield "members", b'{"blueprint":{' + b",".join(b'"%d":0' % at for at in range(size // 11)) + b"}}"
     yield "a net", b"net 1 1 0\n" + b"edge i0 o0\n" * (size // 11)
@@ -141,12 +162,25 @@ def throw_large(program):
         with tempfile.TemporaryDirectory() as folder:
             path, begin = Path(folder, "in.txt"), time.monotonic()
             path.write_bytes(data)
-            words = [sys.executable, "-B", "-m", "collection", str(path), "-o", str(Path(folder, "report")), "--program", program]
+            words = [
+                sys.executable,
+                "-B",
+                "-m",
+                "collection",
+                str(path),
+                "-o",
+                str(Path(folder, "report")),
+                "--program",
+                program,
+            ]
             ended = subprocess.run(words, cwd=TOP, capture_output=True, check=False)
             seconds, there = time.monotonic() - begin, Path(folder, "report", "index.html").is_file()
             most = resource.getrusage(resource.RUSAGE_CHILDREN).ru_maxrss // 1024
             said = ended.stderr.decode("utf-8", "replace").splitlines()[-1:] + ended.stdout.decode().splitlines()[-1:]
-            print(f"{name}: {seconds:.1f} s, {most} MB at most so far, status {ended.returncode}, {there}: {str(said)[:200]}")
+            print(
+                f"{name}: {seconds:.1f} s, {most} MB at most so far, status {ended.returncode}, {there}: "
+                f"{str(said)[:200]}"
+            )
 
 
 if __name__ == "__main__":

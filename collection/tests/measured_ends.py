@@ -1,5 +1,5 @@
-"""Measures the rule of ends on designs whose networks are known: the examples, and networks made at random that a program
-lays out, each trimmed to its splitters and each with one belt forgotten.
+"""Measures the rule of ends on designs whose networks are known: the examples, and networks made at random that a
+program lays out, each trimmed to its splitters and each with one belt forgotten.
 
     python3 -B -m collection.tests.measured_ends PROGRAM COUNT
 

@@ -1,4 +1,5 @@
-"""What others build on: results as JSON, two reports compared, what is expected of designs, and the tools for one design."""
+"""What others build on: results as JSON, two reports compared, what is expected of designs, and the tools for one
+design."""
 
 import json
 import subprocess
@@ -84,7 +85,12 @@ class Expected(Building):
     def test_a_status_of_their_own(self):
         cases = (
             (["--expect", "balanced,full"], "4 to 4", 0, None),
-            (["--expect", "unlimited"], "4 to 4", 3, "not as expected: 4 to 4: expected: unlimited, and the verdict is no"),
+            (
+                ["--expect", "unlimited"],
+                "4 to 4",
+                3,
+                "not as expected: 4 to 4: expected: unlimited, and the verdict is no",
+            ),
             (["--expect-labels"], "4 to 4 TU", 3, "its label says TU: unlimited, and the verdict is no"),
             (["--expect-labels"], "4 to 4, balanced", 0, None),
             (["--expect-labels"], "3 to 9", 3, "its label says 3 to 9, but its network is 4 to 4"),
@@ -116,7 +122,9 @@ class OneDesign(Building):
     def test_ends_are_chosen_as_in_a_report(self):
         tree = json.loads(trimming.trimmed((EXAMPLES / "tree-1-to-4.json").read_text()))
         program = ["--program", program_path()]
-        for label, words, ends in (("1 to 4", [], "1 to 4"), ("", [], "4 to 4"), ("1 to 4", ["--ends", "always"], "4 to 4")):
+        for label, words, ends in (
+            ("1 to 4", [], "1 to 4"), ("", [], "4 to 4"), ("1 to 4", ["--ends", "always"], "4 to 4")
+        ):
             tree["blueprint"]["label"] = label
             status, out, wrong = self.started("bare-ends", *program, *words, text=json.dumps(tree))
             self.assertEqual(status, 0, wrong)

@@ -98,7 +98,7 @@ class Started(Case):
         given = blueprint(belt(0, 0), label="über -").encode()
         status, out, wrong = self.start("collection", file, "-", word, "-o", "report", given=given)
         self.assertEqual((status, wrong), (0, ""))
-        self.assertIn("3 found, 3 with a network: 12 yes", out)
+        self.assertIn("3 found, 3 with a network: 18 yes", out)
         self.assertEqual({it["design"] for it in self.results()}, {"über -", "Ü 1→1", "→ file"})
         self.assertIn("Größe.txt", self.page())
         self.assertEqual({it["source"] for it in self.results()}, {"Größe.txt", "argument 3", "standard input"})

@@ -10,10 +10,11 @@ from . import Case, measured_ends, trimming
 
 HERE = Path(__file__).resolve().parent
 CASES = json.loads((HERE / "ends.json").read_text("utf-8"))
-"""Of each a name, a label, and the parts: kind, tier, direction, the lesser cell's x and y and, where a splitter prefers a
-side, those of its output and of its input, or a dash."""
+"""Of each a name, a label, and the parts: kind, tier, direction, the lesser cell's x and y and, where a splitter
+prefers a side, those of its output and of its input, or a dash."""
 LABELS = json.loads((HERE / "labels.json").read_text("utf-8"))
-"""Of each label the pairs, each with whether it may be a size; the claims; and the label with the game's marks as words."""
+"""Of each label the pairs, each with whether it may be a size; the claims; and the label with the game's marks as
+words."""
 
 
 def parts_of(told):
@@ -35,7 +36,9 @@ class Ends(Case):
             with self.subTest(name=it["name"], label=it["label"]):
                 told = ends.ends_of(parts_of(it["parts"]), (), labels.told(it["label"]))
                 expected = it["expected"]
-                self.assertEqual((told.status, list(map(list, told.choices))), (expected["status"], expected["choices"]))
+                self.assertEqual(
+                    (told.status, list(map(list, told.choices))), (expected["status"], expected["choices"])
+                )
                 self.assertEqual(list(map(list, told.gaps)), expected["gaps"])
                 self.assertEqual([list(told.stand), list(told.could)], [expected["stand"], expected["could"]])
                 statuses[told.status] += 1
@@ -52,7 +55,7 @@ class Ends(Case):
             for missing in measured_ends.with_one_forgotten(text, 5):
                 with self.subTest(name=name):
                     self.assertEqual(measured_ends.judged(missing, pair, truth)[:2], ("open", ends.GAP))
-        self.assertEqual(words, {"right": 35})
+        self.assertEqual(words, {"right": 37})
 
     def test_many_bare_halves_end_soon(self):
         rows = [f"splitter basic 0 {2 * x} {3 * y}" for x in range(32) for y in range(4)]

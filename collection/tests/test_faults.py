@@ -60,7 +60,7 @@ class Hostile(Page):
         status, _, wrong = run(*words, "--gather")
         self.assertEqual((status, wrong.count("what is kept of it can't be shown")), (1, 2))
         told = [(it["design"], it["verdict"]) for it in self.results()]
-        self.assertEqual([told.count((f"number {k}", "yes")) for k in range(3)], [4, 0, 4])
+        self.assertEqual([told.count((f"number {k}", "yes")) for k in range(3)], [6, 0, 6])
         self.assertEqual(told.count(("number 1", "failed")), 2)
         self.tags()
 
@@ -90,7 +90,8 @@ class Places(Case):
         self.assertEqual(len({alone, *others}), 6)
 
     def test_places_are_those_of_the_game(self):
-        entries = '{"index":4,%s,{"blueprint_book":{"blueprints":[{"index":2,%s]},"index":9},{"index":-1,%s,{"index":true,%s'
+        entries = '{"index":4,%s,{"blueprint_book":{"blueprints":[{"index":2,%s]},"index":9},{"index":-1,%s,'
+        entries += '{"index":true,%s'
         text = '{"blueprint_book":{"blueprints":[' + entries.replace("%s", self.ENTRY[1:]) + "]}}"
         found, fault = books.entries(text)
         self.assertEqual((fault, [it.place() for it in found]), (None, [[4], [9, 2], [3], [4]]))
@@ -105,7 +106,7 @@ class Places(Case):
         self.write("book.json", book % (3, two, 4, one))
         run(*words)
         self.assertEqual(len(self.log()), before)
-        self.assertEqual([(it["design"], it["place"]) for it in self.results()[::4]], [("d1", "3"), ("d0", "4")])
+        self.assertEqual([(it["design"], it["place"]) for it in self.results()[::6]], [("d1", "3"), ("d0", "4")])
 
 
 class Folders(Case):
@@ -147,10 +148,11 @@ class Programs(Case):
         for status in (0, 4, 10):
             with self.subTest(status=status):
                 told = self.told(begin % status, "--smaller")
-                self.assertEqual(told, (1, [("failed", nothing.format(status))] * 5))
+                self.assertEqual(told, (1, [("failed", nothing.format(status))] * 7))
 
     def test_times_are_told_apart(self):
-        slow = 'case $1 in recover) printf "net 1 1 0\\nedge i0 o0\\nend\\n";; *) sleep 1.5; echo spent 1; exit 4;; esac'
+        slow = 'case $1 in recover) printf "net 1 1 0\\nedge i0 o0\\nend\\n";; '
+        slow += "*) sleep 1.5; echo spent 1; exit 4;; esac"
         self.told(slow)
         for it in self.results():
             self.assertLess(float(it["processor_seconds"]), 1)
@@ -164,7 +166,12 @@ class Programs(Case):
         cases = {"500": "ends at any side", "--learnt500": "each end at its own side"}
         for words, sides in cases.items():
             with self.subTest(sides=sides):
-                self.told(f"{net} smallest{words} | smallest{words.replace('500', '2000')}) {found}", "--smaller", "--seconds", 4)
+                self.told(
+                    f"{net} smallest{words} | smallest{words.replace('500', '2000')}) {found}",
+                    "--smaller",
+                    "--seconds",
+                    4,
+                )
                 (line,) = [it for it in self.results() if it["property"] == "smaller"]
                 self.assertEqual((line["verdict"], line["why"]), ("found", f"1 x 1, {sides}"))
                 self.assertGreater(float(line["clock_seconds"]), 1)
@@ -207,7 +214,9 @@ class Mutated(Case):
     def test_damaged_books_are_told_of(self):
         names = ("express-tap-1-to-3", "overflow-1-to-2", "splitter-on-splitter-2-to-3")
         entries = [{"index": k, **json.loads((EXAMPLES / f"{it}.json").read_text())} for k, it in enumerate(names)]
-        chance, whole = random.Random(49), json.dumps({"blueprint_book": {"blueprints": entries, "label": "b"}}).encode()
+        chance, whole = random.Random(49), json.dumps(
+            {"blueprint_book": {"blueprints": entries, "label": "b"}}
+        ).encode()
         for number in range(350):
             data = bytearray(whole)
             for _ in range(chance.choice((1, 2, 8))):
@@ -237,8 +246,8 @@ class Found(Page):
         self.write("in/4 to 4.json", '{"blueprint_book":{"label":"Eight","blueprints":[%s]}}' % entry)
         run(self.folder / "in", "-o", self.report, "--program", self.fake())
         self.tags()
-        words = "[item=belt] one basic balanced:yes drawn-evenly:yes unlimited:yes full:yes output-balanced:yes "
-        words += "input-balanced:yes equal-drain:yes tu:yes throughput-unlimited:yes"
+        words = "[item=belt] one basic balanced:yes drawn-evenly:yes unlimited:yes full:yes fair:yes drawn-fairly:yes "
+        words += "universal:yes output-balanced:yes input-balanced:yes equal-drain:yes tu:yes throughput-unlimited:yes"
         told = f'<tr data-words="{words}" data-around=" in/4 to 4.json, eight" data-ends="1-1" data-tiers="basic"'
         for text in (told, ">belt one<", "About &lt;b&gt;it&lt;/b&gt;", ' data-page="d-item-belt-one"'):
             self.assertIn(text, self.page())

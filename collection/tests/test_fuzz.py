@@ -33,6 +33,13 @@ class Hostile(Case):
         text = '{"blueprint_book":{"blueprints":[%s]}}' % ",".join(["{}"] * 2001)
         found, fault = entries(text)
         self.assertEqual((len(found), fault), (2000, "more than 2000 designs stand here"))
+        for most in (1999, 2000):
+            found, fault = entries('{"blueprint_book":{"blueprints":[%s]}}' % ",".join(["{}"] * most))
+            self.assertEqual((len(found), fault), (most, None))
+        string = strings.deflate(b'{"blueprint":{}}')
+        for count, told in ((2000, [None]), (2001, [None, "more than 2000 designs stand here"])):
+            found = strings.find("\n".join([string] * count))
+            self.assertEqual((len(found), sorted({it.trouble for it in found}, key=str)), (count, told))
         self.assertEqual(len(strings.find("0e" + "A" * 30 + "! ")), 1)
 
     def test_what_a_spreadsheet_takes_for_a_formula(self):

@@ -58,7 +58,9 @@ class Networks(Case):
     def test_small_layouts_show_the_networks_of_the_large_ones(self):
         for small, large in (("loop-5-to-5-in-9x11", 5), ("loop-6-to-6-in-9x10", 6), ("loop-7-to-7-in-9x9", 7)):
             one, other = (
-                states.read_net((EXAMPLES / f"{it}.net").read_text()).edges for it in (small, f"loop-{large}-to-{large}")
+                states.read_net((EXAMPLES / f"{it}.net").read_text()).edges for it in (
+                    small, f"loop-{large}-to-{large}"
+                )
             )
             self.assertTrue(networks.is_renaming(networks.renaming(one, other), one, other), small)
 

@@ -69,7 +69,7 @@ class Labels(Case):
 class Examples(Case):
     def test_trimmed_to_their_splitters(self):
         found = list(trimming.designs())
-        self.assertEqual(len(found), 35)
+        self.assertEqual(len(found), 37)
         for name, text in found:
             with self.subTest(name=name):
                 label = name.split("/")[-1]
@@ -192,12 +192,26 @@ class Openings(Case):
             self.assertEqual(it.answer.splitlines()[0], "net 3 3 1")
             self.assertEqual([line[:8] for line in it.answer.splitlines() if line.startswith("give")], ["give s0 "])
 
+    def test_ends_are_led_out_along_paths_where_no_straight_way_is_free(self):
+        pole = {"name": "small-electric-pole", "position": {"x": 1.5, "y": -1.5}}
+        text = blueprint(splitter(0, 0), belt(0, 1), belt(0, -1), belt(2, -3))
+        opening = openings.Opening(text, design.bystanders(blueprint(pole, belt(9, 9))), recover)
+        it = openings.opened(opening, "label", "3 to 3")
+        self.assertEqual((it.ends, it.after, it.is_marked, it.belts), (ends.ALL, (3, 3), False, 5))
+        parts = design.read(it.text).parts[4:]
+        self.assertEqual(
+            sorted((*part.cells, part.direction) for part in parts),
+            [((1, -1), 1), ((1, 1), 0), ((1, 2), 0), ((2, -1), 1), ((3, -1), 1)],
+        )
+
     def test_what_recover_says_is_held_against_marked_ends(self):
         pole = {"name": "small-electric-pole", "position": {"x": 1.5, "y": -0.5}}
         text = blueprint(splitter(0, 0), belt(0, 1), belt(0, -1), belt(2, -3))
 
         def lying(asked):
-            return recover(asked).replace("edge i0 s0\n", "edge i0 s0 2\n") if asked.startswith("net") else recover(asked)
+            return recover(asked).replace("edge i0 s0\n", "edge i0 s0 2\n") if asked.startswith("net") else recover(
+                asked
+            )
 
         opening = openings.Opening(text, design.bystanders(blueprint(pole, belt(9, 9))), lying)
         self.assertEqual(openings.opened(opening, "label", "3 to 3").ends, ends.NONE)
@@ -241,11 +255,11 @@ class Openings(Case):
             opened(blueprint(belt(0, 0), belt(0, 0)))
 
     def test_no_more_entities_than_the_program_takes(self):
-        lane = [belt(x, 0, 2) for x in range(2000)]
-        text = blueprint(*lane, splitter(1000, 2, 2), splitter(1000, 5, 2))
+        lanes = [belt(x, -10 * y, 2) for y in range(7) for x in range(2000)]
+        text = blueprint(*lanes, splitter(1000, 2, 2), splitter(1000, 5, 2))
         it = opened(text, mode="always")
         self.assertEqual((it.belts, it.opened), (2000, [("output", 1000, 2), ("output", 1000, 3)]))
-        self.assertEqual({why for _, why in it.unopened}, {"the design would have more than 4096 entities"})
+        self.assertEqual({why for _, why in it.unopened}, {"the design would have more than 16384 entities"})
 
 
 class Cleaning(Case):
@@ -311,7 +325,9 @@ class Cleaning(Case):
         others = {"icons": [{"index": 1}], "description": "d", "snap-to-grid": {"x": 2, "y": 2}}
         schedules = [{"locomotives": [2], "schedule": []}, {"locomotives": [2, 7]}, {"locomotives": [7]}]
         more = {"wires": wires, "schedules": schedules, "stock_connections": [{"stock": 2}, {"stock": 7}], **others}
-        told = json.loads(cleaning.cleaned(blueprint(belt(0, 0, **reads), lamp, belt(0, -1, **only), **more)).text)["blueprint"]
+        told = json.loads(cleaning.cleaned(blueprint(belt(0, 0, **reads), lamp, belt(0, -1, **only), **more)).text)[
+            "blueprint"
+        ]
         self.assertEqual(told["wires"], [[1, 1, 3, 1]])
         self.assertEqual(told["schedules"], [{"locomotives": [7]}, {"locomotives": [7]}])
         self.assertEqual(told["stock_connections"], [{"stock": 7}])

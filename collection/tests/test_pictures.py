@@ -61,7 +61,7 @@ class Parts(Case):
             blueprint({"name": "splitter"}): "no entity has a position",
             '{"blueprint":{"entities":[{"name":"splitter","position":{"x":1e400,"y":0}}]}}': "no entity has a position",
             blueprint(belt(0, 0), belt(0, 2048)): "more than 2048 tiles",
-            blueprint(*(belt(x, 0) for x in range(4097))): "more than 4096",
+            blueprint(*(belt(x, 0) for x in range(16385))): "more than 16384",
         }
         for text, why in cases.items():
             with self.subTest(text=text[:60]), self.assertRaisesRegex(design.Unreadable, why):

@@ -1,7 +1,9 @@
-"""Designs as they are published: trimmed to their splitters, they are judged as with their belts, or it is told why not."""
+"""Designs as they are published: trimmed to their splitters, they are judged as with their belts, or it is told why
+not."""
 
 import json
 
+from .. import states
 from . import EXAMPLES, Case, run, test_ends, trimming
 from .test_openings import text_of
 
@@ -33,8 +35,8 @@ class Trimmed(Case):
         for label, name, _ in found:
             with self.subTest(name=name):
                 self.assertEqual(trimmed[label], whole[label])
-                self.assertEqual(len(whole[label]), 4)
-        self.assertEqual(len(found), 35)
+                self.assertEqual(len(whole[label]), len(states.PROPERTIES))
+        self.assertEqual(len(found), 37)
 
     def test_what_holds_of_all_choices_is_told_and_the_rest_is_open(self):
         case = next(it for it in test_ends.CASES if it["expected"]["status"] == "several")
@@ -51,9 +53,13 @@ class Trimmed(Case):
             self.assertEqual(len(choices), len(case["expected"]["choices"]))
             for prop, it in told.items():
                 verdicts = {"yes" if (one / f"yes-{prop}.txt").exists() else "no" for one in choices}
-                self.assertTrue(all((one / f"not-{prop}.txt").exists() != (one / f"yes-{prop}.txt").exists() for one in choices))
+                self.assertTrue(
+                    all((one / f"not-{prop}.txt").exists() != (one / f"yes-{prop}.txt").exists() for one in choices)
+                )
                 self.assertEqual(it["verdict"], verdicts.pop() if len(verdicts) == 1 else "halves")
-                said = "whichever halves are meant" if it["verdict"] != "halves" else "it depends on which halves are meant"
+                said = "whichever halves are meant" if it[
+                    "verdict"
+                ] != "halves" else "it depends on which halves are meant"
                 self.assertIn(said, it["why"])
             self.assertIn("Which halves are meant?", self.page())
             self.assertEqual(self.page().count('class="choice"'), len(choices))
@@ -63,7 +69,9 @@ class Trimmed(Case):
 
     def test_of_what_is_not_clear_nothing_is_decided(self):
         text = trimming.trimmed((EXAMPLES / "tree-1-to-4.json").read_text())
-        for label, said in (("3 to 7", "its label says 3 to 7, but its network is 0 to 0"), ("1 to 1", "no choice of bare halves")):
+        for label, said in (
+            ("3 to 7", "its label says 3 to 7, but its network is 0 to 0"), ("1 to 1", "no choice of bare halves")
+        ):
             root = json.loads(text)
             root["blueprint"]["label"] = label
             self.write("in.json", json.dumps(root))

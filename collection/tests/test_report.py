@@ -1,5 +1,6 @@
 """The report, from the real program's answers."""
 
+import json
 from html.parser import HTMLParser
 
 from .. import files, refusals, states
@@ -62,7 +63,7 @@ class Report(Page):
         self.assertNotIn("://", self.page())
         self.assertLessEqual({"svg", "use", "path", "table", "article", "script"}, found.seen)
         told = {(it["design"], it["property"]): it for it in self.results()}
-        self.assertEqual(len(told), 16 * 4 + 2)
+        self.assertEqual(len(told), 16 * len(states.PROPERTIES) + 2)
         expected = {
             ("Balancers/4 to 4, throughput unlimited", "unlimited"): "yes",
             ("Balancers/8 to 8", "unlimited"): "no",
@@ -80,10 +81,47 @@ class Report(Page):
         self.assertIn("entity 5 (splitter at tiles (0, 1) and (1, 1))", why)
         for (design, prop), it in told.items():
             if it["verdict"] in ("yes", "no"):
-                self.assertEqual(self.listed(design)[prop], it["verdict"])
+                self.assertEqual(self.listed(design).get(prop, it["verdict"]), it["verdict"])
             elif prop == "-":
                 self.assertEqual(self.listed(design)["balanced"], f"`{it['why'].split(':')[0]}`")
         self.assertEqual(self.page().count('class="breaking"'), sum(it["verdict"] == "no" for it in told.values()))
+
+    def test_what_is_universal_is_told_everywhere(self):
+        for name in ("splitter-2-to-2.net", "butterfly-4-to-4.net", "merge-3-to-1.net"):
+            self.write(f"in/{name}", (EXAMPLES / name).read_bytes())
+        self.write("in/claimed universal.net", (EXAMPLES / "butterfly-4-to-4.net").read_text() + "\n")
+        status, _, wrong = run(self.folder / "in", "-o", self.report, "--jobs", "1")
+        self.assertEqual(status, 0)
+        fails = "output balanced whichever outputs are blocked, input balanced whichever inputs run dry and throughput "
+        fails += "unlimited"
+        self.assertIn(f"claimed universal: label says universal, and it isn't {fails}", wrong)
+        told = {it["design"]: it["universal"] for it in self.results()}
+        self.assertEqual([told[it] for it in ("splitter-2-to-2", "butterfly-4-to-4")], ["yes", "no"])
+        found = {
+            it["name"]: it["universal"] for it in json.loads((self.report / "results.json").read_text())["designs"]
+        }
+        self.assertEqual(found["splitter-2-to-2"], {"verdict": "yes", "fails": []})
+        self.assertEqual(found["butterfly-4-to-4"], {"verdict": "no", "fails": ["fair", "drawn-fairly", "unlimited"]})
+        page = self.page()
+        self.tags()
+        for words in (
+            "✓ universal", "✕ not universal: not fair, drawn-fairly and unlimited", "universal:yes", ">universal</th>"
+        ):
+            self.assertIn(words, page)
+
+    def test_properties_are_chosen(self):
+        words = EXAMPLES / "butterfly-4-to-4.net", "-o", self.report, "--jobs", "1"
+        self.assertEqual(run(*words, "--properties", "full,balanced")[0], 0)
+        self.assertEqual([it["property"] for it in self.results()], ["balanced", "full"])
+        for told in ("universal", "drawn-fairly"):
+            self.assertNotIn(told, self.page())
+        # What has to hold is decided too.
+        self.assertEqual(run(*words, "--properties", "balanced", "--expect", "fair")[0], 3)
+        self.assertEqual([it["property"] for it in self.results()], ["balanced", "fair"])
+        self.assertEqual(run(*words, "--gather", "--properties", "fair")[0], 0)
+        self.assertEqual([it["verdict"] for it in self.results()], ["no"])
+        with self.assertRaises(SystemExit):
+            run(*words, "--properties", "fairness")
 
     def test_names_are_only_text(self):
         name = '"><script>alert(1)</script>&amp;\u202e\x07'
@@ -93,13 +131,15 @@ class Report(Page):
         self.tags()
         self.assertEqual(self.page().count("<script>"), 1)
         self.assertNotIn("\u202e", self.page())
-        self.assertEqual({line.count("\t") for line in (self.report / "results.tsv").read_text().splitlines()}, {18})
+        self.assertEqual({line.count("\t") for line in (self.report / "results.tsv").read_text().splitlines()}, {19})
 
     def test_a_network_text_has_no_picture_and_a_state_in_words(self):
         run(EXAMPLES / "chain-1-to-3.net", "-o", self.report, "--jobs", "1")
         self.tags()
         self.assertIn("A network text has no parts", self.page())
-        self.assertIn("The outputs carry 1/2, 1/4, 1/4 belts, and should all carry the same: input i0 full; ", self.page())
+        self.assertIn(
+            "The outputs carry 1/2, 1/4, 1/4 belts, and should all carry the same: input i0 full; ", self.page()
+        )
 
     def test_an_empty_collection(self):
         self.write("in/none", "")
@@ -154,7 +194,7 @@ class Published(Case):
             status, _, lines = self.told(*words)
             self.assertEqual((status, lines["tree 1 to 4"]["ends"]), (0, ends))
             self.assertEqual((kept / "original.json").exists(), ends != "")
-            self.assertEqual(len(list(kept.glob("*-*.txt"))), 4 if ends else 0)
+            self.assertEqual(len(list(kept.glob("*-*.txt"))), 6 if ends else 0)
         page, changed = self.page(), (kept / "record.json").stat().st_mtime_ns
         self.told("--bare-ends", "always")
         self.assertEqual((self.page(), (kept / "record.json").stat().st_mtime_ns), (page, changed))
@@ -166,7 +206,9 @@ class Published(Case):
         _, wrong, lines = self.told()
         self.assertEqual(wrong, "collection: tree: 3 bare halves stay shut: inputs at (0, 1), (3, 1), (2, 3)\n")
         self.assertEqual(lines["tree"]["bare"], "inputs at (0, 1), (3, 1), (2, 3)")
-        for text in ("3 bare halves stay shut: inputs at (0, 1)", '<path class="hole"', "hollow: a half to which no belt leads"):
+        for text in (
+            "3 bare halves stay shut: inputs at (0, 1)", '<path class="hole"', "hollow: a half to which no belt leads"
+        ):
             self.assertIn(text, self.page())
 
     def test_a_belt_that_was_forgotten_is_a_warning(self):

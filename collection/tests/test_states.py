@@ -9,14 +9,18 @@ FAN = "net 2 2 1\nedge i0 s0 {0}\nedge i1 s0 {0}\nedge s0 o0 {0}\nedge s0 o1 {0}
 
 def shown(prop, load, room, flow, tiers=(), cap=1):
     """What is said of a state of a splitter with two inputs and two outputs."""
-    net, state = states.read_net(FAN.format(cap)), f"no {prop}\nload {load}\nroom {room}\nflow {flow}\nmark f f f f\nend\n"
+    net, state = states.read_net(
+        FAN.format(cap)
+    ), f"no {prop}\nload {load}\nroom {room}\nflow {flow}\nmark f f f f\nend\n"
     return states.shown(prop, net, states.read_state(state), tiers)
 
 
 class Shown(unittest.TestCase):
     def test_how_many_belts_come_through(self):
         told = shown("unlimited", "1 1", "1 1", "1 1/2 1 1/2", ("fast",))
-        self.assertEqual(told, "1 1/2 of 2 belts come through, 45 of 60 items a second: all inputs full; all outputs open.")
+        self.assertEqual(
+            told, "1 1/2 of 2 belts come through, 45 of 60 items a second: all inputs full; all outputs open."
+        )
         told = shown("unlimited", "1 0", "0 1", "1/3 0 0 1/3", ("turbo",))
         ends = "input i0 full, the others empty; output o0 blocked, the others open"
         self.assertEqual(told, f"1/3 of 1 belt comes through, 20 of 60 items a second: {ends}.")
@@ -31,6 +35,24 @@ class Shown(unittest.TestCase):
         told = shown("drawn-evenly", "1 1", "1/2 0", "1/2 0 1/2 0")
         ends = "all inputs full; outputs o0 open for 1/2, o1 blocked"
         self.assertEqual(told, f"The inputs give 1/2, 0 belts, and should all give the same: {ends}.")
+
+    def test_who_gets_more_where_outputs_are_blocked(self):
+        told = shown("fair", "1 1", "1/2 1", "3/4 0 1/2 1/4", ("fast",))
+        ends = "all inputs full; output o0 open for 1/2, the others open"
+        self.assertEqual(
+            told,
+            f"Output o0 carries 1/2 belts and o1, which would take 1, only 1/4 (15 and 7.5 items a second): {ends}.",
+        )
+        told = shown("drawn-fairly", "1 1/2", "1 0", "1 1/3 1 1/3")
+        ends = "inputs i0 full, i1 with 1/2; output o1 blocked, the others open"
+        self.assertEqual(told, f"Input i0 gives 1 belt and i1, which has 1/2, only 1/3: {ends}.")
+
+    def test_which_ends_have_less_and_more(self):
+        net = states.read_net(FAN.format(1))
+        state = states.read_state("no fair\nload 1 1\nroom 1/2 1\nflow 3/4 0 1/2 1/4\nmark f f f f\nend\n")
+        self.assertEqual(states.apart("fair", net, state), {"o1": "less", "o0": "more"})
+        self.assertEqual(states.apart("drawn-fairly", net, state), {"i1": "less", "i0": "more"})
+        self.assertEqual(states.apart("balanced", net, state), {})
 
     def test_mixed_tiers_are_told_in_basic_belts(self):
         told = shown("unlimited", "2 1", "0 2", "1 1 0 2", ("basic", "fast"), cap=2)

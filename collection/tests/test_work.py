@@ -13,6 +13,7 @@ from ..files import replacing
 from . import EXAMPLES, TOP, Case, belt, blueprint, run, test_report
 
 DECISIONS = {f"decide {prop}" for prop in states.PROPERTIES}
+ALL = len(DECISIONS)
 
 
 class Files(Case):
@@ -59,33 +60,42 @@ class Resuming(Case):
         for text in ("{", "[]", '{"decided": []}', "{}", record.read_text().replace('"yes"', '"sure"')):
             record.write_text(text)
             self.assertEqual(run(*self.words())[0], 0)
-            self.assertEqual([it["verdict"] for it in self.results()], ["yes"] * 4)
+            self.assertEqual([it["verdict"] for it in self.results()], ["yes"] * ALL)
             self.assertEqual([it.name for it in (self.report / "designs").iterdir()], ["one"])
 
     def test_another_design_or_program_is_another_thing(self):
         run(*self.words())
         self.design.write_text(blueprint(belt(0, 1)))
         run(*self.words())
-        self.assertEqual(len(self.decisions()), 8)
+        self.assertEqual(len(self.decisions()), 2 * ALL)
         run(*self.words(how="another"))
-        self.assertEqual(len(self.decisions()), 12)
+        self.assertEqual(len(self.decisions()), 3 * ALL)
 
     def test_giving_up_stands_until_the_limits_are_others(self):
         run(*self.words(how="spent"))
         told = {(it["verdict"], it["why"], it["steps"]) for it in self.results()}
         self.assertEqual(told, {("spent", "the log is full: 1 steps", "1")})
         run(*self.words(how="spent"))
-        self.assertEqual(len(self.decisions()), 4)
+        self.assertEqual(len(self.decisions()), ALL)
         run(*self.words("--learnt", 5, "--pivots", 6, how="spent"))
-        self.assertEqual(len(self.decisions()), 8)
+        self.assertEqual(len(self.decisions()), 2 * ALL)
         self.assertIn("decide full --learnt 5 --pivots 6", self.decisions())
+
+    def test_what_an_earlier_program_doesnt_know_is_told_and_no_failure(self):
+        status, out, wrong = run(*self.words(how="earlier"))
+        self.assertEqual((status, "4 yes, 2 not known" in out), (0, True), out)
+        self.assertIn("collection: the program doesn't know fair, drawn-fairly\n", wrong)
+        told = {it["property"]: (it["verdict"], it["why"]) for it in self.results()}
+        self.assertEqual(told["fair"], ("unknown", "the program doesn't know this property"))
+        for column in ("fair", "drawn-fairly", "universal"):
+            self.assertNotIn(f">{column}<", self.page())
 
     def test_a_renamed_design_keeps_its_folder(self):
         run(*self.words())
         self.design = self.design.rename(self.folder / "other.json")
         run(*self.words())
         self.assertEqual([it.name for it in (self.report / "designs").iterdir()], ["one"])
-        self.assertEqual((len(self.decisions()), self.results()[0]["design"]), (4, "other"))
+        self.assertEqual((len(self.decisions()), self.results()[0]["design"]), (ALL, "other"))
 
     def test_two_designs_of_one_name_and_one_design_twice(self):
         self.write("in/a/4 to 4.json", blueprint(belt(0, 0), label="<b>same</b>"))
@@ -94,7 +104,7 @@ class Resuming(Case):
         self.design = self.folder / "in"
         run(*self.words())
         self.assertEqual(sorted(it.name for it in (self.report / "designs").iterdir()), ["b-same-b", "b-same-b-2"])
-        self.assertEqual((len(self.decisions()), len(self.results())), (8, 12))
+        self.assertEqual((len(self.decisions()), len(self.results())), (2 * ALL, 3 * ALL))
         self.assertNotIn("<b>same", self.page())
         self.assertIn("the same design as", self.page())
 
@@ -103,7 +113,9 @@ class Resuming(Case):
         self.assertEqual(status, 1)
         told = {it["property"]: (it["verdict"], it["why"]) for it in self.results()}
         self.assertEqual(told["full"], ("failed", "the program was ended by signal 9"))
-        self.assertEqual([verdict for verdict, _ in told.values()], ["yes", "yes", "yes", "failed"])
+        self.assertEqual(
+            [verdict for verdict, _ in told.values()], ["failed" if it == "full" else "yes" for it in states.PROPERTIES]
+        )
         before = len(self.log())
         run(*self.words(how="killed"))
         self.assertEqual([it for it in self.log()[before:] if it.startswith("decide")], ["decide full"])
@@ -201,7 +213,7 @@ class Resuming(Case):
         self.assertEqual((full.returncode, "the report can't be written" in full.stderr), (1, True), full.stderr)
         self.assertEqual((self.page(), self.results(), self.left_undone()), (page, table, []))
         self.assertEqual(run(*self.words())[0], 0)
-        self.assertEqual([it["verdict"] for it in self.results()], ["yes"] * 8)
+        self.assertEqual([it["verdict"] for it in self.results()], ["yes"] * 2 * ALL)
 
     def test_nothing_is_written_elsewhere(self):
         names = ("../../up", "/etc/x", "a\x00b", "..", "<i>")
@@ -213,7 +225,7 @@ class Resuming(Case):
         new = {it for it in self.folder.rglob("*")} - before - {self.folder / "log"}
         self.assertTrue(all(it == self.report or self.report in it.parents for it in new))
         self.assertEqual(len(list((self.report / "designs").iterdir())), len(names))
-        self.assertEqual(len(self.results()), 4 * len(names))
+        self.assertEqual(len(self.results()), ALL * len(names))
 
 
 class Smaller(Case):
@@ -274,15 +286,40 @@ class Smaller(Case):
         self.run_on()
         self.assertEqual(len(self.searches()), 1)
 
+    def test_ends_are_laid_out_side_by_side_where_this_is_asked_for(self):
+        self.assertEqual(self.run_on("--side-by-side"), 0)
+        searches = [it for it in self.searches() if "160" not in it]
+        self.assertEqual(searches, ["smallest --found --most 1x16 --tier fast"])
+        self.assertEqual(self.told(), ("found", "1 x 1, ends side by side", "designs/one/smaller.json"))
+        for text in (
+            "A layout with ends side by side",
+            "Its inputs stand side by side at the south, and its outputs at the north.",
+        ):
+            self.assertIn(text, self.page())
+        count = len(self.searches())
+        self.assertEqual((self.run_on("--side-by-side"), len(self.searches())), (0, count))
+        self.assertEqual(self.run_on("--side-by-side", "--width", 3), 0)
+        self.assertEqual(self.searches()[-1], "smallest --found --most 3x160 --tier fast")
+        self.run_on("--side-by-side", how="")
+        self.assertEqual(
+            [it for it in self.searches() if "x16 " in it][-2:],
+            [f"smallest --found --most {it}x16 --tier fast" for it in (1, 16)],
+        )
+
     def test_each_failure_is_a_line(self):
         cases = {
             "": (
                 0,
                 "none",
-                "none was found in 7 steps with each end at its own side, and none was found in 7 steps with ends at any",
+                "none was found in 7 steps with each end at its own side, and none was found in 7 steps with ends at "
+                "any",
             ),
-            "refused": (0, "refused", "refused 45 Cap: a layout is looked for of networks in which each edge carries one full "
-            "belt, and of this one an edge doesn't"),
+            "refused": (
+                0,
+                "refused",
+                "refused 45 Cap: a layout is looked for of networks in which each edge carries one full belt, and of "
+                "this one an edge doesn't",
+            ),
             "killed": (1, "failed", "the program was ended by signal 9"),
             "other": (1, "failed", "what was found shows another network: 'net 2 2 0\\n'"),
         }

@@ -1,5 +1,5 @@
-"""Tests of the page. python3 -B -m unittest discover -s page/tests -t . runs them; those that run its scripts want node, and are
-skipped where it isn't there. None of them needs a browser: page/look does."""
+"""Tests of the page. python3 -B -m unittest discover -s page/tests -t . runs them; those that run its scripts want
+node, and are skipped where it isn't there. None of them needs a browser: page/look does."""
 
 import os
 import shutil
@@ -22,11 +22,14 @@ needs_node = unittest.skipUnless(NODE, "the command node isn't there, so the pag
 
 
 def page_path():
-    """The page that is tested: the one beside the program that bin/beltproof starts, or beside the same one in out/, or none."""
+    """The page that is tested: the one beside the program that bin/beltproof starts, or beside the same one in out/, or
+    none."""
     if told := os.environ.get("BELTPROOF_PAGE"):
         return Path(told)
     program = Path(program_path())
-    others = [it for it in (program, TOP / "out" / program.name) if it.is_file() and it.read_bytes() == program.read_bytes()]
+    others = [
+        it for it in (program, TOP / "out" / program.name) if it.is_file() and it.read_bytes() == program.read_bytes()
+    ]
     return next((it.with_name("beltproof.html") for it in others if it.with_name("beltproof.html").is_file()), None)
 
 
@@ -35,7 +38,9 @@ def run_scripts(names, driver, data=b"", seconds=600):
     with tempfile.TemporaryDirectory() as folder:
         path = Path(folder, "driver.cjs")
         path.write_text(f"{sheet.scripts(names)}\n{driver}", "utf-8")
-        ended = subprocess.run([NODE, path], input=data, stdout=subprocess.PIPE, stderr=subprocess.PIPE, timeout=seconds, check=False)
+        ended = subprocess.run(
+            [NODE, path], input=data, stdout=subprocess.PIPE, stderr=subprocess.PIPE, timeout=seconds, check=False
+        )
     if ended.returncode:
         raise AssertionError(ended.stderr.decode("utf-8", "replace")[-3000:])
     return ended.stdout

@@ -22,15 +22,16 @@ const asked = JSON.parse(process.argv[4] ? fs.readFileSync(process.argv[4], "utf
 const told = asked.map(({ words, at, length }) => {
   const ended = answer(program, { words, input: new Uint8Array(all.buffer, all.byteOffset + at, length) });
   const digest = ended.written ? crypto.createHash("sha256").update(ended.written).digest("hex") : "";
-  return { status: ended.status, trouble: ended.trouble, why: ended.why, digest, seconds: ended.seconds, memory: ended.memory };
+  const { status, trouble, why, seconds, memory } = ended;
+  return { status, trouble, why, digest, seconds, memory };
 });
 fs.writeSync(1, JSON.stringify(told));
 """
 
 
 def by_page(module, cases, seconds=1800):
-    """How the page's program ends in each case, which is words and bytes: its status, the digest of what it wrote, or what
-    went wrong."""
+    """How the page's program ends in each case, which is words and bytes: its status, the digest of what it wrote, or
+    what went wrong."""
     with tempfile.TemporaryDirectory() as name:
         folder = Path(name)
         (folder / "module").write_bytes(module)
@@ -51,7 +52,9 @@ def by_page(module, cases, seconds=1800):
 
 def by_program(program, words, data):
     """The same of the program on this machine: its status, and the digest of what it wrote."""
-    ended = subprocess.run([program, *words], input=data, stdout=subprocess.PIPE, stderr=subprocess.DEVNULL, check=False)
+    ended = subprocess.run(
+        [program, *words], input=data, stdout=subprocess.PIPE, stderr=subprocess.DEVNULL, check=False
+    )
     return ended.returncode, hashlib.sha256(ended.stdout).hexdigest()
 
 
@@ -69,7 +72,8 @@ def with_memory(module, pages):
 
 
 def with_stack(module, length):
-    """The module with a stack of so many bytes: the first of its globals, a number of 64 bits, tells where it begins."""
+    """The module with a stack of so many bytes: the first of its globals, a number of 64 bits, tells where it
+    begins."""
     parts = [lower.MAGIC]
     for number, data in lower.sections(module):
         if number == GLOBALS:

@@ -1,5 +1,5 @@
-"""A whole book, decided in lanes as the page does it: the same table as the report's, certificates that the program wrote, a stop
-after which it goes on, and a time that ends."""
+"""A whole book, decided in lanes as the page does it: the same table as the report's, certificates that the program
+wrote, a stop after which it goes on, and a time that ends."""
 
 import csv
 import io
@@ -16,7 +16,10 @@ from collection.tests import program_path
 
 from . import EXAMPLES, TOP, needs_node, run_scripts
 
-NAMES = "strings words books design trace picture states refusals entities links rigs cleaning labels ends openings inputs runs sentences judging saving lanes".split()
+NAMES = (
+    "strings words books design trace picture states refusals entities links rigs cleaning labels ends leading openings"
+    " inputs runs sentences judging networks saving lanes"
+).split()
 DRIVER = """
 const fs = require("fs");
 const { spawn } = require("child_process");
@@ -38,7 +41,8 @@ const program = {
       child.on("close", (status) => {
         now -= 1;
         const seconds = (performance.now() - began) / 1000;
-        resolve(trouble ? { words, trouble, seconds } : { words, status, written: new Uint8Array(Buffer.concat(parts)), seconds });
+        if (trouble) resolve({ words, trouble, seconds });
+        else resolve({ words, status, written: new Uint8Array(Buffer.concat(parts)), seconds });
       });
     });
     const stop = (why = "stopped") => {
@@ -49,7 +53,10 @@ const program = {
   },
 };
 const main = async () => {
-  const rowsOf = async () => (await designsIn(new TextEncoder().encode(book), "book")).map((it, at) => new Entry(it, at + 1));
+  const rowsOf = async () => {
+    const designs = await designsIn(new TextEncoder().encode(book), "book");
+    return designs.map((it, at) => new Entry(it, at + 1));
+  };
   const rows = await rowsOf();
   await new Lanes(program, rows, { lanes: 3 }).go();
   const asked = begun;
@@ -104,18 +111,33 @@ class Book(unittest.TestCase):
 
     def test_the_table_is_that_of_the_report(self):
         with tempfile.TemporaryDirectory() as folder:
-            words = [sys.executable, "-B", "-m", "collection", str(EXAMPLES / "collection" / "book.txt"), "-o", folder, "--program", str(program_path())]
+            words = [
+                sys.executable,
+                "-B",
+                "-m",
+                "collection",
+                str(EXAMPLES / "collection" / "book.txt"),
+                "-o",
+                folder,
+                "--program",
+                str(program_path()),
+            ]
             subprocess.run(words, cwd=TOP, check=True, stderr=subprocess.DEVNULL)
             theirs = told(Path(folder, "results.tsv").read_text("utf-8"))
         ours = told(self.table)
         self.assertEqual(list(ours[0]), report.COLUMNS)
 
         def rows(them):
-            return sorted([it[name] for name in COMPARED] for it in them if it["property"] != "smaller" and it["verdict"] != "refused")
+            return sorted(
+                [it[name] for name in COMPARED]
+                for it in them if it["property"] != "smaller" and it["verdict"] != "refused"
+            )
 
         self.assertEqual(rows(ours), rows(theirs))
         self.assertEqual({it["accepted"] for it in ours if it["verdict"] in ("yes", "no")}, {"yes"})
-        self.assertEqual(sum(it["verdict"] == "refused" for it in ours), sum(it["verdict"] == "refused" for it in theirs))
+        self.assertEqual(
+            sum(it["verdict"] == "refused" for it in ours), sum(it["verdict"] == "refused" for it in theirs)
+        )
 
     def test_certificates_are_what_the_program_writes(self):
         archive = zipfile.ZipFile(io.BytesIO(self.archive))
@@ -126,14 +148,21 @@ class Book(unittest.TestCase):
         self.assertGreater(len(shown), 40)
         for it in shown:
             design = next(name for name in names if name.startswith(it["file"].rpartition("/")[0] + "/design."))
-            asked = subprocess.run([program_path(), "decide", it["property"]], input=archive.read(design), stdout=subprocess.PIPE, check=False)
+            asked = subprocess.run(
+                [program_path(), "decide", it["property"]],
+                input=archive.read(design),
+                stdout=subprocess.PIPE,
+                check=False,
+            )
             self.assertEqual(archive.read(it["file"]), asked.stdout, it["file"])
 
     def test_it_stops_and_goes_on(self):
         self.assertEqual(self.told["again"], 0)
         self.assertLess(self.told["half"], len({it["place"] for it in told(self.table)}))
         timeless = [{name: it[name] for name in it if name != "clock_seconds"} for it in told(self.table)]
-        self.assertEqual([{name: it[name] for name in it if name != "clock_seconds"} for it in told(self.others)], timeless)
+        self.assertEqual(
+            [{name: it[name] for name in it if name != "clock_seconds"} for it in told(self.others)], timeless
+        )
         self.assertEqual(self.told["widest"], 3)
 
     def test_time_ends(self):
@@ -150,14 +179,43 @@ class Book(unittest.TestCase):
             return sorted(places.index(it["place"]) + 1 for it in rows if those(it))
 
         self.assertEqual(unlimited, placed(lambda it: it["property"] == "unlimited" and it["verdict"] == "yes"))
-        self.assertLessEqual(set(failed), set(placed(lambda it: it["property"] == "unlimited" and it["verdict"] == "no")))
-        self.assertLessEqual(set(placed(lambda it: it["property"] == "unlimited" and it["verdict"] == "no" and it["ends"] == "4 to 4")), set(failed))
+        self.assertLessEqual(
+            set(failed), set(placed(lambda it: it["property"] == "unlimited" and it["verdict"] == "no"))
+        )
+        self.assertLessEqual(
+            set(placed(lambda it: it["property"] == "unlimited" and it["verdict"] == "no" and it["ends"] == "4 to 4")),
+            set(failed),
+        )
         self.assertTrue(set(failed) <= set(four) and named and turbo)
         self.assertEqual(none, [])
 
     def test_no_cell_is_a_formula(self):
-        texts = ["=1+1", " =1", "'=1", '"=1"', "＝1", "+1", "-", "-1", "@a", "＠a", "－1", "a=1", "", "\u200b=1", "\t=2", "−3", "4 to 4"]
-        marks = ["[item=iron-plate] 4 to 4", "[color=red]red[/color] [font=default-bold]b[/font]", "[virtual-signal=signal-1]", "plain [x", "[img=item/belt]"]
+        texts = [
+            "=1+1",
+            " =1",
+            "'=1",
+            '"=1"',
+            "＝1",
+            "+1",
+            "-",
+            "-1",
+            "@a",
+            "＠a",
+            "－1",
+            "a=1",
+            "",
+            "\u200b=1",
+            "\t=2",
+            "−3",
+            "4 to 4",
+        ]
+        marks = [
+            "[item=iron-plate] 4 to 4",
+            "[color=red]red[/color] [font=default-bold]b[/font]",
+            "[virtual-signal=signal-1]",
+            "plain [x",
+            "[img=item/belt]",
+        ]
         ours, words = json.loads(run_scripts(NAMES, GUARD, json.dumps({"cells": texts, "marked": marks}).encode()))
         self.assertEqual(words, [labels.in_words(it) for it in marks])
         self.assertEqual(ours, [report.cell(it) for it in texts])

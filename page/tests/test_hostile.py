@@ -1,4 +1,5 @@
-"""Files that nobody would publish: the page tells or refuses each within seconds of a processor, and nothing is thrown in it."""
+"""Files that nobody would publish: the page tells or refuses each within seconds of a processor, and nothing is thrown
+in it."""
 
 import base64
 import json
@@ -13,7 +14,20 @@ from . import needs_node, run_scripts
 from .test_book import NAMES
 
 SEEDS, LARGE_SECONDS = 300, 10
-LARGE = ("dashes in a label", "books in one another", "empty objects", "brackets", "many designs", "entities of 3 MB", "beginnings of strings", "a bomb", "belts", "a description", "members", "a net")
+LARGE = (
+    "dashes in a label",
+    "books in one another",
+    "empty objects",
+    "brackets",
+    "many designs",
+    "entities of 3 MB",
+    "beginnings of strings",
+    "a bomb",
+    "belts",
+    "a description",
+    "members",
+    "a net",
+)
 """The large files of the fuzzer that the gate throws at the page."""
 
 DRIVER = """
@@ -42,7 +56,9 @@ const judge = async (bytes) => {
   }
   await tableOf(rows, "p");
   rows.filter((it) => it.fits(askedFor("4 to 4 tu:yes x"), {}));
-  return { designs: found.length, longest: Math.max(0, ...found.map((it) => it.name.length + it.books.join("/").length)), seconds: process.cpuUsage(began).user / 1e6, memory: process.memoryUsage().rss };
+  const longest = Math.max(0, ...found.map((it) => it.name.length + it.books.join("/").length));
+  const [seconds, memory] = [process.cpuUsage(began).user / 1e6, process.memoryUsage().rss];
+  return { designs: found.length, longest, seconds, memory };
 };
 const main = async () => {
   const told = [];
@@ -74,7 +90,9 @@ class Hostile(unittest.TestCase):
             for number, data in enumerate(large):
                 files.append(str(Path(folder, str(number))))
                 Path(files[-1]).write_bytes(data)
-            asked = {"path": str(program_path()), "files": files, "small": [base64.b64encode(it).decode() for it in small]}
+            asked = {
+                "path": str(program_path()), "files": files, "small": [base64.b64encode(it).decode() for it in small]
+            }
             return json.loads(run_scripts(NAMES, DRIVER, json.dumps(asked).encode()))
 
     def test_what_is_thrown_is_told(self):

@@ -1,4 +1,5 @@
-"""What is pasted or dropped: strings however they are wrapped, books, JSON, network texts, and what is none of these."""
+"""What is pasted or dropped: strings however they are wrapped, books, JSON, network texts, and what is none of
+these."""
 
 import base64
 import json
@@ -22,17 +23,24 @@ const main = async () => {
     const bytes = new Uint8Array(Buffer.from(it, "base64"));
     const began = performance.now();
     const found = await designsIn(bytes, "pasted");
-    const designs = found.map((one) => ({ name: one.name, books: one.books.join("/"), place: one.place, text: one.bytes && Buffer.from(one.bytes).toString("base64"), trouble: one.trouble ?? null }));
+    const designs = found.map(({ name, books, place, bytes, trouble = null }) => {
+      const text = bytes && Buffer.from(bytes).toString("base64");
+      return { name, books: books.join("/"), place, text, trouble };
+    });
     answers.push({ designs, seconds: (performance.now() - began) / 1000 });
   }
-  fs.writeSync(1, JSON.stringify(answers.length > 1 || answers[0].designs.length < 2000 ? answers : [{ seconds: answers[0].seconds, count: answers[0].designs.length }]));
+  const [{ seconds, designs }] = answers;
+  const isShort = answers.length > 1 || designs.length < 2000;
+  fs.writeSync(1, JSON.stringify(isShort ? answers : [{ seconds, count: designs.length }]));
 };
 main();
 """
 
 
 def book(*designs, label="outer"):
-    return {"blueprint_book": {"item": "blueprint-book", "label": label, "blueprints": [{"index": n, **it} for n, it in enumerate(designs)]}}
+    return {"blueprint_book": {
+        "item": "blueprint-book", "label": label, "blueprints": [{"index": n, **it} for n, it in enumerate(designs)]
+    }}
 
 
 def wrapped(string, width=60, start=""):
@@ -56,7 +64,9 @@ def hostile():
 
 
 def given(texts):
-    return json.dumps([base64.b64encode(it if isinstance(it, bytes) else it.encode()).decode() for it in texts]).encode()
+    return json.dumps(
+        [base64.b64encode(it if isinstance(it, bytes) else it.encode()).decode() for it in texts]
+    ).encode()
 
 
 @needs_node
@@ -93,10 +103,17 @@ class Inputs(unittest.TestCase):
         alone = blueprint(belt(0, 0))
         texts = [
             BOOK.read_bytes(),
-            json.dumps(book(json.loads(blueprint(belt(0, 0), label="one")), {"upgrade_planner": {}}, book({"blueprint": {"label": "\u202etwo"}}, label="in"))),
+            json.dumps(book(
+                json.loads(blueprint(belt(0, 0), label="one")),
+                {"upgrade_planner": {}},
+                book({"blueprint": {"label": "\u202etwo"}}, label="in"),
+            )),
             deep,
-            json.dumps({"blueprint_book": {"blueprints": [{"index": it, **json.loads(alone)} for it in (0, 7, 7, -1, 1.0, True, "3", None, 10**30)]}}),
-            '{"blueprint_book":{"blueprints":[{"blueprint":{},"index":4},{"index":-0,"blueprint":{}},{"index":5,"blueprint":{},"index":[]}]}}',
+            json.dumps({"blueprint_book": {"blueprints": [
+                {"index": it, **json.loads(alone)} for it in (0, 7, 7, -1, 1.0, True, "3", None, 10**30)
+            ]}}),
+            '{"blueprint_book":{"blueprints":[{"blueprint":{},"index":4},{"index":-0,"blueprint":{}},'
+            '{"index":5,"blueprint":{},"index":[]}]}}',
             json.dumps(book(book(json.loads(alone), label=""), book(json.loads(alone), label=5))),
             '{"blueprint_book":{"blueprints":[{"blueprint_book":{"blueprints":[{"blueprint":{}}]},"index":9}]}}',
             '{"blueprint_book":{"blueprints":[{"blueprint":{"label":"a","label":5}},{"blueprint":{"label":" "}}]}}',
@@ -116,7 +133,9 @@ class Inputs(unittest.TestCase):
                 for ours, other in zip(it["designs"], theirs):
                     self.assertEqual((ours["text"] and base64.b64decode(ours["text"])), other.text)
                     if other.text is not None:
-                        self.assertEqual((ours["name"], ours["books"], ours["place"]), (other.label(), other.books, other.place))
+                        self.assertEqual(
+                            (ours["name"], ours["books"], ours["place"]), (other.label(), other.books, other.place)
+                        )
                     else:
                         self.assertTrue(ours["trouble"])
 
@@ -141,9 +160,12 @@ class Inputs(unittest.TestCase):
 
     def test_a_large_book_is_opened(self):
         text = (EXAMPLES / "splitter-2-to-2.json").read_text()
-        whole = json.dumps(book(*([json.loads(text)] * 3000)))
-        found = self.ask(deflate(whole.encode()))
-        self.assertEqual(found[0]["count"], inputs.NUMBERS["most_designs"] + 1)
+        most = inputs.NUMBERS["most_designs"]
+        # Of more the fault stands behind those that are read.
+        for count, told in ((3000, most + 1), (most + 1, most + 1), (most, most)):
+            whole = json.dumps(book(*([json.loads(text)] * count)))
+            found = self.ask(deflate(whole.encode()))
+            self.assertEqual(found[0]["count"], told)
 
 
 if __name__ == "__main__":

@@ -36,7 +36,8 @@ start:
 
 attributes #0 = { nounwind "probe-stack"="inline-asm" "stack-probe-size"="3072" "target-cpu"="x86-64-v2" }
 attributes #1 = { nounwind "probe-stack"="inline-asm" "stack-probe-size"="3072" "target-cpu"="x86-64" }
-attributes #2 = { nounwind "probe-stack"="inline-asm" "rattle-sig"="4" "stack-probe-size"="3072" "target-cpu"="x86-64-v2" }
+attributes #2 = { nounwind "probe-stack"="inline-asm" "rattle-sig"="4" "stack-probe-size"="3072" \
+"target-cpu"="x86-64-v2" }
 attributes #3 = { nounwind "rattle-sig"="4" }
 """
 
@@ -51,7 +52,9 @@ class Text(unittest.TestCase):
         changed = text.changed(MODULE, LAYOUT, TRIPLE)
         self.assertIn(f'target datalayout = "{LAYOUT}"', changed)
         self.assertIn(f'target triple = "{TRIPLE}"', changed)
-        self.assertIn('define i32 @started() {\n  %status = call i32 @"beltproof::main+start"()\n  ret i32 %status\n}', changed)
+        self.assertIn(
+            'define i32 @started() {\n  %status = call i32 @"beltproof::main+start"()\n  ret i32 %status\n}', changed
+        )
         for word in ("@main(", "__sysv_signal", "probe", "x86", "127"):
             self.assertNotIn(word, changed)
         self.assertIn('attributes #2 = { nounwind "rattle-sig"="4" }', changed)
@@ -67,8 +70,13 @@ class Text(unittest.TestCase):
             "one more": MODULE.replace('"target-cpu"="x86-64" }', '"target-cpu"="x86-64" "target-features"="+sse4" }'),
             "another processor": MODULE.replace('"target-cpu"="x86-64" }', '"target-cpu"="x86-64-v4" }'),
             "none of a group": MODULE.replace(' "target-cpu"="x86-64" }', " }"),
-            "one at a call": MODULE.replace('#3 = { nounwind "rattle-sig"="4"', '#3 = { nounwind "target-cpu"="x86-64"'),
-            "all at a call": MODULE.replace('#3 = { nounwind "rattle-sig"="4"', '#3 = { nounwind "probe-stack"="inline-asm" "stack-probe-size"="3072" "target-cpu"="x86-64"'),
+            "one at a call": MODULE.replace(
+                '#3 = { nounwind "rattle-sig"="4"', '#3 = { nounwind "target-cpu"="x86-64"'
+            ),
+            "all at a call": MODULE.replace(
+                '#3 = { nounwind "rattle-sig"="4"',
+                '#3 = { nounwind "probe-stack"="inline-asm" "stack-probe-size"="3072" "target-cpu"="x86-64"',
+            ),
             "a function without": MODULE.replace("%a0) #2 {", "%a0) {"),
             "a group that isn't there": MODULE.replace("%a0) #2 {", "%a0) #9 {"),
         }
@@ -93,11 +101,14 @@ class Lowering(unittest.TestCase):
         self.assertEqual(function(b"\x11\x05\0"), b"\0\xa7\x11\x05\0\x0b")
 
     def test_arithmetic_stays(self):
-        code = b"\x42\x80\x80\x80\x80\x10\x20\0\x7c\x20\x01\x85\xa7\x41\x7f\x6a\x1a\x02\x40\x0c\0\x0b\x0e\x02\0\0\0\x44" + bytes(8)
+        code = b"\x42\x80\x80\x80\x80\x10\x20\0\x7c\x20\x01\x85\xa7\x41\x7f\x6a\x1a\x02\x40\x0c\0\x0b\x0e\x02\0\0\0\x44"
+        code += bytes(8)
         self.assertEqual(function(code), b"\0" + code + b"\x0b")
 
     def test_what_is_unknown_is_refused(self):
-        for code in (b"\x29\x43\x08\0", b"\x29\x03" + lower.unsigned(2**32), b"\xfc\x08\0\0", b"\xfd\0", b"\xd2\0", b"\x06\x40"):
+        for code in (
+            b"\x29\x43\x08\0", b"\x29\x03" + lower.unsigned(2**32), b"\xfc\x08\0\0", b"\xfd\0", b"\xd2\0", b"\x06\x40"
+        ):
             with self.subTest(code), self.assertRaises(lower.Unknown):
                 function(code)
         with self.assertRaises(lower.Unknown):
@@ -114,8 +125,12 @@ class Lowering(unittest.TestCase):
             self.assertEqual(lower.Reader(lower.signed(value)).signed(), value)
 
     def test_limits_and_offsets(self):
-        self.assertEqual(lower.memories(b"\x01\x05\x42" + lower.unsigned(65520)), b"\x01\x01\x42" + lower.unsigned(65520))
-        self.assertEqual(lower.data_segments(b"\x01\0\x42\x80\x80\x80\x82\0\x0b\x01a"), b"\x01\0\x41\x80\x80\x80\x02\x0b\x01a")
+        self.assertEqual(
+            lower.memories(b"\x01\x05\x42" + lower.unsigned(65520)), b"\x01\x01\x42" + lower.unsigned(65520)
+        )
+        self.assertEqual(
+            lower.data_segments(b"\x01\0\x42\x80\x80\x80\x82\0\x0b\x01a"), b"\x01\0\x41\x80\x80\x80\x02\x0b\x01a"
+        )
 
 
 class Sheet(unittest.TestCase):
@@ -136,7 +151,10 @@ class Sheet(unittest.TestCase):
         rules = dict(it.split(" ", 1) for it in sheet.policy(["a", "b"], ["c"]).split("; "))
         self.assertEqual(rules["script-src"], f"{sheet.hash_of('a')} {sheet.hash_of('b')} 'wasm-unsafe-eval'")
         self.assertEqual(rules["default-src"], "'none'")
-        self.assertEqual(sorted(rules), ["base-uri", "default-src", "form-action", "img-src", "script-src", "style-src", "worker-src"])
+        self.assertEqual(
+            sorted(rules),
+            ["base-uri", "default-src", "form-action", "img-src", "script-src", "style-src", "worker-src"],
+        )
         self.assertNotIn("unsafe-inline", "".join(rules.values()))
 
 

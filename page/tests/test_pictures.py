@@ -27,7 +27,9 @@ const answers = asked.map(({ text, states, line }) => {
     return { unreadable: fault.message };
   }
   const bare = bareEnds(found.parts);
-  const marks = { bare, added: new Set(found.parts.flatMap((it, at) => (it.kind === "belt" && at % 3 === 0 ? [at] : []))), refused: [{ cells: found.parts.length ? found.parts[found.parts.length - 1].cells : [[0, 0]], words: "<no> & \\"why\\"" }] };
+  const added = new Set(found.parts.flatMap((it, at) => (it.kind === "belt" && at % 3 === 0 ? [at] : [])));
+  const last = found.parts.length ? found.parts[found.parts.length - 1].cells : [[0, 0]];
+  const marks = { bare, added, refused: [{ cells: last, words: "<no> & \\"why\\"" }] };
   const whole = { bare, drawn: drawn(found, { ...NO_MARKS, bare }, "ways"), marked: drawn(found, marks) };
   try {
     const network = new Layout(found.parts).network();
@@ -35,9 +37,13 @@ const answers = asked.map(({ text, states, line }) => {
     const net = { inputs: network.inputs.length, outputs: network.outputs.length, edges: network.edges };
     const told = states.map(({ property, text }) => {
       const state = readState(text);
-      return { flows: flowing(found.parts, network, cells, state, "ways"), badges: badges(cells, toldAtEnds(state)), shown: shown(property, net, state, tiersOf(found)), plainly: shown(property, net, state) };
+      const flows = flowing(found.parts, network, cells, state, "ways");
+      const [tiered, plainly] = [shown(property, net, state, tiersOf(found)), shown(property, net, state)];
+      return { flows, badges: badges(cells, toldAtEnds(state)), shown: tiered, plainly };
     });
-    return { ...whole, lines: linesOf(network), badges: badges(cells), view: viewOf(boxOf(found, cells)), ruled: viewOf(boxOf(found, cells), true), rules: rulesOf(boxOf(found, cells)), told };
+    const box = boxOf(found, cells);
+    const views = { view: viewOf(box), ruled: viewOf(box, true), rules: rulesOf(box) };
+    return { ...whole, lines: linesOf(network), badges: badges(cells), ...views, told };
   } catch (fault) {
     if (!(fault instanceof Untraced)) throw fault;
     return { ...whole, untraced: fault.message, view: viewOf(boxOf(found, [])) };
@@ -58,12 +64,24 @@ def texts():
         blueprint(belt(0, 0), belt(0.5, 0)),
         blueprint(belt(0, 0), {"name": "<b>inserter</b>\u202e", "position": {"x": 1.5, "y": 0.5}}),
         blueprint(belt(0, 0), belt(0, 0)),
-        blueprint(belt(0, 0), {"name": "pump", "position": {"x": 4.5, "y": 0}, "direction": 2}, {"name": "radar", "position": {"x": -3.25, "y": -1.5}}),
+        blueprint(
+            belt(0, 0),
+            {"name": "pump", "position": {"x": 4.5, "y": 0}, "direction": 2},
+            {"name": "radar", "position": {"x": -3.25, "y": -1.5}},
+        ),
         blueprint({"name": "radar"}, {"name": 5, "position": {"x": 1, "y": 1}}),
         blueprint(belt(0, 0, 2), belt(2, 0, 6), belt(1, 0)),
         blueprint(belt(-3, -7, 6), belt(-4, -7), belt(-3, -8, 6)),
-        blueprint({"name": "splitter", "position": {"x": 3, "y": 5.5}, "direction": 4, "output_priority": "right", "input_priority": "left"}),
-        blueprint({"name": "turbo-underground-belt", "position": {"x": 3.5, "y": 5.5}, "direction": 2, "type": "input"}),
+        blueprint({
+            "name": "splitter",
+            "position": {"x": 3, "y": 5.5},
+            "direction": 4,
+            "output_priority": "right",
+            "input_priority": "left",
+        }),
+        blueprint(
+            {"name": "turbo-underground-belt", "position": {"x": 3.5, "y": 5.5}, "direction": 2, "type": "input"}
+        ),
     ]
     return [it for it in found if "blueprint_book" not in it]
 
@@ -97,7 +115,9 @@ def drawn_by_report(text, told):
     except trace.Untraced as fault:
         return whole | {"untraced": str(fault), "view": picture.Picture(found).view()}
     seen = picture.Picture(found, network)
-    net = states.Net(len(network.inputs), len(network.outputs), 0, [(it.source, it.target, it.cap) for it in network.edges])
+    net = states.Net(
+        len(network.inputs), len(network.outputs), 0, [(it.source, it.target, it.cap) for it in network.edges]
+    )
     answers = []
     for prop, written in told:
         state = states.read_state(written)
@@ -110,7 +130,14 @@ def drawn_by_report(text, told):
                 "plainly": states.shown(prop, net, state),
             }
         )
-    return whole | {"lines": network.lines(), "badges": picture.badges(seen.badges), "view": seen.view(), "ruled": seen.view(True), "rules": picture.rules(seen.box), "told": answers}
+    return whole | {
+        "lines": network.lines(),
+        "badges": picture.badges(seen.badges),
+        "view": seen.view(),
+        "ruled": seen.view(True),
+        "rules": picture.rules(seen.box),
+        "told": answers,
+    }
 
 
 @needs_node
@@ -135,11 +162,27 @@ class Pictures(unittest.TestCase):
         splitter = {"name": "splitter", "position": {"x": 7, "y": 4.5}}
         facing = blueprint(belt(0, 0), belt(0, 0), inserter, belt(4, 4, 2), belt(5, 4, 6), splitter)
         loaded = blueprint(belt(0, 0), belt(0, 1), belt(1, 0, 6), belt(-1, 0, 2), {"name": "radar"})
-        lines = ["refused 23 Unsupported 2", "refused 30 Overlap 0 1", "refused 24 BadMember 1 direction", "refused 42 NoEnds"]
-        lines += ["refused 32 SideLoad 0", "refused 33 Blocked 3", "refused 25 OffGrid 2", "refused 31 Unpaired 4", "refused 34 Ring 99"]
+        lines = [
+            "refused 23 Unsupported 2",
+            "refused 30 Overlap 0 1",
+            "refused 24 BadMember 1 direction",
+            "refused 42 NoEnds",
+        ]
+        lines += [
+            "refused 32 SideLoad 0",
+            "refused 33 Blocked 3",
+            "refused 25 OffGrid 2",
+            "refused 31 Unpaired 4",
+            "refused 34 Ring 99",
+        ]
         lines += ["refused 10 Json 5", "refused 40 NetLine 3", "usage", "too long", "refused 99 What 1"]
         data = [{"text": text, "line": it} for it in lines for text in (facing, loaded, "{")]
-        data += [{"text": text, "line": f"refused {number} Name {at} {2 * at} direction"} for text in texts() for number in refusals.WORDS for at in (0, 2)]
+        data += [
+            {"text": text, "line": f"refused {number} Name {at} {2 * at} direction"}
+            for text in texts()
+            for number in refusals.WORDS
+            for at in (0, 2)
+        ]
         answers = json.loads(run_scripts(NAMES, DRIVER, json.dumps(data).encode()))
         for it, ours in zip(data, answers, strict=True):
             with self.subTest(line=it["line"], text=it["text"][:70]):

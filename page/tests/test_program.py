@@ -1,4 +1,5 @@
-"""The page's program answers as the program does: bytes and statuses, on all examples with all commands, and on mutants."""
+"""The page's program answers as the program does: bytes and statuses, on all examples with all commands, and on
+mutants."""
 
 import json
 import random
@@ -6,12 +7,12 @@ import sys
 import unittest
 
 from collection.tests import program_path
+from collection.words import PROPERTIES
 
 from .. import sheet
 from . import EXAMPLES, TOP, needs_node, page_path, run_scripts
 from .programs import by_page, by_program, with_memory, with_stack
 
-PROPERTIES = ("balanced", "drawn-evenly", "unlimited", "full")
 GRIDS = {
     "splitter-2-to-2": ("2x2", "2x3", "4x4"),
     "balancer-4-to-4": ("5x5", "5x8"),
@@ -67,15 +68,22 @@ def mutants(count):
     chance = random.Random(48)
     texts = [it.read_bytes() for it in sorted(EXAMPLES.iterdir()) if it.is_file() and it.stat().st_size <= LONGEST]
     designs = [it for it in texts if it[:1] in b"{n" and not it.startswith(b"no ")]
-    certificates = [(path, path.suffix.partition("-")[2]) for path in sorted(EXAMPLES.glob("*.yes-*")) + sorted(EXAMPLES.glob("*.not-*"))]
-    certificates = [(path, prop) for path, prop in certificates if prop in PROPERTIES and path.stat().st_size <= LONGEST]
+    certificates = [
+        (path, path.suffix.partition("-")[2])
+        for path in sorted(EXAMPLES.glob("*.yes-*")) + sorted(EXAMPLES.glob("*.not-*"))
+    ]
+    certificates = [
+        (path, prop) for path, prop in certificates if prop in PROPERTIES and path.stat().st_size <= LONGEST
+    ]
     for number in range(count):
         if number % 2:
             path, prop = chance.choice(certificates)
             design = path.with_suffix(".net").read_bytes()
             yield ["check", prop], design + mutant(chance, path.read_bytes())
             continue
-        words = chance.choice((["recover"], ["decide", chance.choice(PROPERTIES), "--learnt", "2000"], ["formula", "full"], ["same"]))
+        words = chance.choice(
+            (["recover"], ["decide", chance.choice(PROPERTIES), "--learnt", "2000"], ["formula", "full"], ["same"])
+        )
         yield words, mutant(chance, chance.choice(designs))
 
 
@@ -109,12 +117,18 @@ class Programs(unittest.TestCase):
 
     def test_want_of_memory_is_a_status(self):
         design = (EXAMPLES / "balancer-16-to-16.json").read_bytes()
-        found = {pages: by_page(with_memory(self.module, pages), [(["decide", "balanced"], design)])[0] for pages in (66, 70, 80, 2000)}
+        found = {
+            pages: by_page(with_memory(self.module, pages), [(["decide", "balanced"], design)])[0]
+            for pages in (66, 70, 80, 2000)
+        }
         self.assertEqual([it["status"] for it in found.values()], [8, 8, 8, 0])
 
     def test_a_stack_that_ends_is_told(self):
         design = (EXAMPLES / "balancer-16-to-16.json").read_bytes()
-        told = [by_page(with_stack(self.module, length), [(["decide", "balanced"], design)])[0] for length in (4096, 65536, 4 << 20)]
+        told = [
+            by_page(with_stack(self.module, length), [(["decide", "balanced"], design)])[0]
+            for length in (4096, 65536, 4 << 20)
+        ]
         self.assertEqual([it.get("trouble") for it in told], ["stack", "stack", None])
         self.assertEqual([it.get("digest") for it in told[:2]], ["", ""])
 
