@@ -4,7 +4,9 @@ ghost use Rattle.bt_model.specs.Requests.{IsGrid};
 
 use crate::numbering::{Numbered, number_by_structure};
 use bt_model::{MOST_ACROSS, Request};
-use bt_net::{Admitted, Demand, Edge, End, EndKind, Ends, Net, NetFault, Pin, Side, Start, Target, read};
+use bt_net::{
+    Admitted, Demand, Edge, End, EndKind, Ends, Net, NetFault, Pin, Side, Start, Target, read,
+};
 use bt_parts::Rect;
 use std::alloc::{AllocError, Global};
 
