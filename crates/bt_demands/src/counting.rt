@@ -11,7 +11,8 @@ use bt_model::Request;
 use bt_parts::Cell;
 use std::alloc::{AllocError, Global};
 
-/// As many halves among one cell less, where some cells may hold none.
+/// That more than so many halves stand among the cells before the last one, of which one fewer may hold none; or no
+/// fact, where none may.
 fn among_less(alloc: Global, spare: usize, half: usize) -> Result<Vec<Fact>, AllocError>
     ensures { IfOk result (λ facts. facts.items ≡ counting.among_less spare half) }
 {

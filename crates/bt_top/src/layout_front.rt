@@ -40,7 +40,7 @@ pub fn layout_front<'a>(
     }
 }
 
-/// The same of what follows a design.
+/// What is told of the answer, where this design was read and this follows it.
 fn behind_design<'a>(
     alloc: Global,
     rect: Rect,
@@ -58,7 +58,7 @@ fn behind_design<'a>(
     }
 }
 
-/// The same of what follows a request, or that this has no formula.
+/// What is told of the answer, where this follows a request: that it is refused, where the request has no formula.
 fn behind_large<'a>(
     alloc: Global,
     request: &Request,
@@ -77,7 +77,7 @@ fn behind_large<'a>(
     }
 }
 
-/// The same of what follows a request that has a formula.
+/// What is told of the answer, where this follows a request that has a formula: nothing before a line stands there.
 fn behind_request<'a>(
     alloc: Global,
     request: &Request,
@@ -94,7 +94,7 @@ fn behind_request<'a>(
     }
 }
 
-/// The same of a certificate's first line, and what follows it.
+/// What is told of the answer, where a certificate begins with this line, and this follows it.
 fn behind_title<'a>(
     alloc: Global,
     request: &Request,

@@ -255,8 +255,9 @@ impl<'a> Dealing<'a> {
         add_aim(alloc, &mut line.aims, &lits, scope)
     }
 
-    /// Adds that where an edge into a splitter of the last stage is backed, each edge that leads back counts as full; and before
-    /// that, that an edge which doesn't carry its mean is backed.
+    /// Adds for each edge into a splitter of the last stage that it carries its mean or is backed, and that where it is
+    /// backed each cut edge behind the splitter counts as full: behind a backed edge all are backed or full, and a cut
+    /// edge that is backed counts as full.
     fn add_filled(
         &self,
         alloc: Global,

@@ -49,12 +49,13 @@ impl<'a> Sharing<'a> {
         }))
     }
 
-    /// An edge has the mark that keeps what comes from being dealt on: seen from the inputs that it is backed.
+    /// An edge has the mark with which it may carry less than the other edge of its splitter: seen from the inputs it
+    /// is backed, since of two out edges a free one carries no less; seen from the outputs it is free.
     pub fn hindered(&self, edge: usize) -> NamedLit {
         named(edge, !self.halves.from_outputs)
     }
 
-    /// An edge has the other mark.
+    /// An edge has the other mark, with which it carries no less than the other edge of its splitter, or is full.
     pub fn unhindered(&self, edge: usize) -> NamedLit {
         named(edge, self.halves.from_outputs)
     }
@@ -213,7 +214,8 @@ fn got_by(alloc: Global, halves: &Halves, splitter: usize) -> Result<Vec<Term>, 
     Ok(terms)
 }
 
-/// Defines the comparison of what begins at ends with what ends at the others.
+/// Defines whether the ends at which flows begin have together at least as much as those of the other side: seen from
+/// the inputs, whether no more goes out than comes in.
 fn define_law(
     alloc: Global,
     line: &mut Line,

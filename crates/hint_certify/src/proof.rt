@@ -277,7 +277,9 @@ pub fn refutation(alloc: Global, text: &[u8]) -> Result<Steps, Refusal> {
     trimmed(alloc, reading, clauses, conflict)
 }
 
-/// The steps that are needed, of a proof by which this clause becomes false.
+/// The steps that are needed, of a proof by which this clause becomes false. The proof is gone through from its end: a
+/// clause that it dropped comes back, one that it added goes, and where a later step needs that, it is shown by what
+/// stood there before. So what no later step needs is never shown.
 fn trimmed(
     alloc: Global,
     reading: Reading,

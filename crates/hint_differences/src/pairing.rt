@@ -480,6 +480,7 @@ impl<'a> Pairing<'a> {
         let Some(sum) = self.sums.get(splitter) else {
             return Ok(());
         };
+        // The excesses of the edges out less those of the edges in are at least nothing.
         let no_more = sum.is_some();
         for edge in self.graph.ins(splitter) {
             self.argue_in(alloc, line, splitter, *edge, no_more)?;

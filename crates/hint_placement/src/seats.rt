@@ -174,6 +174,7 @@ pub fn stands_of(
         random: Random::new(seed as u64),
         is_moved: seed > 0,
     };
+    // A splitter takes two cells of a line.
     let lines = split_rows(alloc, rows, (view.across() / 2).max(1))?;
     let mut stands = vec![in alloc; None; splitters]?;
     if !place_rows(request, view, &mut stands, &lines, &mut moves) {

@@ -18,7 +18,7 @@ pub struct Watches {
     followers: Vec<Vec<Literal>>,
 }
 
-/// Drops the watches of clauses behind so many literals.
+/// Drops the watches of clauses that stand behind so many literals, where all clauses stand one after another.
 fn prune(list: &mut Vec<Watch>, length: usize) {
     let mut place = 0usize;
     for _ in 0..list.len() {
@@ -80,7 +80,7 @@ impl Watches {
         }
     }
 
-    /// Drops the watches of all clauses behind so many literals.
+    /// Drops the watches of all clauses that stand behind so many literals, as where the list of clauses is cut there.
     pub fn truncate(&mut self, length: usize) {
         for list in self.lists.iter_mut() {
             prune(list, length);
