@@ -143,7 +143,8 @@ fn add_all_placed(
     Ok(())
 }
 
-/// The same, where it is a place.
+/// Adds that where the ends stand from this cell on, one of them stands on each of their cells; nothing where they have
+/// no room from there on.
 fn add_place(
     alloc: Global,
     draft: &mut Draft,

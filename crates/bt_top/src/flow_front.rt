@@ -35,7 +35,7 @@ pub fn flow_front<'a>(
     }
 }
 
-/// The same of what follows a design.
+/// What is told of the answer, where this follows a design with this network.
 fn behind_design<'a>(
     alloc: Global,
     property: Property,
@@ -60,7 +60,7 @@ fn behind_design<'a>(
     }
 }
 
-/// The same of a certificate, of its first line and what follows it.
+/// What is told of the answer, where a certificate or a written state begins with this line, and this follows it.
 fn behind_title<'a>(
     alloc: Global,
     written: WrittenState<'a>,

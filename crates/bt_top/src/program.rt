@@ -191,7 +191,7 @@ fn told<K: Sink>(alloc: Global, answer: Answer, sink: &mut K) -> u8
     status
 }
 
-/// The same, and keeps the answer.
+/// Gives the text of an answer, which is lent, to the sink, and gives the status.
 fn tell<K: Sink>(alloc: Global, answer: &Answer, sink: &mut K) -> u8
     ensures { IsToldUnlessMemory answer.now (passage K.held K.faults sink.old sink.new) result }
 {

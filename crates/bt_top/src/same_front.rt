@@ -30,7 +30,7 @@ pub fn same_front<'a>(alloc: Global, held: Held<'a>) -> Result<Option<Front<'a>>
     }
 }
 
-/// The same of what follows a first design.
+/// What is told of the answer, where this follows a first design with this network.
 fn behind_first<'a>(
     alloc: Global,
     first: Net,
@@ -56,7 +56,7 @@ fn behind_first<'a>(
     }
 }
 
-/// The same of what follows two designs with these networks.
+/// What is told of the answer, where this follows two designs with these networks.
 fn behind_second<'a>(
     alloc: Global,
     first: Net,
@@ -72,7 +72,7 @@ fn behind_second<'a>(
     }
 }
 
-/// The same of what follows two designs that may be compared.
+/// What is told of the answer, where this follows two designs that may be compared.
 fn behind_both<'a>(
     alloc: Global,
     first: Net,
@@ -101,7 +101,7 @@ fn behind_both<'a>(
     }
 }
 
-/// The same of a certificate, of its first line and what follows it.
+/// What is told of the answer, where a certificate or a written pair begins with this line, and this follows it.
 fn behind_title<'a>(
     alloc: Global,
     written: WrittenPair<'a>,

@@ -19,7 +19,7 @@ pub fn loopless(alloc: Global, net: &Net, from_inputs: bool) -> Result<Vec<usize
     ordered(alloc, net, from_inputs, &[])
 }
 
-/// The same where the edges with a mark are cut.
+/// The splitters in the order of [`loopless`], where the edges with a mark are cut.
 pub fn ordered(
     alloc: Global,
     net: &Net,

@@ -52,7 +52,7 @@ struct Own {
     right: Net,
 }
 
-/// The same of these parts, where they show a network.
+/// The network of these parts, and what they prefer on either hand, where they show one.
 fn own_of(alloc: Global, grid: &Grid) -> Result<Option<Own>, AllocError> {
     let (Some(left), Some(right)) = (
         shown(alloc, grid, Hand::Left)?,
@@ -311,7 +311,7 @@ pub fn prefer(
     named(alloc, &naming, &matched)
 }
 
-/// The same, where it is known which nodes are the same.
+/// Names of the parts and hands that they are to prefer, where it is known which nodes are the same.
 fn named(
     alloc: Global,
     naming: &Naming,

@@ -91,7 +91,7 @@ fn add_beginning(draft: &mut Draft, cell: Cell, dir: Dir, class: Class) -> Resul
     draft.add(&[carries, holds(cell, Shape::Entrance, dir)], &begins)
 }
 
-/// The same for each of the classes, where what is behind the cell is outside.
+/// Where what is behind the cell is outside, an edge of each of the classes begins where it first can.
 fn add_beginnings(
     draft: &mut Draft,
     rect: &Rect,
