@@ -1,0 +1,20 @@
+//! Smaller layouts from a layout of any size: seams that are cut out, whose surroundings are mended, and windows that are
+//! laid anew, each by a formula of its own cells alone, so that what a window costs doesn't grow with the grid.
+//!
+//! Nothing is claimed of what is found: whoever takes it tests it.
+#![tactic(auto)]
+
+mod board;
+mod laying;
+mod mending;
+mod own;
+mod rules;
+mod seam;
+mod shrinking;
+mod tile;
+mod window;
+
+pub use board::Plan;
+pub use own::{Own, own_of};
+pub use shrinking::{Narrowed, narrow};
+pub use std::alloc::AllocError as Memory;

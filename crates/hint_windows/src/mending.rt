@@ -1,0 +1,81 @@
+//! Mending what cutting out a seam has damaged.
+use crate::board::{Board, mark};
+use crate::laying::{Trial, put_tiles};
+use crate::window::around;
+use bt_random::Random;
+use std::alloc::{AllocError, Global};
+
+/// The most conflicts of a spot.
+const CONFLICTS: u64 = 1_000;
+
+/// The most cells of a spot.
+const MOST_CELLS: usize = 140;
+
+/// Whether some place is marked.
+fn first_marked(marks: &[bool]) -> Option<usize> {
+    for (place, mark) in marks.iter().enumerate() {
+        if *mark {
+            return Some(place);
+        }
+    }
+    None
+}
+
+/// The cells around the first damaged place, with all damaged places that are near one of them.
+fn spot(
+    alloc: Global,
+    board: &Board,
+    damaged: &[bool],
+    first: usize,
+    radius: usize,
+) -> Result<(Vec<bool>, usize), AllocError> {
+    let mut own = vec![in alloc; false; damaged.len()]?;
+    mark(&mut own, Some(first));
+    let mut count = 1usize;
+    for _ in 0..damaged.len() {
+        let near = around(alloc, board, &own, radius.saturating_add(1))?;
+        let mut more = 0usize;
+        for place in 0..damaged.len() {
+            let is_new = damaged.get(place).copied().unwrap_or(false)
+                && near.get(place).copied().unwrap_or(false)
+                && !own.get(place).copied().unwrap_or(false);
+            if is_new {
+                mark(&mut own, Some(place));
+                more = more.saturating_add(1);
+            }
+        }
+        if more == 0 {
+            break;
+        }
+        count = count.saturating_add(more);
+    }
+    Ok((around(alloc, board, &own, radius)?, count))
+}
+
+/// Lays all that is damaged anew, with the cells so far around. How many conflicts it took, and whether all was.
+pub fn mend(
+    alloc: Global,
+    board: &mut Board,
+    radius: usize,
+    random: &mut Random,
+    effort: &mut u64,
+) -> Result<bool, AllocError> {
+    for _ in 0..board.tiles.len() {
+        let damaged = board.damage(alloc)?;
+        let Some(first) = first_marked(&damaged) else {
+            return Ok(true);
+        };
+        let (marks, _) = spot(alloc, board, &damaged, first, radius)?;
+        let Some(mut trial) = Trial::new(alloc, board, &marks, MOST_CELLS)? else {
+            *effort = effort.saturating_add(20);
+            return Ok(false);
+        };
+        let found = trial.tiles(alloc, board, &[], CONFLICTS, random)?;
+        *effort = effort.saturating_add(trial.conflicts()).saturating_add(20);
+        let Some(tiles) = found else {
+            return Ok(false);
+        };
+        put_tiles(board, trial.cells(), &tiles);
+    }
+    Ok(false)
+}
