@@ -1,31 +1,29 @@
 -- A layout with rows and columns exchanged.
-use Rattle.std.proofs.Common.{◌≡◌, ◌≢◌, ◌⊎◌, inl, inr, ⊎_elim, ℕ, zero, suc, ◌<◌, List, [], ◌∷◌, map, slice_get, Some, All, Contains, refl, sym, ◌∙◌, ap, subst}
-use Rattle.std.specs.List.{AllZip}
+use Rattle.std.proofs.Common.{◌≡◌, inl, inr, ⊎_elim, ℕ, List, [], ◌∷◌, map, slice_get, Some, All, Contains, refl, sym, ◌∙◌, ap, subst}
 use Rattle.std.proofs.lemmas.Option.{none-some}
 use Rattle.bt_parts.specs.declared.part.Cell.{Cell}
 use Rattle.bt_parts.specs.declared.part.Dir.{Dir}
 use Rattle.bt_parts.specs.declared.part.Dir.TheVariants.{North, East, South, West}
-use Rattle.bt_parts.specs.declared.part.Kind.TheVariants.{Splitter}
 use Rattle.bt_parts.specs.declared.part.Part.{Part}
 use Rattle.bt_parts.specs.declared.part.Rect.{Rect}
 use Rattle.bt_parts.specs.declared.part.Side.{Side}
 use Rattle.bt_parts.specs.declared.part.Side.TheVariants.{Behind, Across, Ahead}
 use Rattle.bt_parts.specs.Cells.{step, steps, opposite, beside, Covers, IsInside}
 use Rattle.bt_parts.specs.Handing.{ComesFrom}
-use Rattle.bt_parts.specs.Layouts.{HasPart, IsAt, IsWellPlaced, IsPieceOn, Pairs, ArePaired, IsPieceAt}
+use Rattle.bt_parts.specs.Layouts.{HasPart, IsAt, IsPieceOn, Pairs, ArePaired}
 use Rattle.bt_net.specs.declared.network.Edge.{Edge}
 use Rattle.bt_net.specs.declared.network.Start.{Start}
 use Rattle.bt_net.specs.declared.network.Start.TheVariants as from
 use Rattle.bt_net.specs.Network.{Network}
 use Rattle.bt_model.specs.Handing.{LooksFrom, FeedsFrom, Feeds, Hands}
-use Rattle.bt_model.specs.Chains.{IsSplitter, IsLink, Path, one, more, IsInput, IsOutput, Source, begins, leaves, Sink, ends, enters, Chain, StartsAs, EndsAs, IsLongest, IsEmptyChain, IsChain}
-use Rattle.bt_model.specs.Clean.{IsPaired, HasTwoFeeders, IsSeenAcross, IsSideLoaded, IsHalfBlocked, IsBlocked, IsOnRing, IsClean}
+use Rattle.bt_model.specs.Chains.{IsSplitter, IsLink, Path, one, more, IsInput, IsOutput, Source, begins, leaves, Sink, ends, enters, Chain, StartsAs, EndsAs, IsChain}
+use Rattle.bt_model.specs.Clean.{IsPaired, HasTwoFeeders, IsSideLoaded, IsBlocked, IsOnRing, IsClean}
 use Rattle.bt_model.specs.Speeds.{HasOneTier, IsCapOf}
 use Rattle.bt_model.specs.Shown.{Naming, IsNaming, IsStartOf, IsEdgeOf, Shows}
-use Rattle.bt_model.specs.Laying.{Fits, KeepsDemand, Lays}
+use Rattle.bt_model.specs.Laying.{Fits, KeepsDemand}
 use Rattle.bt_model.specs.Requests.{LayoutRequest}
-use Rattle.bt_extending.specs.Extending.{AsksNothing, HasLayout, in_rect, exchanged, ExtendsExchanged}
-use Rattle.bt_extending.proofs.Lists.{has_map, map_has, contained, contains_at, all_at, all_of, each_map, each_same, zip_map}
+use Rattle.bt_extending.specs.Extending.{AsksNothing, in_rect, exchanged, ExtendsExchanged}
+use Rattle.bt_extending.proofs.Lists.{has_map, contains_at, all_at, all_of, each_map, each_same, zip_map}
 
 -- a direction, a cell and a part where rows and columns are exchanged
 abbrev dir_ex : Dir → Dir
@@ -223,12 +221,15 @@ side_loaded_ex parts i (inr seen) = inr (record {
 })
 
 blocked_ex : (parts : List Part) (i : ℕ) → IsBlocked parts i → IsBlocked (parts_ex parts) i
-blocked_ex parts i h = (cell_ex h.0, record {
-  taker = h.1.taker;
-  side = h.1.side;
-  look = looks_ex parts i h.0 h.1.taker h.1.side h.1.look;
-  blocked = h.1.blocked;
-})
+blocked_ex parts i h = (
+  cell_ex h.0,
+  record {
+    taker = h.1.taker;
+    side = h.1.side;
+    look = looks_ex parts i h.0 h.1.taker h.1.side h.1.look;
+    blocked = h.1.blocked;
+  },
+)
 
 ring_ex : (parts : List Part) (i : ℕ) → IsOnRing parts i → IsOnRing (parts_ex parts) i
 ring_ex parts i h = record {
@@ -385,9 +386,12 @@ fits_ex parts r none fits = record {
     back_of p = sym (steps_ex 1 (opposite p.dir) p.cell) ∙ ap (λ d. step d (cell_ex p.cell)) (sym (opposite_ex p.dir))
 
 pub has_exchanged : ExtendsExchanged
-has_exchanged r none laid = (parts_ex laid.0, record {
-  fits = fits_ex laid.0 r none laid.1.fits;
-  naming = laid.1.naming;
-  shows = shows_ex laid.0 r.net laid.1.naming (r.tier, laid.1.fits.one_tier) laid.1.shows;
-  demands = no_demand (KeepsDemand (parts_ex laid.0) (in_rect (exchanged r.rect) r) laid.1.naming) r.demands none.demands;
-})
+has_exchanged r none laid = (
+  parts_ex laid.0,
+  record {
+    fits = fits_ex laid.0 r none laid.1.fits;
+    naming = laid.1.naming;
+    shows = shows_ex laid.0 r.net laid.1.naming (r.tier, laid.1.fits.one_tier) laid.1.shows;
+    demands = no_demand (KeepsDemand (parts_ex laid.0) (in_rect (exchanged r.rect) r) laid.1.naming) r.demands none.demands;
+  },
+)

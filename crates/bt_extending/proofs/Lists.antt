@@ -1,6 +1,7 @@
 -- Lists by what stands at an index: mapped ones, and ones with one more at the end.
-use Rattle.std.proofs.Common.{◌≡◌, ◌≢◌, ◌⊎◌, inl, inr, ℕ, zero, suc, ◌<◌, List, [], ◌∷◌, ◌++◌, map, length, get_or, slice_get, Some, All, AllPairs, Contains, refl, sym, ◌∙◌, ap, subst, lt_trans}
+use Rattle.std.proofs.Common.{◌≡◌, ◌≢◌, ◌⊎◌, inl, inr, ℕ, zero, suc, ◌<◌, List, [], ◌∷◌, ◌++◌, ◌==◌, cond, map, length, get_or, slice_get, Some, All, AllPairs, Contains, refl, sym, ◌∙◌, ap, subst, lt_trans, arith}
 use Rattle.std.specs.List.{AllZip}
+use Rattle.std.proofs.lemmas.Bool.{cases_eq, eq-eqb, ne_eqb}
 use Rattle.std.proofs.lemmas.Option.{same_Some, none-some, slice_get_within, slice_get-get_or, get_or_from_slice_get}
 use Rattle.bt_model.specs.Shown.{ListsEach}
 
@@ -85,3 +86,39 @@ zip_map R S f (x ∷ xs) (z ∷ zs) h go = (
   go x z (contained (x ∷ xs) 0 x refl) h.0,
   zip_map R S f xs zs h.1 (λ y w c r. let at = contains_at xs y c in go y w (contained (x ∷ xs) (suc at.0) y at.1) r),
 )
+
+-- a number where one is replaced by another
+abbrev pub replaced : ℕ → ℕ → ℕ → ℕ
+replaced i n k = cond (k == i) n k
+
+pub replaced_at : (i n k : ℕ) → k ≡ i → replaced i n k ≡ n
+replaced_at i n k e = ap (λ b. cond b n k) (eq-eqb k i e)
+
+pub replaced_other : (i n k : ℕ) → (k ≡ i → ⊥) → replaced i n k ≡ k
+replaced_other i n k apart = ap (λ b. cond b n k) (ne_eqb k i apart)
+
+pub replaced_once : (i n k l : ℕ) → k < n → l < n → replaced i n k ≡ replaced i n l → k ≡ l
+replaced_once i n k l lt_k lt_l same = elim (cases_eq k i) [
+  | inl e ↦ elim (cases_eq l i) [
+    | inl f ↦ e ∙ sym f
+    | inr g ↦ absurd (let a = sym (replaced_at i n k e) ∙ same ∙ replaced_other i n l g in omega arith)
+  ]
+  | inr f ↦ elim (cases_eq l i) [
+    | inl e ↦ absurd (let a = sym (replaced_other i n k f) ∙ same ∙ replaced_at i n l e in omega arith)
+    | inr g ↦ sym (replaced_other i n k f) ∙ same ∙ replaced_other i n l g
+  ]
+]
+
+-- the names where one is replaced by a greater one
+pub each_replaced : (P Q : ℕ → Type 0) (i n : ℕ) (xs : List ℕ) → ListsEach P xs → P i → Q n → ((x : ℕ) → P x → x < n)
+    → ((x : ℕ) → (x ≡ n → ⊥) → Q x → P x × (x ≡ i → ⊥)) → ((x : ℕ) → P x → (x ≡ i → ⊥) → Q x) → ListsEach Q (map (replaced i n) xs)
+each_replaced P Q i n xs each is_i is_n below back forth = each_map P Q (replaced i n) xs each
+    (λ y h. elim (cases_eq y n) [
+      | inl e ↦ (i, is_i, e ∙ sym (replaced_at i n i refl))
+      | inr apart ↦ let old = back y apart h in (y, old.0, sym (replaced_other i n y old.1))
+    ])
+    (λ x h. elim (cases_eq x i) [
+      | inl e ↦ subst Q (sym (replaced_at i n x e)) is_n
+      | inr apart ↦ subst Q (sym (replaced_other i n x apart)) (forth x h apart)
+    ])
+    (λ x z is_x is_z same. replaced_once i n x z (below x is_x) (below z is_z) same)

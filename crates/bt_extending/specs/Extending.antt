@@ -1,5 +1,5 @@
 -- In which other rectangles a network that has a layout has one.
-use Rattle.std.specs.Prelude.{◌≡◌, ◌≤◌, List, []}
+use Rattle.std.specs.Prelude.{◌≡◌, ◌≤◌, ◌⊎◌, List, []}
 use Rattle.bt_parts.specs.declared.part.Part.{Part}
 use Rattle.bt_parts.specs.declared.part.Rect.{Rect}
 use Rattle.bt_model.specs.Laying.{Lays}
@@ -30,3 +30,12 @@ exchanged rect = record { width = rect.height; height = rect.width }
 -- a request that has a layout has one in the rectangle with width and height exchanged
 abbrev pub ExtendsExchanged : Type 0
 ExtendsExchanged = (request : LayoutRequest) → AsksNothing request → HasLayout request → HasLayout (in_rect (exchanged request.rect) request)
+
+-- the one rectangle fits into the other, as it is or turned
+abbrev pub FitsInto : Rect → Rect → Type 0
+FitsInto small great = ((small.width ≤ great.width) × (small.height ≤ great.height)) ⊎ ((small.width ≤ great.height) × (small.height ≤ great.width))
+
+-- a request that has no layout has none in any rectangle that fits into its own
+abbrev pub HasNoneInside : Type 0
+HasNoneInside = (request : LayoutRequest) (rect : Rect) → AsksNothing request → FitsInto rect request.rect
+    → (HasLayout request → ⊥) → HasLayout (in_rect rect request) → ⊥

@@ -3,4 +3,4 @@
 
 mod law;
 
-pub use law::{extends, is_exchanged};
+pub use law::{extends, is_exchanged, none_inside};
