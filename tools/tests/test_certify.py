@@ -120,6 +120,17 @@ class LeastTest(unittest.TestCase):
             self.assertEqual((folder["grid"], asked), ("2x3", ["2x4", "2x3", "2x2"]))
             self.assertEqual(least.Folder(Path(room))["turned"], {"2x2": 10})
 
+    def test_takes_the_layout_of_fewest_cells_that_lays_the_network(self):
+        belt = '{"entity_number":1,"name":"transport-belt","position":{"x":0.5,"y":0.5},"direction":0}'
+        blueprint = '{"blueprint":{"item":"blueprint","entities":[%s],"version":281479271677952}}' % belt
+        with tempfile.TemporaryDirectory() as room:
+            folder = least.Folder(Path(room))
+            folder.begin("net 1 1 0\nedge i0 o0\nend\n", "basic")
+            folder.layout(b"blueprint", "3x3")
+            self.assertFalse(least.take_least(folder, {"1x2": blueprint}))
+            self.assertTrue(least.take_least(folder, {"1x2": blueprint, "1x1": blueprint}))
+            self.assertEqual((folder["grid"], folder.cells()), ("1x1", 1))
+
 
 if __name__ == "__main__":
     unittest.main()
