@@ -95,6 +95,42 @@ class LeastTest(unittest.TestCase):
             with self.assertRaises(least.Refused):
                 again.begin("another net", "basic")
 
+    def test_looks_for_half_turns_until_none_is_found(self):
+        belts = '{"blueprint":{"item":"blueprint","entities":[%s],"version":281479271677952}}'
+        belt = '{"entity_number":%d,"name":"transport-belt","position":{"x":%s,"y":%s},"direction":0}'
+        asked = []
+
+        def turned_layout(program, folder, grid, cadical, conflicts):
+            asked.append(grid)
+            wide, high = map(int, grid.split("x"))
+            cells = [(x + 0.5, y + 0.5) for x in range(wide) for y in range(high)]
+            parts = ",".join(belt % (number, *cell) for number, cell in enumerate(cells, 1))
+            return (belts % parts).encode() if grid in ("2x4", "2x3") else None
+
+        with tempfile.TemporaryDirectory() as room:
+            folder = least.Folder(Path(room))
+            folder.begin("net", "basic")
+            folder.layout(b"blueprint", "3x3")
+            real, least.turned_layout = least.turned_layout, turned_layout
+            try:
+                least.find_turned(None, folder, "cadical", 10)
+                least.find_turned(None, folder, "cadical", 10)
+            finally:
+                least.turned_layout = real
+            self.assertEqual((folder["grid"], asked), ("2x3", ["2x4", "2x3", "2x2"]))
+            self.assertEqual(least.Folder(Path(room))["turned"], {"2x2": 10})
+
+    def test_takes_the_layout_of_fewest_cells_that_lays_the_network(self):
+        belt = '{"entity_number":1,"name":"transport-belt","position":{"x":0.5,"y":0.5},"direction":0}'
+        blueprint = '{"blueprint":{"item":"blueprint","entities":[%s],"version":281479271677952}}' % belt
+        with tempfile.TemporaryDirectory() as room:
+            folder = least.Folder(Path(room))
+            folder.begin("net 1 1 0\nedge i0 o0\nend\n", "basic")
+            folder.layout(b"blueprint", "3x3")
+            self.assertFalse(least.take_least(folder, {"1x2": blueprint}))
+            self.assertTrue(least.take_least(folder, {"1x2": blueprint, "1x1": blueprint}))
+            self.assertEqual((folder["grid"], folder.cells()), ("1x1", 1))
+
 
 if __name__ == "__main__":
     unittest.main()
