@@ -5,3 +5,4 @@ pub mod Exact
 pub mod Within
 pub mod InRows
 pub mod Marks
+pub mod Halves

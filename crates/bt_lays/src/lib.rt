@@ -5,6 +5,7 @@
 
 mod demands;
 mod fitting;
+mod handing;
 mod joins;
 mod law;
 mod names;
@@ -13,7 +14,8 @@ mod rows;
 mod showing;
 mod testing;
 
-pub use law::laid_by_names;
+pub use handing::priorities_of;
+pub use law::{laid_by_names, laid_preferring_by_names};
 pub use names::Names;
 pub use preferring::lays_preferring;
 pub use std::alloc::AllocError as Memory;
