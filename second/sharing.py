@@ -1,13 +1,14 @@
 #!/usr/bin/env python3
 """Looks at what the program says of how ends share: `fair` and `drawn-fairly`.
 
-    sharing.py [--short] PROGRAM [NETWORKS [MUTANTS]]
+    sharing.py [--short] [--seed SEED] PROGRAM [NETWORKS [MUTANTS]]
 
 Of every example, and of so many networks that are thrown together (3000 where none is told) with priorities and tiers,
 the program decides both properties. What it writes is checked by `check.py`, and where some loads and rooms of 0 and
 full give a state that breaks the property, it says no yes. Then both check so many mutants (20000 where none is told)
 of these certificates and states, and must say the same, word for word. It prints counts and every difference, and ends
-with 1 where there is one. `--short` runs a few of each. The generator is fixed."""
+with 1 where there is one. `--short` runs a few of each. The generator is fixed: with one program and one seed (8 where
+none is told) the inputs are always the same."""
 
 import argparse
 import random
@@ -69,13 +70,14 @@ def main():
     words.add_argument("networks", nargs="?", type=int)
     words.add_argument("mutants", nargs="?", type=int)
     words.add_argument("--short", action="store_true")
+    words.add_argument("--seed", type=int, default=8)
     told = words.parse_args()
     counts = [told.networks, told.mutants]
     networks, changed = (
         count if count is not None else few if told.short else many
         for count, few, many in zip(counts, SHORT, (NETWORKS, MUTANTS))
     )
-    chance, held, both = random.Random(8), verdicts.Verdicts((told.program,)), differ.Differ(told.program, None)
+    chance, held, both = random.Random(told.seed), verdicts.Verdicts((told.program,)), differ.Differ(told.program, None)
     mutants(both, chance, sources(held, told.program, chance, networks, told.short), changed)
     for counted in held.told, both.kinds, both.answers:
         print("\n".join(f"{count:7} {name}" for name, count in sorted(counted.items())) + "\n")

@@ -1,7 +1,7 @@
 -- Orders in which only equal things tie: of numbers, of joins and of marks.
-use Rattle.std.proofs.Common.{◌≡◌, ◌↔◌, ℕ, ◌+◌, ◌<◌, Bool, true, false, IsTrue, IsPermutation, IsSortedBy, is_lt, List, length, get_or, map, Ordering, Less, Equal, Greater, nat_cmp, refl, sym, ◌∙◌, ap, subst, arith}
+use Rattle.std.proofs.Common.{◌≡◌, ◌↔◌, ℕ, ◌+◌, ◌<◌, Bool, true, false, IsTrue, IsPermutation, IsSortedBy, is_lt, List, length, get_or, map, Ordering, Less, Equal, Greater, nat_cmp, refl, sym, ◌∙◌, subst, arith}
 use Rattle.std.specs.Ordering.{bool_cmp, ordering_then}
-use Rattle.std.proofs.lemmas.List.{get_or-map, get_or_default, length-map}
+use Rattle.std.proofs.lemmas.List.{get_or-map, length-map}
 use Rattle.std.proofs.lemmas.Cmp.{nat_cmp_total, ranked}
 use Rattle.bt_lays.specs.declared.joins.Join.{Join}
 use Rattle.bt_lays.specs.contracts.joins.JoinOrd.TheImpl as join_ord

@@ -5,7 +5,7 @@ use Rattle.std.specs.List.{AllPairs, AllZip, Contains}
 use Rattle.std.proofs.lemmas.Bool.{cases_order, false≢true}
 use Rattle.std.proofs.lemmas.Option.{get_or_from_slice_get, none-some, same_Some, slice_get-get_or, slice_get_within}
 use Rattle.std.proofs.lemmas.List.{ext_get_or, get_or-map, get_or-replicate, length-map, length_push}
-use Rattle.std.proofs.lemmas.List.Sorted.{Contains-permutation, IsPermutation-sym, IsPermutation-trans, length_permutation}
+use Rattle.std.proofs.lemmas.List.Sorted.{Contains-permutation, IsPermutation-sym, IsPermutation-trans}
 use Rattle.bt_hands.specs.declared.hand.Hand.{Hand}
 use Rattle.bt_hands.specs.declared.hand.Hand.TheVariants.{Left, Right}
 use Rattle.bt_hands.specs.declared.hand.Priority.{Priority}
@@ -15,17 +15,13 @@ use Rattle.bt_parts.specs.declared.part.Dir.{Dir}
 use Rattle.bt_parts.specs.declared.part.Dir.TheVariants.{North, East, South, West}
 use Rattle.bt_parts.specs.declared.part.Kind.TheVariants.{Splitter}
 use Rattle.bt_parts.specs.declared.part.Part.{Part}
-use Rattle.bt_parts.specs.Cells.{Covers, beside, step}
+use Rattle.bt_parts.specs.Cells.{beside, step}
 use Rattle.bt_parts.specs.Layouts.{HasPart, IsAt}
-use Rattle.bt_parts.proofs.Places.{same_part}
-use Rattle.bt_net.specs.declared.network.Edge.{Edge}
-use Rattle.bt_net.specs.declared.network.Start.{Start}
 use Rattle.bt_net.specs.declared.network.Start.TheVariants as from
-use Rattle.bt_net.specs.declared.network.Target.{Target}
 use Rattle.bt_net.specs.declared.network.Target.TheVariants as to
 use Rattle.bt_net.specs.Network.{Network, IsNetwork, EndsIn, StartsIn, preferred_in}
-use Rattle.bt_model.specs.Chains.{Chain, IsChain, IsEmptyChain, IsLongest, IsSplitter, EndsAs, Source, Sink, StartsAs, begins, leaves, ends, enters}
-use Rattle.bt_model.specs.Preferring.{ArePreferred, EndsAtHalf, IsGivenFirst, IsHalfOn, IsTakenFirst, ShowsPreferring}
+use Rattle.bt_model.specs.Chains.{Chain, IsChain, IsSplitter, EndsAs, Source, Sink, StartsAs, begins, leaves, ends, enters}
+use Rattle.bt_model.specs.Preferring.{ArePreferred, EndsAtHalf, IsHalfOn, ShowsPreferring}
 use Rattle.bt_model.specs.Shown.{Naming, IsNaming, IsEdgeOf, IsStartOf, IsTargetOf}
 use Rattle.bt_model.specs.Speeds.{IsCapOf}
 use Rattle.bt_model.proofs.Places.{zip_length}
@@ -35,13 +31,13 @@ use Rattle.bt_recover.specs.Preferred.{IsPreferring}
 use Rattle.bt_recover.proofs.PreferLemmas.{zip_get}
 use Rattle.bt_lays.specs.declared.joins.Join.{Join}
 use Rattle.bt_lays.specs.declared.preferring.Marked.{Marked}
-use Rattle.bt_lays.specs.inner.Handed.{AreHanded, AreTold, IsTold, TellsGive, TellsTake, hand_told, join_in, mark_at, to_left}
+use Rattle.bt_lays.specs.inner.Handed.{AreHanded, IsTold, hand_told, join_in, mark_at, to_left}
 use Rattle.bt_lays.specs.inner.Joins.{join_of, joins_of, no_join, start_part, target_part}
 use Rattle.bt_lays.specs.inner.Marks.{AreMarks, no_mark}
 use Rattle.bt_lays.specs.inner.Tests.{AreJoinedAs}
 use Rattle.bt_lays.proofs.Listing.{along, each_moved, pairs_moved}
 use Rattle.bt_lays.proofs.Marks.{IsMarkedChain, contained, ends_there, given_edge, given_some, marked_at, own_marks, placed_more, shown_own, starts_there, taken_edge, taken_some, zip_right, zipped_at}
-use Rattle.bt_lays.proofs.Renamed.{sink_enters, sink_part, sink_splits, source_leaves, source_part, source_splits, start_from, target_from}
+use Rattle.bt_lays.proofs.Renamed.{sink_splits, source_splits, start_from, target_from}
 
 -- the chain starts at the half of this splitter on this hand, or ends there
 abbrev pub GivesBy : List Part → Chain → ℕ → Option Hand → Type 0

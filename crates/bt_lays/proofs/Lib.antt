@@ -6,3 +6,4 @@ pub mod Within
 pub mod InRows
 pub mod Marks
 pub mod Halves
+pub mod Gone

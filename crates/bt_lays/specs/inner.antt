@@ -1,4 +1,5 @@
 -- What the private functions alone cite: no public clause rests on these.
+pub mod Finding
 pub mod Fitting
 pub mod Handed
 pub mod Joins

@@ -182,7 +182,7 @@ fn on_grid(
 /// # Errors
 ///
 /// Only want of memory.
-pub fn priorities_of(
+pub fn priorities_by(
     alloc: Global,
     parts: &[Part],
     names: &Names,

@@ -4,6 +4,7 @@
 #![tactic(auto)]
 
 mod demands;
+mod finding;
 mod fitting;
 mod handing;
 mod joins;
@@ -14,7 +15,8 @@ mod rows;
 mod showing;
 mod testing;
 
-pub use handing::priorities_of;
+pub use finding::any_names;
+pub use handing::priorities_by;
 pub use law::{laid_by_names, laid_preferring_by_names};
 pub use names::Names;
 pub use preferring::lays_preferring;

@@ -1,4 +1,4 @@
-use Rattle.std.proofs.Common.{◌≡◌, ◌≢◌, ℕ, length, replicate, sym, ◌∙◌, ap, ⊎_elim}
+use Rattle.std.proofs.Common.{◌≡◌, ◌≢◌, ℕ, length, replicate, ◌∙◌, ap, ⊎_elim}
 use Rattle.std.proofs.lemmas.Result.{IfOk-weaker}
 use Rattle.bt_hands.specs.Hands.{no_priority, priority_of}
 use Rattle.bt_parts.specs.declared.part.Kind.TheVariants.{Splitter}

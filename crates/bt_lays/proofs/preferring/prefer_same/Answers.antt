@@ -1,4 +1,4 @@
-use Rattle.std.proofs.Common.{◌↔◌, IsTrue, IsPermutation, subst}
+use Rattle.std.proofs.Common.{◌↔◌, IsTrue, IsPermutation}
 use Rattle.std.proofs.lemmas.Result.{IfOk-weaker}
 use Rattle.bt_lays.specs.Laid.{naming_of}
 use Rattle.bt_lays.specs.inner.Marks.{AreMarkedAs, HaveSameMarks}

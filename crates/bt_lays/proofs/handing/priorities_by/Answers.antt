@@ -6,7 +6,7 @@ use Rattle.bt_grid.specs.declared.grid.GridFault.TheVariants.{Memory}
 use Rattle.bt_grid.specs.Placing.{IsFirstOverlap, IsPlaced}
 use Rattle.bt_lays.specs.Laid.{naming_of}
 use Rattle.bt_lays.proofs.Within.{overlap_no_memory, overlapping_lays_not, suits_in_range, suits_of}
-use Rattle.bt_lays.proofs.handing.priorities_of.Goals as goal
+use Rattle.bt_lays.proofs.handing.priorities_by.Goals as goal
 
 pub place-requires : goal.place-requires
 place-requires c =
