@@ -57,8 +57,8 @@ def looped(network, lines):
 
 
 def universal(order):
-    """The text of the butterfly of twice as many lines, of which every other one is led back: the splitters at its inputs
-    take from these first, and those at its outputs give to these first."""
+    """The text of the butterfly of twice as many lines, of which every other one is led back: the splitters at its
+    inputs take from these first, and those at its outputs give to these first."""
     network, edges, gives, takes = butterfly(order + 1), [], {}, {}
     firsts = {start[1]: target for start, target in network.edges if start[0] == "i"}
     for start, target in network.edges:

@@ -1,22 +1,23 @@
 #!/usr/bin/env bash
-# Times `beltproof decide` of the six properties of universal balancers, of 4 to 32 lines and two that a search found, and
-# of `fair` and `drawn-fairly` of butterflies of 64 lines, which have neither. It prints for each property the verdict, the
-# steps and bytes of its certificate, whether `check` accepts it, and the seconds of a processor, the least of several
-# runs, and says where a goal isn't met.
+# Times `beltproof decide` of the six properties of universal balancers, of 4 to 32 lines and two that a search found,
+# and of `fair` and `drawn-fairly` of butterflies of 64 lines, which have neither. It prints for each property the
+# verdict, the steps and bytes of its certificate, whether `check` accepts it, and the seconds of a processor, the least
+# of several runs, and says where a goal isn't met.
 #
-#     bench/universal.sh [PROGRAM]
+#     bench/universal.sh [PROGRAM [NAME ...]]
 #
-# measures the program of these sources where none is told.
+# measures the program of these sources where none is told, on the networks whose names begin so, by default all.
 set -euo pipefail
 bench=$(cd "$(dirname "${BASH_SOURCE[0]}")" && pwd)
 top=$(dirname "$bench")
 program=${1:-$("$top/tools/program")}
-PYTHONDONTWRITEBYTECODE=1 PYTHONPATH=$bench python3 - "$program" "$top/examples" <<'PYTHON'
+shift || true
+PYTHONDONTWRITEBYTECODE=1 PYTHONPATH=$bench python3 - "$program" "$top/examples" "$@" <<'PYTHON'
 import os, subprocess, sys, tempfile
 
 import networks
 
-program, examples = sys.argv[1:]
+program, examples, *names = sys.argv[1:]
 SHARING = ["fair", "drawn-fairly"]
 SIX = ["balanced", "drawn-evenly", "unlimited", "full", *SHARING]
 RUNS, ENOUGH = 5, 2  # and the seconds after which no more runs are begun
@@ -45,7 +46,7 @@ def run(words, text):
 
 
 for name, text, wanted, most, bytes_ in GOALS:
-    for prop in wanted:
+    for prop in wanted if not names or name.startswith(tuple(names)) else ():
         best = spent = None
         for _ in range(RUNS):
             seconds, status, written = run(["decide", prop], text.encode())

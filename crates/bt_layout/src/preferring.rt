@@ -1,5 +1,5 @@
 //! What the splitters of a layout are to prefer.
-ghost use Rattle.std.specs.Prelude.{◌≡◌, ◌≢◌, IfOk, IfSome, None, false};
+ghost use Rattle.std.specs.Prelude.{◌≡◌, IfOk, IfSome, None, false};
 ghost use Rattle.bt_net.specs.Network.{give_of, take_of};
 ghost use Rattle.bt_model.specs.Laying.{Lays, LaysPreferring};
 ghost use Rattle.bt_model.specs.Requests.{IsRequest};
@@ -58,11 +58,7 @@ pub fn priorities_on(
 }
 
 /// The names that a hint proposes, where parts lay the request by them.
-fn proposed(
-    alloc: Global,
-    request: &Request,
-    parts: &[Part],
-) -> Result<Option<Names>, AllocError>
+fn proposed(alloc: Global, request: &Request, parts: &[Part]) -> Result<Option<Names>, AllocError>
     ensures { IfOk result (λ found. IfSome found (λ names. LaysBy parts.now (naming_of names) request.now)) }
 {
     let Some(names) = name_parts(alloc, request, parts)? else {

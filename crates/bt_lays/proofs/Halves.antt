@@ -359,7 +359,7 @@ told_more parts halves wishes list new index d priority long before lt told is =
     subst (λ l. (length l ≡ index + 1) × ((k : ℕ) (d : Priority) → k < length l → (part : Part) → HasPart parts k part → IsTold halves wishes k part.kind (get_or l k d))) (sym is) (
       (let more = length_push list priority in omega (arith, more, long)),
       placed_more (λ k p. (part : Part) → HasPart parts k part → IsTold halves wishes k part.kind p) list priority index long before
-      (λ part is_part. subst (λ p. IsTold halves wishes index p.kind priority) (get_or_from_slice_get parts index part d is_part) told),
+          (λ part is_part. subst (λ p. IsTold halves wishes index p.kind priority) (get_or_from_slice_get parts index part d is_part) told),
     )
 
 -- the layout's own network, as it was recovered

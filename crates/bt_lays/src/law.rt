@@ -17,7 +17,8 @@ pub fn laid_by_names()
 
 /// The same with what the splitters of the request prefer.
 pub fn laid_preferring_by_names()
-    ensures by_names { (parts : List Part) (priorities : List Priority) (naming : Naming) (request : LayoutRequest)
+    ensures by_names { (parts : List Part) (priorities : List Priority) (naming : Naming)
+        → (request : LayoutRequest)
         → LaysPreferringBy parts priorities naming request → LaysPreferring parts priorities request }
     ensures some_names { (parts : List Part) (priorities : List Priority) (request : LayoutRequest)
         → LaysPreferring parts priorities request

@@ -23,10 +23,13 @@ enum Kind {
 
 /// The colours of inputs, of outputs and of splitters, of which nothing more is known.
 const INPUT: u64 = 1;
+
 const OUTPUT: u64 = 2;
+
 const SPLITTER: u64 = 3;
 /// What tells the colours of ends on cells, and of those at sides, from the others.
 const ON_CELL: u64 = 1 << 40;
+
 const AT_SIDE: u64 = 1 << 41;
 
 /// The network of a layout with its own numbers, where the parts show one.
@@ -88,7 +91,10 @@ fn code_of(dir: Dir) -> u64 {
 
 /// The colour of an end of a kind on a cell that an end is pinned to.
 fn on_cell(kind: Kind, cell: Cell) -> u64 {
-    let (x, y) = (u64::from(cell.x.unsigned_abs()), u64::from(cell.y.unsigned_abs()));
+    let (x, y) = (
+        u64::from(cell.x.unsigned_abs()),
+        u64::from(cell.y.unsigned_abs()),
+    );
     plain(kind)
         .wrapping_add(ON_CELL)
         .wrapping_add(x.wrapping_mul(16))
