@@ -17,7 +17,7 @@ def book(designs):
 
 
 SEVERAL = {"universal-1-to-3-in-10x12", "universal-3-to-3-in-13x15"}
-"""The examples with halves that lead nowhere, of which several choices of halves make as many ends as the label tells."""
+"""The examples with halves that lead nowhere, so that several choices of halves make the ends that the label tells."""
 
 
 class Trimmed(Case):

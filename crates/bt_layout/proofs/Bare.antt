@@ -1,21 +1,16 @@
 -- Parts that lay a request whose splitters prefer nothing lay it with that, without priorities.
-use Rattle.std.proofs.Common.{◌≡◌, ◌≢◌, ◌⊎◌, ℕ, ◌+◌, ◌<◌, ◌≤◌, List, [], ◌∷◌, ◌++◌, length, get_or, None, Some, Option, slice_get, refl, sym, ◌∙◌, ap, subst, inl, inr, ⊎_elim, IsPermutation, arith}
+use Rattle.std.proofs.Common.{◌≡◌, ℕ, ◌+◌, ◌<◌, List, [], length, None, Some, Option, slice_get, ◌∙◌, subst, ⊎_elim, arith}
 use Rattle.std.specs.Prelude.{MatchOption}
-use Rattle.std.specs.List.{AllZip, Contains}
+use Rattle.std.specs.List.{Contains}
 use Rattle.std.proofs.lemmas.Bool.{cases_lt}
-use Rattle.std.proofs.lemmas.Option.{get_or_from_slice_get, slice_get_within}
-use Rattle.std.proofs.lemmas.List.{get_or_append_left, get_or_push, length_push}
-use Rattle.bt_hands.specs.declared.hand.Priority.{Priority}
-use Rattle.bt_hands.specs.Hands.{no_priority, priority_of}
-use Rattle.bt_parts.specs.declared.part.Kind.TheVariants.{Splitter}
+use Rattle.std.proofs.lemmas.Option.{slice_get_within}
 use Rattle.bt_parts.specs.declared.part.Part.{Part}
-use Rattle.bt_parts.specs.Layouts.{HasPart}
 use Rattle.bt_net.specs.declared.network.Edge.{Edge}
-use Rattle.bt_net.specs.Network.{IsNetwork, Network, preferred_in}
+use Rattle.bt_net.specs.Network.{IsNetwork, preferred_in}
 use Rattle.bt_model.specs.Chains.{Chain, IsChain}
 use Rattle.bt_model.specs.Laying.{Lays, LaysPreferring}
 use Rattle.bt_model.specs.Preferring.{ArePreferred, IsGivenFirst, IsTakenFirst}
-use Rattle.bt_model.specs.Requests.{LayoutRequest, IsRequest}
+use Rattle.bt_model.specs.Requests.{LayoutRequest}
 use Rattle.bt_model.specs.Shown.{IsEdgeOf}
 use Rattle.bt_lays.proofs.Listing.{along, each_moved}
 use Rattle.bt_lays.proofs.Marks.{flipped}

@@ -1,4 +1,4 @@
-use Rattle.std.proofs.Common.{[], ap, sym, subst}
+use Rattle.std.proofs.Common.{ap, sym, subst}
 use Rattle.std.proofs.lemmas.Result.{IfOk-weaker}
 use Rattle.bt_hands.specs.Hands.{priority_of}
 use Rattle.bt_model.specs.Laying.{LaysPreferring}
