@@ -56,6 +56,28 @@ def looped(network, lines):
     return Network(lines, lines, network.splitters, [(start, led(target)) for start, target in kept])
 
 
+def universal(order):
+    """The text of the butterfly of twice as many lines, of which every other one is led back: the splitters at its
+    inputs take from these first, and those at its outputs give to these first."""
+    network, edges, gives, takes = butterfly(order + 1), [], {}, {}
+    firsts = {start[1]: target for start, target in network.edges if start[0] == "i"}
+    for start, target in network.edges:
+        if start[0] == "i" and start[1] % 2:
+            continue
+        if start[0] == "i":
+            takes[target[1]] = len(edges)
+            start = "i", start[1] // 2
+        elif target[0] == "o" and target[1] % 2:
+            target = firsts[target[1]]
+        elif target[0] == "o":
+            gives[start[1]] = len(edges)
+            target = "o", target[1] // 2
+        edges.append((start, target))
+    first = [f"give s{s} {e}" for s, e in sorted(gives.items())] + [f"take s{s} {e}" for s, e in sorted(takes.items())]
+    head = Network(2**order, 2**order, network.splitters, edges).text().splitlines()[:-1]
+    return "\n".join([*head, *first, "end", ""])
+
+
 def exchanged(network, seed):
     """The network with the targets of two edges between splitters exchanged, which end at different ones."""
     chance = random.Random(seed)

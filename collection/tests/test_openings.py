@@ -10,6 +10,7 @@ from . import Case, belt, blueprint, program_path, test_ends, trimming
 WHOLE = {"balancer-16-to-16", "balancer-4-to-4", "balancer-8-to-8", "balancer-8-to-8-in-9x11", "loop-back-3-to-3"}
 WHOLE |= {"balancer-8-to-8-in-9x9", "loop-5-to-5", "loop-6-to-6", "loop-7-to-7"}
 WHOLE |= {"loop-5-to-5-in-9x11", "loop-6-to-6-in-9x10", "loop-7-to-7-in-9x9"}
+WHOLE |= {"universal-2-to-2-in-5x8", "universal-4-to-4-in-15x18"}
 WHOLE |= {"pinned-4-to-4", "splitter-2-to-2", "woven-3-to-3", "Balancers/2 to 2", "Balancers/3 to 3, looped"}
 WHOLE |= {"Balancers/4 to 4", "Balancers/4 to 4, throughput unlimited", "Balancers/6 to 6, looped", "Balancers/8 to 8"}
 WHOLE |= {"Balancers/16 to 16", "Mixing/3 to 3, woven", "Mixing/8 to 8 of 8 splitters"}
@@ -69,7 +70,7 @@ class Labels(Case):
 class Examples(Case):
     def test_trimmed_to_their_splitters(self):
         found = list(trimming.designs())
-        self.assertEqual(len(found), 37)
+        self.assertEqual(len(found), 41)
         for name, text in found:
             with self.subTest(name=name):
                 label = name.split("/")[-1]

@@ -16,6 +16,10 @@ def book(designs):
     return json.dumps({"blueprint_book": {"item": "blueprint-book", "blueprints": listed}})
 
 
+SEVERAL = {"universal-1-to-3-in-10x12", "universal-3-to-3-in-13x15"}
+"""The examples with halves that lead nowhere, so that several choices of halves make the ends that the label tells."""
+
+
 class Trimmed(Case):
     def judged(self, designs):
         """The verdicts on each design, and what is said of it."""
@@ -34,9 +38,12 @@ class Trimmed(Case):
         trimmed, _ = self.judged([(label, trimming.trimmed(text)) for label, _, text in found])
         for label, name, _ in found:
             with self.subTest(name=name):
-                self.assertEqual(trimmed[label], whole[label])
+                told = zip(trimmed[label], whole[label], strict=True)
+                open_ = {(one, other) for one, other in told if one != other}
+                halves = {((prop, "halves", ends), (prop, verdict, ends)) for prop, verdict, ends in whole[label]}
+                self.assertLessEqual(open_, halves if name in SEVERAL else set())
                 self.assertEqual(len(whole[label]), len(states.PROPERTIES))
-        self.assertEqual(len(found), 37)
+        self.assertEqual(len(found), 41)
 
     def test_what_holds_of_all_choices_is_told_and_the_rest_is_open(self):
         case = next(it for it in test_ends.CASES if it["expected"]["status"] == "several")

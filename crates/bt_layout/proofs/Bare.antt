@@ -1,50 +1,24 @@
 -- Parts that lay a request whose splitters prefer nothing lay it with that, without priorities.
-use Rattle.std.proofs.Common.{◌≡◌, ◌≢◌, ◌⊎◌, ℕ, ◌+◌, ◌<◌, ◌≤◌, List, [], ◌∷◌, ◌++◌, length, get_or, None, Some, Option, slice_get, refl, sym, ◌∙◌, ap, subst, inl, inr, ⊎_elim, IsPermutation, arith}
+use Rattle.std.proofs.Common.{◌≡◌, ℕ, ◌+◌, ◌<◌, List, [], length, None, Some, Option, slice_get, ◌∙◌, subst, ⊎_elim, arith}
 use Rattle.std.specs.Prelude.{MatchOption}
-use Rattle.std.specs.List.{AllZip, Contains}
+use Rattle.std.specs.List.{Contains}
 use Rattle.std.proofs.lemmas.Bool.{cases_lt}
-use Rattle.std.proofs.lemmas.Option.{get_or_from_slice_get, slice_get_within}
-use Rattle.std.proofs.lemmas.List.{get_or_append_left, get_or_push, length_push}
-use Rattle.bt_hands.specs.declared.hand.Priority.{Priority}
-use Rattle.bt_hands.specs.Hands.{no_priority, priority_of}
-use Rattle.bt_parts.specs.declared.part.Kind.TheVariants.{Splitter}
+use Rattle.std.proofs.lemmas.Option.{slice_get_within}
 use Rattle.bt_parts.specs.declared.part.Part.{Part}
-use Rattle.bt_parts.specs.Layouts.{HasPart}
 use Rattle.bt_net.specs.declared.network.Edge.{Edge}
-use Rattle.bt_net.specs.Network.{IsNetwork, Network, preferred_in}
+use Rattle.bt_net.specs.Network.{IsNetwork, preferred_in}
 use Rattle.bt_model.specs.Chains.{Chain, IsChain}
 use Rattle.bt_model.specs.Laying.{Lays, LaysPreferring}
 use Rattle.bt_model.specs.Preferring.{ArePreferred, IsGivenFirst, IsTakenFirst}
-use Rattle.bt_model.specs.Requests.{LayoutRequest, IsRequest}
+use Rattle.bt_model.specs.Requests.{LayoutRequest}
 use Rattle.bt_model.specs.Shown.{IsEdgeOf}
 use Rattle.bt_lays.proofs.Listing.{along, each_moved}
+use Rattle.bt_lays.proofs.Marks.{flipped}
 use Rattle.bt_layout.specs.inner.Bare.{PrefersNothing}
 
 -- what holds below a number and of it holds below the next
 pub below_more : (P : ℕ → Type 0) (n : ℕ) → ((k : ℕ) → k < n → P k) → P n → (k : ℕ) → k < n + 1 → P k
 below_more P n before here k lt = ⊎_elim (λ less. before k less) (λ more. subst P (let same : n ≡ k = omega (arith, lt, more) in same) here) (cases_lt k n)
-
--- one more priority, of the next part
-pub kept_more : (parts : List Part) (kept : List Priority) (n : ℕ) (p : Priority) (d : Part) → length kept ≡ n
-    → ((i : ℕ) (part : Part) → i < n → HasPart parts i part → part.kind ≢ Splitter → priority_of kept i ≡ no_priority)
-    → ((get_or parts n d).kind ≢ Splitter → p ≡ no_priority)
-    → (length (kept ++ p ∷ []) ≡ n + 1)
-    × ((i : ℕ) (part : Part) → i < n + 1 → HasPart parts i part → part.kind ≢ Splitter → priority_of (kept ++ p ∷ []) i ≡ no_priority)
-kept_more parts kept n p d long before here = (
-  (let size = length_push kept p in omega (arith, size, long)),
-  λ i part lt is_i apart. ⊎_elim (λ less. get_or_append_left kept (p ∷ []) no_priority i (omega (arith, less, long)) ∙ before i part less is_i apart)
-      (λ more. let same : n ≡ i = omega (arith, lt, more) in
-      get_or_push kept p no_priority i (long ∙ same)
-      ∙ here (λ splits. apart (ap (λ x. x.kind) (sym (get_or_from_slice_get parts i part d is_i)) ∙ subst (λ m. (get_or parts m d).kind ≡ Splitter) same splits)))
-      (cases_lt i n),
-)
-
--- two lists that agree, the other way round
-flipped : {X Y : Type 0} (R : X → Y → Type 0) (xs : List X) (ys : List Y) → AllZip R xs ys → AllZip (λ y x. R x y) ys xs
-flipped R [] [] h = tt
-flipped R [] (y ∷ ys) h = absurd h
-flipped R (x ∷ xs) [] h = absurd h
-flipped R (x ∷ xs) (y ∷ ys) h = (h.0, flipped R xs ys h.1)
 
 -- what is said of none is said
 none_said : {X : Type 0} (o : Option X) (N : Type 0) (S : X → Type 0) → o ≡ None → N → MatchOption o N S

@@ -1,30 +1,28 @@
 //! What the splitters of a layout are to prefer.
-ghost use Rattle.std.specs.Prelude.{◌≡◌, ◌≢◌, IfOk, None, false};
-ghost use Rattle.bt_parts.specs.declared.part.Kind.TheVariants.{Splitter};
-ghost use Rattle.bt_hands.specs.Hands.{no_priority, priority_of};
+ghost use Rattle.std.specs.Prelude.{◌≡◌, IfOk, IfSome, None, false};
 ghost use Rattle.bt_net.specs.Network.{give_of, take_of};
 ghost use Rattle.bt_model.specs.Laying.{Lays, LaysPreferring};
 ghost use Rattle.bt_model.specs.Requests.{IsRequest};
+ghost use Rattle.bt_lays.specs.Laid.{LaysBy, naming_of};
 ghost use Rattle.bt_write.specs.ReadBack.{SplittersPrefer};
 ghost use Rattle.bt_layout.specs.Smallest.{NamesNoCells, request_on};
 ghost use Rattle.bt_layout.specs.inner.Bare.{PrefersNothing};
 
 use crate::least::request_on;
 use bt_hands::Priority;
-use bt_lays::{Names, lays_preferring};
+use bt_lays::{Names, any_names, lays, priorities_by};
 use bt_model::Request;
 use bt_net::Net;
-use bt_parts::{Kind, Part, Rect};
-use hint_preferring::{Preferring, prefer};
+use bt_parts::{Part, Rect};
+use hint_naming::name_parts;
 use std::alloc::{AllocError, Global};
 
 /// The priorities with which parts that lay a request but for what its splitters prefer lay it with that too: those of the
-/// parts in their order, or none where no splitter prefers anything. There are some for all such parts; a hint proposes
-/// them, and they are taken where they are tested.
+/// parts in their order, or none where no splitter prefers anything. There are some for all such parts.
 ///
 /// # Errors
 ///
-/// Want of memory, or that the hint proposes none that lay the request.
+/// Only want of memory.
 pub fn priorities_of(
     alloc: Global,
     request: &Request,
@@ -37,10 +35,8 @@ pub fn priorities_of(
     if !prefers_any(request.net()) {
         return Ok(Vec::new(alloc));
     }
-    match prefer(alloc, request, parts)? {
-        Some(found) => tested(alloc, request, parts, found),
-        None => Err(AllocError),
-    }
+    let names = names_of(alloc, request, parts)?;
+    priorities_by(alloc, parts, &names, request)
 }
 
 /// The same for parts that lay a request on another grid than its own.
@@ -61,73 +57,40 @@ pub fn priorities_on(
     priorities_of(alloc, &again, parts)
 }
 
-/// The priority of the part with this index: none, where there are fewer priorities.
-fn priority_at(priorities: &[Priority], index: usize) -> Priority
-    ensures { result ≡ priority_of priorities.now index }
+/// The names that a hint proposes, where parts lay the request by them.
+fn proposed(alloc: Global, request: &Request, parts: &[Part]) -> Result<Option<Names>, AllocError>
+    ensures { IfOk result (λ found. IfSome found (λ names. LaysBy parts.now (naming_of names) request.now)) }
 {
-    match priorities.get(index) {
-        Some(priority) => *priority,
-        None => Priority {
-            give: None,
-            take: None,
-        },
-    }
-}
-
-/// What a part of this kind may prefer: all but splitters nothing.
-fn allowed(kind: Kind, priority: Priority) -> Priority
-    ensures { kind ≢ Splitter → result ≡ no_priority }
-{
-    match kind {
-        Kind::Splitter => priority,
-        Kind::Belt | Kind::Entrance | Kind::Exit => Priority {
-            give: None,
-            take: None,
-        },
-    }
-}
-
-/// The priorities of the parts, of which splitters alone prefer anything.
-fn of_splitters(
-    alloc: Global,
-    parts: &[Part],
-    priorities: &[Priority],
-) -> Result<Vec<Priority>, AllocError>
-    ensures { IfOk result (λ kept. SplittersPrefer parts.now kept.items) }
-{
-    let mut kept = Vec::with_capacity(alloc, parts.len())?;
-    for index in 0..parts.len() {
-        kept.push(allowed(parts[index].kind, priority_at(priorities, index)))?;
-    }
-    Ok(kept)
-}
-
-/// The proposed priorities, where parts with them lay the request by the proposed names.
-fn tested(
-    alloc: Global,
-    request: &Request,
-    parts: &[Part],
-    found: Preferring,
-) -> Result<Vec<Priority>, AllocError>
-    ensures lays { IfOk result (λ priorities. LaysPreferring parts.now priorities.items request.now) }
-    ensures splitters { IfOk result (λ priorities. SplittersPrefer parts.now priorities.items) }
-{
-    let Preferring {
-        splitters,
-        inputs,
-        outputs,
-        priorities,
-    } = found;
-    let names = Names {
-        splitters,
-        inputs,
-        outputs,
+    let Some(names) = name_parts(alloc, request, parts)? else {
+        return Ok(None);
     };
-    let kept = of_splitters(alloc, parts, &priorities)?;
-    if lays_preferring(alloc, parts, &kept, &names, request)? {
-        Ok(kept)
+    if lays(alloc, parts, &names, request)? {
+        Ok(Some(names))
     } else {
-        Err(AllocError)
+        Ok(None)
+    }
+}
+
+/// The first names of all by which the parts lay the request.
+fn searched(alloc: Global, request: &Request, parts: &[Part]) -> Result<Names, AllocError>
+    requires { Lays parts.now request.now }
+    ensures { IfOk result (λ names. LaysBy parts.now (naming_of names) request.now) }
+{
+    match any_names(alloc, parts, request)? {
+        Some(names) => Ok(names),
+        None => unreachable!(),
+    }
+}
+
+/// Names by which parts that lay a request lay it: those that a hint proposes, where they hold, or else the first of all
+/// that do. No layout is known of which the hint proposes none.
+fn names_of(alloc: Global, request: &Request, parts: &[Part]) -> Result<Names, AllocError>
+    requires { Lays parts.now request.now }
+    ensures { IfOk result (λ names. LaysBy parts.now (naming_of names) request.now) }
+{
+    match proposed(alloc, request, parts)? {
+        Some(names) => Ok(names),
+        None => searched(alloc, request, parts),
     }
 }
 

@@ -5,3 +5,5 @@ pub mod Exact
 pub mod Within
 pub mod InRows
 pub mod Marks
+pub mod Halves
+pub mod Gone

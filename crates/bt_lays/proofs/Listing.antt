@@ -90,19 +90,24 @@ moved_from xs a b k d la lb lk =
     (k, lk, swapped.2 k none_a none_b, inr (inr (none_a, none_b, refl))))
     (cases_order k b)) (cases_order k a)
 
-apart_swap : {X : Type 0} (xs : List X) (a b : ℕ) → a < length xs → b < length xs → AllPairs ◌≢◌ xs → AllPairs ◌≢◌ (swap xs a b)
-apart_swap xs a b la lb apart i j d lt within same =
+pairs_swap : {X : Type 0} (R : X → X → Type 0) → ((x y : X) → R x y → R y x) → (xs : List X) (a b : ℕ) → a < length xs → b < length xs → AllPairs R xs → AllPairs R (swap xs a b)
+pairs_swap R back xs a b la lb apart i j d lt within =
     let size = length-swap xs a b in
     let one = moved_from xs a b i d la lb (omega (arith, size, within, lt)) in
     let other = moved_from xs a b j d la lb (omega (arith, size, within)) in
-    let before : get_or xs one.0 d ≡ get_or xs other.0 d = sym one.2 ∙ same ∙ other.2 in
-    ⊎_elim (λ e. moves_apart a b i j one.0 other.0 lt one.3 other.3 e)
-    (λ order. ⊎_elim (λ less. apart one.0 other.0 d less other.1 before) (λ more. apart other.0 one.0 d more one.1 (sym before)) order)
-    (cases_order one.0 other.0)
+    let before : R (get_or xs one.0 d) (get_or xs other.0 d) =
+    ⊎_elim (λ e. absurd (moves_apart a b i j one.0 other.0 lt one.3 other.3 e))
+    (λ order. ⊎_elim (λ less. apart one.0 other.0 d less other.1) (λ more. back (get_or xs other.0 d) (get_or xs one.0 d) (apart other.0 one.0 d more one.1)) order)
+    (cases_order one.0 other.0) in
+    subst (λ z. R z (get_or (swap xs a b) j d)) (sym one.2) (subst (R (get_or xs one.0 d)) (sym other.2) before)
+
+-- what holds of each two things, either way, does so in any order
+pub pairs_moved : {X : Type 0} (R : X → X → Type 0) → ((x y : X) → R x y → R y x) → (xs ys : List X) → AllPairs R xs → IsPermutation xs ys → AllPairs R ys
+pairs_moved R back xs ys apart moved = IsPermutation-keeps xs (AllPairs R) apart (λ l i j li lj h. pairs_swap R back l i j li lj h) ys moved
 
 -- things that are apart are so in any order
 apart_moved : {X : Type 0} (xs ys : List X) → AllPairs ◌≢◌ xs → IsPermutation xs ys → AllPairs ◌≢◌ ys
-apart_moved xs ys apart moved = IsPermutation-keeps xs (AllPairs ◌≢◌) apart (λ l i j li lj h. apart_swap l i j li lj h) ys moved
+apart_moved xs ys apart moved = pairs_moved ◌≢◌ (λ x y none e. none (sym e)) xs ys apart moved
 
 -- a list of each thing of a kind is one in any order
 pub each_moved : {X : Type 0} (P : X → Type 0) (xs ys : List X) → ListsEach P xs → IsPermutation xs ys → ListsEach P ys

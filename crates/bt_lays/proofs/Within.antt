@@ -135,26 +135,30 @@ as_large parts m net own naming h shows =
       edges = sym ours ∙ sym chains ∙ theirs ∙ sym edges;
     }
 
--- a layout that is refused lays nothing
-pub refused_lays_not : (parts : List Part) (naming : Naming) (request : LayoutRequest) (fault : RecoverFault) → IsNetwork request.net → IsRecovered parts (Err fault)
-    → LaysBy parts naming request → ⊥
-refused_lays_not parts naming request (Unpaired i) is h lays =
-    let paired = lays.shows.clean.paired i h.0.piece in h.0.alone paired.other paired.paired
-refused_lays_not parts naming request (SideLoad i) is h lays = lays.shows.clean.no_side_load i h.1.0
-refused_lays_not parts naming request (Blocked i) is h lays = lays.shows.clean.no_blocked i h.2.0
-refused_lays_not parts naming request (Ring i) is h lays = lays.shows.clean.no_ring i h.1.0
-refused_lays_not parts naming request TooLarge is h lays =
-    let same = as_large parts h.0 request.net h.1 naming h.2 lays.shows in
+-- a layout that is refused shows no network
+pub refused_shows_not : (parts : List Part) (naming : Naming) (net : Network) (fault : RecoverFault) → IsNetwork net → IsRecovered parts (Err fault) → Shows parts net naming → ⊥
+refused_shows_not parts naming net (Unpaired i) is h shows =
+    let paired = shows.clean.paired i h.0.piece in h.0.alone paired.other paired.paired
+refused_shows_not parts naming net (SideLoad i) is h shows = shows.clean.no_side_load i h.1.0
+refused_shows_not parts naming net (Blocked i) is h shows = shows.clean.no_blocked i h.2.0
+refused_shows_not parts naming net (Ring i) is h shows = shows.clean.no_ring i h.1.0
+refused_shows_not parts naming net TooLarge is h shows =
+    let same = as_large parts h.0 net h.1 naming h.2 shows in
     let i = same.inputs in let o = same.outputs in let s = same.splitters in let e = same.edges in
     let few_i = is.few_inputs in let few_o = is.few_outputs in let few_s = is.few_splitters in let few_e = is.few_edges in
     ⊎_elim (λ lt. omega (arith, lt, i, few_i))
     (λ rest. ⊎_elim (λ lt. omega (arith, lt, o, few_o))
     (λ more. ⊎_elim (λ lt. omega (arith, lt, s, few_s)) (λ lt. omega (arith, lt, e, few_e)) more) rest) h.4
-refused_lays_not parts naming request NoEnds is h lays =
-    let same = as_large parts h.0 request.net h.1 naming h.2 lays.shows in
+refused_shows_not parts naming net NoEnds is h shows =
+    let same = as_large parts h.0 net h.1 naming h.2 shows in
     let i = same.inputs in let o = same.outputs in let some_i = is.some_input in let some_o = is.some_output in
     ⊎_elim (λ none. omega (arith, none, i, some_i)) (λ none. omega (arith, none, o, some_o)) h.4.1
-refused_lays_not parts naming request Memory is h lays = h
+refused_shows_not parts naming net Memory is h shows = h
+
+-- so it lays nothing
+pub refused_lays_not : (parts : List Part) (naming : Naming) (request : LayoutRequest) (fault : RecoverFault) → IsNetwork request.net → IsRecovered parts (Err fault)
+    → LaysBy parts naming request → ⊥
+refused_lays_not parts naming request fault is h lays = refused_shows_not parts naming request.net fault is h lays.shows
 
 -- a cell of a block is free where nothing is found there
 pub free_told : (parts : List Part) (block : Block) (cell : Cell) (o : Option ℕ) (b : Bool) → cell ≡ blocked block → ((i : ℕ) → (o ≡ Some i) ↔ IsAt parts i cell)

@@ -1,9 +1,11 @@
 -- The layouts that a request is asking for, by given names.
 use Rattle.std.specs.Prelude.{List, All}
+use Rattle.bt_hands.specs.declared.hand.Priority.{Priority}
 use Rattle.bt_parts.specs.declared.part.Part.{Part}
 use Rattle.bt_model.specs.Laying.{Fits, KeepsDemand}
 use Rattle.bt_model.specs.Requests.{LayoutRequest}
 use Rattle.bt_model.specs.Shown.{Naming, Shows}
+use Rattle.bt_model.specs.Preferring.{ShowsPreferring}
 use Rattle.bt_lays.specs.declared.names.Names.{Names}
 
 -- which part bears each number
@@ -14,4 +16,10 @@ naming_of names = record { splitters = names.splitters.items; inputs = names.inp
 pub record LaysBy (parts : List Part) (naming : Naming) (request : LayoutRequest) : Type 0 where
   pub fits : Fits parts request
   pub shows : Shows parts request.net naming
+  pub demands : All (KeepsDemand parts request naming) request.demands
+
+-- the same with what splitters prefer: the layout with these priorities shows the network under this naming with that
+pub record LaysPreferringBy (parts : List Part) (priorities : List Priority) (naming : Naming) (request : LayoutRequest) : Type 0 where
+  pub fits : Fits parts request
+  pub shows : ShowsPreferring parts priorities request.net naming
   pub demands : All (KeepsDemand parts request naming) request.demands

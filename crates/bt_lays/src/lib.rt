@@ -4,7 +4,9 @@
 #![tactic(auto)]
 
 mod demands;
+mod finding;
 mod fitting;
+mod handing;
 mod joins;
 mod law;
 mod names;
@@ -13,7 +15,9 @@ mod rows;
 mod showing;
 mod testing;
 
-pub use law::laid_by_names;
+pub use finding::any_names;
+pub use handing::priorities_by;
+pub use law::{laid_by_names, laid_preferring_by_names};
 pub use names::Names;
 pub use preferring::lays_preferring;
 pub use std::alloc::AllocError as Memory;

@@ -1,9 +1,12 @@
 //! The test whether a layout shows what the splitters of a network prefer.
-ghost use Rattle.std.specs.Prelude.{◌≡◌, ◌↔◌, ◌<◌, IfOk, IsPermutation, IsTrue, Some, length};
+ghost use Rattle.std.specs.Prelude.{◌≡◌, ◌≢◌, ◌↔◌, ◌<◌, IfOk, IsPermutation, IsTrue, Some, false, length};
+ghost use Rattle.bt_recover.specs.declared.fault.RecoverFault.TheVariants.{Memory};
 ghost use Rattle.bt_parts.specs.Layouts.{AreInRange};
-ghost use Rattle.bt_model.specs.Laying.{LaysPreferring};
-ghost use Rattle.bt_lays.specs.Laid.{naming_of};
-ghost use Rattle.bt_lays.specs.inner.Marks.{AreMarkedAs, AreMarks, IsGivenAt, IsMarkOf, IsShownAs, IsTakenAt};
+ghost use Rattle.bt_net.specs.Network.{IsNetwork};
+ghost use Rattle.bt_model.specs.Preferring.{ShowsPreferring};
+ghost use Rattle.bt_model.specs.Shown.{IsNaming};
+ghost use Rattle.bt_lays.specs.Laid.{LaysPreferringBy, naming_of};
+ghost use Rattle.bt_lays.specs.inner.Marks.{AreMarkedAs, AreMarks, HaveSameMarks, IsGivenAt, IsMarkOf, IsTakenAt};
 
 use crate::joins::{start_part, target_part};
 use crate::names::Names;
@@ -70,7 +73,7 @@ fn mark_of(names: &Names, net: &Net, place: usize) -> Marked
 }
 
 /// The edges by the parts at their ends, with what is preferred of them.
-fn marks_of(alloc: Global, names: &Names, net: &Net) -> Result<Vec<Marked>, AllocError>
+pub(crate) fn marks_of(alloc: Global, names: &Names, net: &Net) -> Result<Vec<Marked>, AllocError>
     ensures { IfOk result (λ marks. AreMarks (naming_of names.now) net.now marks.items) }
 {
     let count = net.edges().len();
@@ -90,7 +93,7 @@ fn is_same(one: Marked, other: Marked) -> bool
 
 /// Whether the two lists are the same.
 fn are_same(one: &[Marked], other: &[Marked]) -> bool
-    ensures { IsTrue result → one.now ≡ other.now }
+    ensures { IsTrue result ↔ (one.now ≡ other.now) }
 {
     if one.len() != other.len() {
         return false;
@@ -105,7 +108,7 @@ fn are_same(one: &[Marked], other: &[Marked]) -> bool
 
 /// Whether the one list has what the other has, as often.
 fn are_rearranged(mut one: Vec<Marked>, mut other: Vec<Marked>) -> Result<bool, AllocError>
-    ensures { IfOk result (λ same. IsTrue same → IsPermutation one.items other.items) }
+    ensures { IfOk result (λ same. IsTrue same ↔ IsPermutation one.items other.items) }
 {
     one.sort()?;
     other.sort()?;
@@ -114,15 +117,33 @@ fn are_rearranged(mut one: Vec<Marked>, mut other: Vec<Marked>) -> Result<bool, 
 
 /// Whether the network that was recovered prefers what the network does, by these names.
 fn prefer_same(alloc: Global, own: &Own, names: &Names, net: &Net) -> Result<bool, AllocError>
-    ensures { IfOk result (λ same. IsTrue same
+    ensures marked { IfOk result (λ same. IsTrue same
         → AreMarkedAs (naming_of own.now.names) own.now.net (naming_of names.now) net.now) }
+    ensures same { IfOk result (λ same.
+        HaveSameMarks (naming_of own.now.names) own.now.net (naming_of names.now) net.now → IsTrue same) }
 {
     let first = marks_of(alloc, &own.names, &own.net)?;
     let second = marks_of(alloc, names, net)?;
     are_rearranged(first, second)
 }
 
-/// Whether the layout on the grid with these priorities shows what the splitters of the network prefer, by these names.
+/// Parts that are refused show nothing, unless it was memory that was wanting.
+fn refused(fault: RecoverFault) -> Result<bool, AllocError>
+    ensures { IfOk result (λ shows. (shows ≡ false) × (fault ≢ Memory)) }
+{
+    match fault {
+        RecoverFault::Memory => Err(AllocError),
+        RecoverFault::Unpaired(_)
+        | RecoverFault::SideLoad(_)
+        | RecoverFault::Blocked(_)
+        | RecoverFault::Ring(_)
+        | RecoverFault::TooLarge
+        | RecoverFault::NoEnds => Ok(false),
+    }
+}
+
+/// Whether the layout on the grid with these priorities shows what the splitters of the network prefer, by names of its
+/// parts.
 fn shows_on(
     alloc: Global,
     grid: &Grid,
@@ -130,17 +151,18 @@ fn shows_on(
     names: &Names,
     net: &Net,
 ) -> Result<bool, AllocError>
+    requires network { IsNetwork net.now }
+    requires names { IsNaming grid.now net.now (naming_of names.now) }
     ensures { IfOk result (λ shows. IsTrue shows
-        → IsShownAs grid.now priorities.now (naming_of names.now) net.now) }
+        ↔ ShowsPreferring grid.now priorities.now net.now (naming_of names.now)) }
 {
     match recover_with(alloc, grid, priorities) {
         Ok(traced) => prefer_same(alloc, &own_of(traced), names, net),
-        Err(RecoverFault::Memory) => Err(AllocError),
-        Err(_) => Ok(false),
+        Err(fault) => refused(fault),
     }
 }
 
-/// Whether the layout with these priorities shows what the splitters of the network prefer, by these names.
+/// Whether the layout with these priorities shows what the splitters of the network prefer, by names of its parts.
 fn shows_preferred(
     alloc: Global,
     parts: &[Part],
@@ -148,9 +170,11 @@ fn shows_preferred(
     names: &Names,
     net: &Net,
 ) -> Result<bool, AllocError>
-    requires { AreInRange parts.now }
+    requires in_range { AreInRange parts.now }
+    requires network { IsNetwork net.now }
+    requires names { IsNaming parts.now net.now (naming_of names.now) }
     ensures { IfOk result (λ shows. IsTrue shows
-        → IsShownAs parts.now priorities.now (naming_of names.now) net.now) }
+        ↔ ShowsPreferring parts.now priorities.now net.now (naming_of names.now)) }
 {
     match Grid::place(alloc, Vec::from_slice(alloc, parts)?) {
         Ok(grid) => shows_on(alloc, &grid, priorities, names, net),
@@ -172,7 +196,8 @@ pub fn lays_preferring(
     names: &Names,
     request: &Request,
 ) -> Result<bool, AllocError>
-    ensures { IfOk result (λ holds. IsTrue holds → LaysPreferring parts.now priorities.now request.now) }
+    ensures { IfOk result (λ holds. IsTrue holds
+        ↔ LaysPreferringBy parts.now priorities.now (naming_of names.now) request.now) }
 {
     if !lays(alloc, parts, names, request)? {
         return Ok(false);

@@ -405,7 +405,7 @@ one_half_on : (parts : List Part) (s : ℕ) (hand : Option Hand) (a b : Cell) �
 one_half_on parts s None a b x y = absurd x.2
 one_half_on parts s (Some hand) a b x y = x.2 ∙ ap (λ p. half_on hand p.dir p.cell) (same_part parts s x.0 y.0 x.1 y.1) ∙ sym y.2
 
-one_given : (parts : List Part) (priorities : List Priority) → IsClean parts → (s : ℕ) (c d : Chain) → IsChain parts c → IsChain parts d → IsGivenFirst parts priorities c s → IsGivenFirst parts priorities d s → c ≡ d
+pub one_given : (parts : List Part) (priorities : List Priority) → IsClean parts → (s : ℕ) (c d : Chain) → IsChain parts c → IsChain parts d → IsGivenFirst parts priorities c s → IsGivenFirst parts priorities d s → c ≡ d
 one_given parts priorities clean s c d is_c is_d x y =
     chain_from parts clean.well_placed c d is_c is_d
     (x.1 ∙ ap (λ h. leaves s h) (one_half_on parts s (priority_of priorities s).give x.0 y.0 x.2 y.2) ∙ sym y.1)
@@ -437,12 +437,12 @@ one_ending parts clean s half c d splitter is_c is_d x y =
     same_hop parts (orderly_of parts clean) c d s is_c is_d x.sink y.sink f.0 g.0
     (f.1 ∙ cell_behind parts c s half splitter x ∙ sym (cell_behind parts d s half splitter y) ∙ sym g.1)
 
-one_taken : (parts : List Part) (priorities : List Priority) → IsClean parts → (s : ℕ) (c d : Chain) → IsSplitter parts s → IsChain parts c → IsChain parts d → IsTakenFirst parts priorities c s → IsTakenFirst parts priorities d s → c ≡ d
+pub one_taken : (parts : List Part) (priorities : List Priority) → IsClean parts → (s : ℕ) (c d : Chain) → IsSplitter parts s → IsChain parts c → IsChain parts d → IsTakenFirst parts priorities c s → IsTakenFirst parts priorities d s → c ≡ d
 one_taken parts priorities clean s c d splitter is_c is_d x y =
     one_ending parts clean s y.0 c d splitter is_c is_d
     (subst (λ h. EndsAtHalf parts c s h) (one_half_on parts s (priority_of priorities s).take x.0 y.0 x.2 y.2) x.1) y.1
 
-into_splitter_at : (parts : List Part) (chain : Chain) (s : ℕ) → IsChain parts chain → chain.sink ≡ enters s → IsSplitter parts s
+pub into_splitter_at : (parts : List Part) (chain : Chain) (s : ℕ) → IsChain parts chain → chain.sink ≡ enters s → IsSplitter parts s
 into_splitter_at parts chain s (inl h) e = (subst (λ x. EndsAs parts x h.last) e h.ends).0
 into_splitter_at parts chain s (inr h) e = subst (λ x. IsSplitter parts x) (enters_same h.to s (sym h.sink ∙ e)) h.is_to
 

@@ -1,15 +1,12 @@
 -- The edges of a network by the parts at their ends, with what splitters prefer of them.
 use Rattle.std.specs.Prelude.{◌≡◌, ◌↔◌, ℕ, ◌<◌, IsTrue, List, length, get_or, slice_get, Some, IsPermutation, false}
-use Rattle.bt_hands.specs.declared.hand.Priority.{Priority}
-use Rattle.bt_parts.specs.declared.part.Part.{Part}
 use Rattle.bt_net.specs.declared.network.Edge.{Edge}
 use Rattle.bt_net.specs.declared.network.Start.{Start}
 use Rattle.bt_net.specs.declared.network.Start.TheVariants as from
 use Rattle.bt_net.specs.declared.network.Target.{Target}
 use Rattle.bt_net.specs.declared.network.Target.TheVariants as to
-use Rattle.bt_net.specs.Network.{Network, IsNetwork, give_of, take_of}
+use Rattle.bt_net.specs.Network.{Network, give_of, take_of}
 use Rattle.bt_model.specs.Shown.{Naming}
-use Rattle.bt_recover.specs.Preferred.{IsPreferring}
 use Rattle.bt_lays.specs.declared.preferring.Marked.{Marked}
 use Rattle.bt_lays.specs.inner.Joins.{start_part, target_part}
 
@@ -46,13 +43,9 @@ pub record AreMarkedAs (one : Naming) (own : Network) (other : Naming) (net : Ne
   pub are_second : AreMarks other net second
   pub same : IsPermutation first second
 
--- the layout's own network with these priorities has the same marks as this one
-pub record IsShownAs (parts : List Part) (priorities : List Priority) (naming : Naming) (net : Network) : Type 0 where
-  pub own : Network
-  pub own_naming : Naming
-  pub preferring : IsPreferring parts priorities own own_naming
-  pub is_own : IsNetwork own
-  pub marked : AreMarkedAs own_naming own naming net
+-- whatever marks the edges of the two networks have, they are the same, as often
+abbrev pub HaveSameMarks : Naming → Network → Naming → Network → Type 0
+HaveSameMarks one own other net = (first second : List Marked) → AreMarks one own first → AreMarks other net second → IsPermutation first second
 
 -- what stands where there is no mark
 abbrev pub no_mark : Marked
