@@ -2,8 +2,8 @@
 //!
 //! Seen from one side, the inputs or the outputs, flows begin at the ends there and at the edges that are cut, and all that
 //! begins is dealt evenly to the splitters of the last stage, behind which lie ends of the other side and cut edges alone.
-use crate::means::{Term, merged, shared, single};
 use hint_graphs::{Graph, is_set, ordered};
+use hint_scopes::{Term, merged, shared, single};
 use std::alloc::{AllocError, Global};
 
 /// A network with edges that are cut, seen from one side.

@@ -1,10 +1,8 @@
 //! What is compared in a network whose spare ends lead back, seen from one side.
-use crate::defining::{Compared, compare};
 use crate::halves::Halves;
-use crate::means::{Term, single};
 use bt_extend::{Form, NamedLit};
 use bt_frac::Frac;
-use hint_scopes::{Chosen, Comparison, Line, Next, named, sum_of};
+use hint_scopes::{Chosen, Compared, Comparison, Line, Next, Term, compare, named, single, sum_of};
 use std::alloc::{AllocError, Global};
 
 /// What is compared, seen from one side.

@@ -1,9 +1,10 @@
 //! The literals of a flow formula that aims speak of.
+use crate::atoms::Atoms;
+use crate::line::{named, opposite_of};
 use bt_cnf::Formula;
 use bt_extend::NamedLit;
 use bt_frac::{Relation, Row};
 use bt_net::Net;
-use hint_scopes::{Atoms, named, opposite_of};
 use std::alloc::{AllocError, Global};
 
 /// The literals of a formula that aims speak of.

@@ -3,13 +3,14 @@
 //! Of the two literals of an aim the one comes last that follows from the other in later steps: what the first leads to must
 //! not stand before the last is made false, or the search learns a clause of what that led to.
 use crate::halves::Halves;
-use crate::literals::FormulaLits;
 use crate::sharing::Sharing;
 use bt_cnf::Formula;
 use bt_extend::NamedLit;
 use bt_net::Net;
 use hint_graphs::{list_at, places_of};
-use hint_scopes::{Chosen, Line, add_aim, add_scope, equal_rows, in_order, rows_alone};
+use hint_scopes::{
+    Chosen, FormulaLits, Line, add_aim, add_scope, equal_rows, in_order, rows_alone,
+};
 use std::alloc::{AllocError, Global};
 
 /// The scope of an aim that follows by propagation.

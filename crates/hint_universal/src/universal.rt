@@ -8,15 +8,15 @@
 //! image. Of the flows through the network it follows that where an output is short each edge that leads back is free, and
 //! where an input is short each is backed.
 use crate::dealing::{Base, Dealing, NOTHING_TO_SHOW};
-use crate::defining::{Compared, compare};
 use crate::halves::{Halves, spare_edges};
-use crate::means::single;
 use crate::sharing::{Sharing, negated};
 use bt_cnf::{Formula, Lit};
 use bt_extend::NamedLit;
 use bt_net::Net;
 use hint_graphs::Graph;
-use hint_scopes::{Line, Next, add_aim, add_scope, conclude, named, opposite_of};
+use hint_scopes::{
+    Compared, Line, Next, add_aim, add_scope, compare, conclude, named, opposite_of, single,
+};
 use std::alloc::{AllocError, Global};
 
 /// Of fewer splitters than this nothing is defined: the logs are shorter so.

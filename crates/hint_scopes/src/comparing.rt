@@ -1,7 +1,8 @@
 //! Comparisons of two sums, one way or both.
+use crate::defining::{Comparison, Next};
+use crate::line::Line;
 use crate::means::{Term, difference};
 use bt_extend::NamedLit;
-use hint_scopes::{Comparison, Line, Next};
 use std::alloc::{AllocError, Global};
 
 /// A comparison of two sums.
@@ -29,13 +30,21 @@ impl Compared {
         self.first.is_less()
     }
 
-    /// Adds its rows.
+    /// Adds the numbers of the rows that define it, of both ways where both are compared.
     pub fn add_rows(self, rows: &mut Vec<usize>) -> Result<(), AllocError> {
         self.first.add_rows(rows)?;
         match self.second {
             Some(second) => second.add_rows(rows),
             None => Ok(()),
         }
+    }
+}
+
+/// Adds the numbers of the rows that define a comparison, where there is one.
+pub fn add_rows(rows: &mut Vec<usize>, compared: Option<Compared>) -> Result<(), AllocError> {
+    match compared {
+        Some(compared) => compared.add_rows(rows),
+        None => Ok(()),
     }
 }
 
