@@ -1,1 +1,4 @@
 pub mod Unwritten
+pub mod TrailTexts
+pub mod Atoms
+pub mod FormulaTexts

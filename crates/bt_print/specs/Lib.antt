@@ -1,1 +1,5 @@
-pub mod Texts
+pub mod NetTexts
+pub mod TrailText
+pub mod FormulaText
+pub mod Legends
+pub mod inner

@@ -20,14 +20,14 @@ use Rattle.bt_layout.specs.declared.outcome.Small.{Small as ASmall}
 use Rattle.bt_layout.specs.declared.outcome.Small.TheVariants as small
 use Rattle.bt_layout.specs.SmallestText.{small_text, smallest_text}
 pub use Rattle.bt_layout.specs.SmallestText.{none_word, nowhere_text}
-use Rattle.bt_dimacs.specs.Legends.{flow_formula_text, place_formula_text}
-use Rattle.bt_trail.specs.TrailText.{pivots_text, wide_text}
+use Rattle.bt_print.specs.Legends.{flow_formula_text, place_formula_text}
+use Rattle.bt_print.specs.TrailText.{pivots_text, wide_text}
 use Rattle.bt_write.specs.Written.{blueprint_text}
 use Rattle.bt_words.specs.declared.command.NetworkFamily.{NetworkFamily}
 use Rattle.bt_words.specs.declared.command.NetworkFamily.TheVariants.{Butterfly, Chain}
 use Rattle.bt_words.specs.declared.command.BuiltText.{BuiltText}
 use Rattle.bt_words.specs.declared.command.BuiltText.TheVariants as built
-use Rattle.bt_print.specs.Texts.{text_with}
+use Rattle.bt_print.specs.NetTexts.{text_with}
 use Rattle.bt_top.specs.declared.make.Made as making
 use Rattle.bt_extend.specs.Texts.{definitions_text}
 use Rattle.bt_extend.specs.declared.definition.Definition.{Definition}

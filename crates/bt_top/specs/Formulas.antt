@@ -8,7 +8,7 @@ use Rattle.bt_fenc.specs.FlowFormula.{flow_formula}
 use Rattle.bt_model.specs.Requests.{LayoutRequest}
 use Rattle.bt_place.specs.Blocks.{starts_of}
 use Rattle.bt_place.specs.PlaceFormula.{place_formula, sizes_of}
-use Rattle.bt_dimacs.specs.declared.columns.Columns.{Columns}
+use Rattle.bt_print.specs.declared.columns.Columns.{Columns}
 use Rattle.bt_top.specs.declared.answer.Answer.{Answer}
 use Rattle.bt_top.specs.declared.answer.Answer.TheVariants as answer
 use Rattle.bt_designs.specs.Alone.{IsLoneNet}

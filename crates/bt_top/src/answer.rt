@@ -7,7 +7,7 @@ use crate::make::Made;
 use bt_cert::Cause;
 use bt_cnf::Formula;
 use bt_designs::{DesignFault, Refusal};
-use bt_dimacs::Columns;
+use bt_print::Columns;
 use bt_extend::Definition;
 use bt_flow::{Property, State, Test};
 use bt_hands::Priority;

@@ -8,7 +8,7 @@ ghost use Rattle.bt_top.specs.Formulas.{columns_of, flow_formula_told, place_for
 
 use crate::answer::{Answer, refused};
 use bt_designs::{DesignFault, Refusal, read_alone, read_lone_request};
-use bt_dimacs::Columns;
+use bt_print::Columns;
 use bt_fenc::encode;
 use bt_flow::Property;
 use bt_model::Request;

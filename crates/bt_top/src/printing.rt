@@ -10,9 +10,8 @@ use bt_flow::Property;
 use bt_io::{Sink, WriteFault, write_all_of, write_pieces};
 use bt_log::Log;
 use bt_net::Net;
-use bt_print::{print, print_with};
+use bt_print::{print, print_pivots, print_wide, print_with};
 use bt_theory::GaveUp;
-use bt_trail::{print_pivots, print_wide};
 use bt_words::{BuiltText, NetworkFamily};
 use itoa::Buffer;
 

@@ -5,10 +5,11 @@ use bt_cnf::Formula;
 use bt_extend::{Definition, Goal};
 use bt_flow::Property;
 use bt_net::Net;
-use hint_averages::{add_even, add_fair, add_through, add_unlimited};
+use hint_averages::add_unlimited;
 use hint_differences::{add_looping, pairing_of};
 use hint_graphs::has_no_preference;
 use hint_scopes::{Aim, Line, scopes_of, scopes_of_both};
+use hint_universal::{add_even, add_fair, add_through};
 use std::alloc::{AllocError, Global};
 
 /// Definitions that extend a formula, and scopes and goals over the extended formula.

@@ -1,16 +1,23 @@
 //! The aims of the argument for `unlimited`, in their order.
-use crate::defining::Compared;
-use crate::literals::FormulaLits;
 use crate::side::Side;
-use crate::unlimited::{Totals, add_rows};
 use bt_cnf::Formula;
 use bt_extend::NamedLit;
 use bt_net::Net;
 use hint_graphs::{Flow, is_set, mark};
 use hint_scopes::{
-    Line, add_aim, add_both, add_scope, edges_of_columns, equal_rows, is_of_ends, named,
+    Compared, FormulaLits, Line, add_aim, add_both, add_rows, add_scope, edges_of_columns,
+    equal_rows, is_of_ends, named,
 };
 use std::alloc::{AllocError, Global};
+
+/// What is compared of all that flows.
+#[derive(Clone, Copy)]
+pub struct Totals {
+    /// The flows that begin, with those that end.
+    pub ends: Option<Compared>,
+    /// The flows that begin, with what goes through the centres.
+    pub centres: Option<Compared>,
+}
 
 /// What aims are made of.
 #[derive(Drop)]

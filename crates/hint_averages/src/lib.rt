@@ -1,18 +1,10 @@
-//! Lines of argument by means of ends: for `unlimited` by those that flows reach, and for universal balancers by those that
-//! are dealt evenly to a last stage. Nothing is claimed of them but that they are safe.
+//! The line of argument for `unlimited`, by the means of the ends that flows reach. Nothing is claimed of it but that it is
+//! safe.
 #![tactic(auto)]
 
-mod dealing;
-mod defining;
 mod delivering;
-mod halves;
-mod literals;
-mod means;
-mod sharing;
 mod side;
-mod universal;
 mod unlimited;
 
 pub use std::alloc::AllocError as Memory;
-pub use universal::{add_even, add_fair, add_through};
 pub use unlimited::add_unlimited;

@@ -1,8 +1,7 @@
 //! What lies to one side of the centres of a network: the splitters and edges below them or above them, with the means of the
 //! ends that these reach.
-use crate::defining::Compared;
-use crate::means::{Term, merged, shared, single};
 use hint_graphs::{Flow, is_set, mark};
+use hint_scopes::{Compared, Term, merged, shared, single};
 use std::alloc::{AllocError, Global};
 
 /// What lies to one side of the centres.

@@ -5,14 +5,12 @@
 //! one at least that of the inputs that reach it. So each centre carries at least its share of all that flows, and no more.
 //! Where an edge into a centre is backed, each edge below carries the mean, so each is full or backed, and the outputs get all
 //! that they have room for. Where none is, the inputs give all that they have.
-use crate::defining::{Compared, compare};
-use crate::delivering::argue;
-use crate::means::{Term, single};
+use crate::delivering::{Totals, argue};
 use crate::side::Side;
 use bt_cnf::Formula;
 use bt_net::Net;
 use hint_graphs::{Flow, has_no_preference, list_at, places_of};
-use hint_scopes::{Line, Next, add_scope, in_order, rows_alone};
+use hint_scopes::{Line, Next, Term, add_rows, add_scope, compare, in_order, rows_alone, single};
 use std::alloc::{AllocError, Global};
 
 /// Of fewer splitters than this nothing is defined: the logs are shorter so.
@@ -30,15 +28,6 @@ struct Rows {
     upper: Vec<Vec<usize>>,
     /// For each splitter the place of its scope.
     places: Vec<usize>,
-}
-
-/// What is compared of all that flows.
-#[derive(Clone, Copy)]
-pub struct Totals {
-    /// The flows that begin, with those that end.
-    pub ends: Option<Compared>,
-    /// The flows that begin, with what goes through the centres.
-    pub centres: Option<Compared>,
 }
 
 /// Adds the argument. There is none for a network of few splitters or one input, where a splitter prefers an edge, without
@@ -293,14 +282,6 @@ impl Rows {
             rows.extend_from_slice(list_at(&self.upper, term.column))?;
         }
         Ok(())
-    }
-}
-
-/// Adds the rows of a comparison, where there is one.
-pub fn add_rows(rows: &mut Vec<usize>, compared: Option<Compared>) -> Result<(), AllocError> {
-    match compared {
-        Some(compared) => compared.add_rows(rows),
-        None => Ok(()),
     }
 }
 

@@ -1,3 +1,0 @@
-pub mod FormulaText
-pub mod Legends
-pub mod inner
