@@ -12,6 +12,8 @@ import tempfile
 import time
 from pathlib import Path
 
+from collection.built import KINDS, Balancer
+from collection.files import slug
 from collection.look import NARROW, WIDE, Browser
 from collection.strings import deflate, inflate
 from collection.words import PROPERTIES
@@ -320,6 +322,37 @@ def links(page, address):
         yield "a string isn't what it was"
 
 
+def wished(page, address):
+    """Balancers that are built: their certificates are those of the networks that the command builds."""
+    page.open(address)
+    if page.wait("!document.getElementById('wish').hidden") is None:
+        yield "no balancer can be wished for"
+        return
+    page.value("document.getElementById('wish').open = true")
+    for kind, inputs, outputs in (("balanced", 3, 5), ("unlimited", 4, 4), ("universal", 2, 2)):
+        name = Balancer(kind, inputs, outputs).name
+        wish(page, kind, inputs, outputs)
+        if page.wait(opened(json.dumps(name))) is None or page.verdicts() is None:
+            yield f"{name} isn't opened and decided: {page.text('#wish-told')}"
+            continue
+        properties = KINDS[kind]["properties"]
+        text = program("build", ",".join(properties), str(inputs), str(outputs), data=b"").stdout
+        for prop in properties:
+            page.click("Save", f"document.querySelector('[data-property={prop}]')")
+            if page.saved(f"{slug(name)}.yes-{prop}") != program("decide", prop, data=text).stdout:
+                yield f"what is saved of {prop} of {name} isn't of the network that the command builds"
+    wish(page, "universal", 33, 33)
+    if page.wait("document.getElementById('wish-told').textContent.startsWith('The program knows none')") is None:
+        yield f"that no balancer is known isn't told: {page.text('#wish-told')}"
+
+
+def wish(page, kind, inputs, outputs):
+    """Wishes for a balancer."""
+    for of, value in (("kind", kind), ("inputs", inputs), ("outputs", outputs)):
+        page.value(f"document.getElementById('wish-{of}').value = {json.dumps(value)}")
+    page.value("document.getElementById('wish-build').click()")
+
+
 def pictures(page, address, folder):
     """Pictures of both themes and both widths; and where the page is wider than the screen."""
     folder.mkdir(parents=True, exist_ok=True)
@@ -357,6 +390,7 @@ def main(path, folder):
                 refused(page),
                 books(page),
                 links(page, address),
+                wished(page, address),
             ]
             looks.append(pictures(page, address, Path(folder)))
             wrong = []

@@ -19,7 +19,7 @@ sys.dont_write_bytecode = True
 import opinion
 import differ
 
-SECONDS = 120
+SECONDS = 600  # for one run of the program
 WISHES = {
     "balanced,full": (
         (0, 1, 3, 3, 7, 6, 7, 7), (1, 1, 4, 3, 7, 7, 8, 7), (2, 2, 4, 4, 10, 7, 8, 8), (3, 3, 5, 4, 11, 10, 11, 8),
@@ -77,6 +77,7 @@ def main():
     words.add_argument("--wishes", nargs="*", default=list(WISHES))
     words.add_argument("--times", action="store_true")
     told = words.parse_args()
+    differ.SECONDS = SECONDS
     both, wrong, longest, built = differ.Differ(told.program, None), 0, (0, ""), 0
     sizes = range(told.least, told.most + 1)
     for wish, inputs, outputs in ((w, i, o) for w in told.wishes for i in sizes for o in sizes):
