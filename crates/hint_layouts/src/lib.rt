@@ -9,5 +9,5 @@ mod naming;
 mod proposing;
 
 pub use naming::{Proposal, name_sketch};
-pub use proposing::propose;
+pub use proposing::{propose, propose_stages};
 pub use std::alloc::AllocError as Memory;

@@ -15,6 +15,15 @@ fn may_route(request: &Request) -> bool {
     cells.saturating_mul(request.net().edges().len() as u64) <= MOST_ROUTED
 }
 
+/// Parts with names that may lay a butterfly or a Benes network, in ascending order of y and then x of their cells, stage by
+/// stage. Of other networks it says at once that it has none.
+pub fn propose_stages(alloc: Global, request: &Request) -> Result<Option<Proposal>, AllocError> {
+    match find_stages(alloc, request)? {
+        Some(sketch) => name_sketch(alloc, request, &sketch),
+        None => Ok(None),
+    }
+}
+
 /// A plan, by the first strategy that comes to one: stage by stage, or else by ranks.
 fn sketch_of(alloc: Global, request: &Request) -> Result<Option<Sketch>, AllocError> {
     let staged = find_stages(alloc, request)?;

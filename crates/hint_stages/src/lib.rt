@@ -6,7 +6,9 @@
 
 mod arranging;
 mod channel;
+mod drawn;
 mod eight;
+mod leading;
 mod sense;
 mod stack;
 mod stacking;

@@ -144,6 +144,16 @@ impl Stack {
         Ok(())
     }
 
+    /// Adds the parts of chains, which stand where they are.
+    pub fn push_chains(&mut self, chains: &[Option<Chain>]) -> Result<(), AllocError> {
+        for chain in chains {
+            if let Some(chain) = chain {
+                self.push_chain(chain, Cell { x: 0, y: 0 }, Sense::Onward, 0)?;
+            }
+        }
+        Ok(())
+    }
+
     /// Adds the rows of a channel, in so many blocks of so many lines side by side.
     pub fn push_channel(
         &mut self,
