@@ -5,6 +5,7 @@
 #![tactic(auto)]
 
 mod ends;
+mod framed;
 mod naming;
 mod proposing;
 

@@ -325,15 +325,25 @@ pub struct Arranged {
 
 /// What network it may be, by the number of its splitters.
 #[derive(Clone, Copy)]
-enum Shape {
+pub enum Shape {
     /// A butterfly of so many ranks.
     Butterfly(usize),
     /// A Benes network: two butterflies of so many ranks, which share one.
     Benes(usize),
 }
 
+impl Shape {
+    /// How many ranks the network has.
+    pub fn ranks(self) -> usize {
+        match self {
+            Shape::Butterfly(ranks) => ranks,
+            Shape::Benes(ranks) => ranks.saturating_mul(2).saturating_sub(1),
+        }
+    }
+}
+
 /// What a network of so many splitters may be.
-fn shape_of(splitters: usize) -> Option<Shape> {
+pub fn shape_of(splitters: usize) -> Option<Shape> {
     let mut across = 1usize;
     for ranks in 1..=MOST_RANKS {
         if splitters == ranks.saturating_mul(across) {
@@ -373,20 +383,23 @@ fn benes_from(
     }
 }
 
-/// The rows of a network, where it is a butterfly or a Benes network.
-pub fn arrange(alloc: Global, wiring: &Wiring) -> Result<Option<Arranged>, AllocError> {
+/// The rows of a network of this shape, where it is one.
+pub fn arrange(
+    alloc: Global,
+    wiring: &Wiring,
+    shape: Shape,
+) -> Result<Option<Arranged>, AllocError> {
     let Some(first) = wiring.first else {
         return Ok(None);
     };
-    match shape_of(wiring.before.len()) {
-        Some(Shape::Butterfly(ranks)) => match rows_onward(alloc, wiring, first, ranks)? {
+    match shape {
+        Shape::Butterfly(ranks) => match rows_onward(alloc, wiring, first, ranks)? {
             Some(upper) => Ok(Some(Arranged {
                 upper,
                 lower: Vec::new(alloc),
             })),
             None => Ok(None),
         },
-        Some(Shape::Benes(ranks)) => benes_from(alloc, wiring, first, ranks),
-        None => Ok(None),
+        Shape::Benes(ranks) => benes_from(alloc, wiring, first, ranks),
     }
 }

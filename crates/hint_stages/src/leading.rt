@@ -17,17 +17,72 @@ const EFFORT: Effort = Effort {
     patience: 100,
 };
 
-/// The first cell of a block in the middle of a rectangle, where it has room round the block.
-pub fn centred(rect: Rect, block: Rect) -> Option<Cell> {
-    let (wide, high) = (
-        rect.width.checked_sub(block.width)?,
-        rect.height.checked_sub(block.height)?,
-    );
-    if wide == 0 || high < 2 {
-        return None;
+/// Where a block stands in a rectangle: how many quarters of the columns and of the rows that are left lie before it.
+#[derive(Clone, Copy)]
+pub struct Seat {
+    columns: u32,
+    rows: u32,
+}
+
+/// The seats that are tried: in the middle first.
+pub const SEATS: [Seat; 9] = [
+    Seat {
+        columns: 2,
+        rows: 2,
+    },
+    Seat {
+        columns: 1,
+        rows: 2,
+    },
+    Seat {
+        columns: 3,
+        rows: 2,
+    },
+    Seat {
+        columns: 2,
+        rows: 3,
+    },
+    Seat {
+        columns: 2,
+        rows: 1,
+    },
+    Seat {
+        columns: 0,
+        rows: 2,
+    },
+    Seat {
+        columns: 4,
+        rows: 2,
+    },
+    Seat {
+        columns: 1,
+        rows: 3,
+    },
+    Seat {
+        columns: 3,
+        rows: 1,
+    },
+];
+
+/// So many quarters of a number, rounded down.
+fn quarters(number: u32, count: u32) -> u32 {
+    number.saturating_mul(count) / 4
+}
+
+/// Where a rectangle has no more cells, a search of a placement formula finds more than the router round a block, and as soon.
+const SMALL: u32 = 256;
+
+impl Seat {
+    /// The first cell of a block here, where the rectangle isn't small and has room round the block.
+    pub fn first_cell(self, rect: Rect, block: Rect) -> Option<Cell> {
+        let wide = rect.width.checked_sub(block.width)?;
+        let high = rect.height.checked_sub(block.height)?;
+        if wide == 0 || high < 2 || rect.width.saturating_mul(rect.height) <= SMALL {
+            return None;
+        }
+        let beside = ahead(Cell { x: 0, y: 0 }, Dir::East, quarters(wide, self.columns));
+        Some(ahead(beside, Dir::South, quarters(high, self.rows)))
     }
-    let beside = ahead(Cell { x: 0, y: 0 }, Dir::East, wide / 2);
-    Some(ahead(beside, Dir::South, high / 2))
 }
 
 /// The stands of a plan's splitters, each at its number.

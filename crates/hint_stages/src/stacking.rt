@@ -1,8 +1,8 @@
 //! The parts of a plan, rank by rank from the south to the north.
-use crate::arranging::{Arranged, arrange};
+use crate::arranging::{Arranged, arrange, shape_of};
 use crate::channel::{Channel, find_channel};
 use crate::eight::{CORE_LINES, CORE_RANKS, CORE_ROWS};
-use crate::leading::{centred, lead_round};
+use crate::leading::{SEATS, lead_round};
 use crate::sense::Sense;
 use crate::stack::{Stack, ahead};
 use crate::wiring::wiring_of;
@@ -207,8 +207,8 @@ fn stack_of(
     Ok(Some(stack.sketch))
 }
 
-/// The plan with these rows and channels in the middle of the rectangle, where the router leads its ends to the border, and
-/// the edges that lead back round it.
+/// The plan with these rows and channels in the rectangle, where the router leads its ends to the border, and the edges that
+/// lead back round it.
 fn stack_with_loops(
     alloc: Global,
     request: &Request,
@@ -220,19 +220,19 @@ fn stack_with_loops(
         width: lines_of(arranged),
         height: channels.rows_of(arranged).saturating_sub(2),
     };
-    let Some(first) = centred(request.rect(), block) else {
-        return Ok(None);
-    };
-    let last = ahead(first, Dir::South, block.height.saturating_sub(1));
-    let mut stack = Stack::new(alloc, request.tier(), last);
-    push_ranks(&mut stack, arranged, channels)?;
-    match lead_round(alloc, request, &stack.sketch, first, block, loops)? {
-        Some(chains) => {
+    for seat in &SEATS {
+        let Some(first) = seat.first_cell(request.rect(), block) else {
+            continue;
+        };
+        let last = ahead(first, Dir::South, block.height.saturating_sub(1));
+        let mut stack = Stack::new(alloc, request.tier(), last);
+        push_ranks(&mut stack, arranged, channels)?;
+        if let Some(chains) = lead_round(alloc, request, &stack.sketch, first, block, loops)? {
             stack.push_chains(&chains)?;
-            Ok(Some(stack.sketch))
+            return Ok(Some(stack.sketch));
         }
-        None => Ok(None),
     }
+    Ok(None)
 }
 
 /// How many lines a network has that is arranged so.
@@ -262,8 +262,11 @@ pub fn find_stages(alloc: Global, request: &Request) -> Result<Option<Sketch>, A
     if !goes_north(request) || !request.blocks().is_empty() {
         return Ok(None);
     }
-    let wiring = wiring_of(alloc, request)?;
-    let Some(arranged) = arrange(alloc, &wiring)? else {
+    let Some(shape) = shape_of(request.net().splitters() as usize) else {
+        return Ok(None);
+    };
+    let wiring = wiring_of(alloc, request, shape.ranks())?;
+    let Some(arranged) = arrange(alloc, &wiring, shape)? else {
         return Ok(None);
     };
     let (rect, lines) = (request.rect(), lines_of(&arranged));

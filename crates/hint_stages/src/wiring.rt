@@ -50,12 +50,12 @@ pub struct Wiring {
     pub behind: Vec<Beside>,
     /// A splitter with an input.
     pub first: Option<usize>,
-    /// The edges that lead back: from a splitter that is no farther from the outputs than the one to which they lead.
+    /// The edges that lead back: all that don't lead from one rank to the next.
     pub loops: Vec<Edge>,
 }
 
-/// Farther than this from the outputs no splitter is of a network that has stages.
-const FARTHEST: usize = 16;
+/// How far splitters that no end comes to are from the ends.
+const NOWHERE: usize = usize::MAX;
 
 /// Both splitters beside one, in ascending order, where there are two.
 pub fn both_at(beside: &[Beside], splitter: usize) -> Option<(usize, usize)> {
@@ -72,44 +72,81 @@ fn add(beside: &mut [Beside], splitter: usize, other: usize) {
     }
 }
 
-/// The distance of a splitter from the outputs.
+/// To which ends distances are told.
+#[derive(Clone, Copy)]
+enum Toward {
+    Inputs,
+    Outputs,
+}
+
+impl Toward {
+    /// The splitter of which an edge tells how far it is, and the next one on the way; none where an end comes next.
+    fn step(self, edge: &Edge) -> Option<(usize, Option<usize>)> {
+        match self {
+            Toward::Inputs => Some((to(edge)?, from(edge))),
+            Toward::Outputs => Some((from(edge)?, to(edge))),
+        }
+    }
+}
+
+/// The distance of a splitter.
 fn distance(distances: &[usize], splitter: usize) -> usize {
-    distances.get(splitter).copied().unwrap_or(FARTHEST)
+    distances.get(splitter).copied().unwrap_or(NOWHERE)
 }
 
-/// How far from an output the start of an edge is by it, and which splitter starts it.
-fn distance_by(distances: &[usize], edge: &Edge) -> Option<(usize, usize)> {
-    let splitter = from(edge)?;
-    let over = match to(edge) {
-        Some(other) => distance(distances, other).saturating_add(1),
-        None => 0,
-    };
-    Some((splitter, over))
+/// Shortens what is known of distances by an edge.
+fn shorten(distances: &mut [usize], toward: Toward, edge: &Edge) {
+    if let Some((splitter, next)) = toward.step(edge) {
+        let over = match next {
+            Some(other) => distance(distances, other).saturating_add(1),
+            None => 0,
+        };
+        if let Some(least) = distances.get_mut(splitter) {
+            *least = over.min(*least);
+        }
+    }
 }
 
-/// How many splitters lie between each splitter and the nearest output.
-fn distances_of(alloc: Global, net: &Net) -> Result<Vec<usize>, AllocError> {
-    let mut distances = vec![in alloc; FARTHEST; net.splitters() as usize]?;
-    for _ in 0..FARTHEST {
+/// How many splitters lie between each splitter and the nearest end, as far as so many.
+fn distances_of(
+    alloc: Global,
+    net: &Net,
+    toward: Toward,
+    most: usize,
+) -> Result<Vec<usize>, AllocError> {
+    let mut distances = vec![in alloc; NOWHERE; net.splitters() as usize]?;
+    for _ in 0..most {
         for edge in net.edges() {
-            if let Some((splitter, over)) = distance_by(&distances, edge) {
-                if let Some(least) = distances.get_mut(splitter) {
-                    *least = over.min(*least);
-                }
-            }
+            shorten(&mut distances, toward, edge);
         }
     }
     Ok(distances)
 }
 
+/// The rank of each splitter of a network with so many ranks, from the inputs on. A way to an end along an edge that leads
+/// back is longer than all ranks, so a distance that is shorter is true; where neither is, the splitter has no rank.
+fn ranks_of(alloc: Global, net: &Net, ranks: usize) -> Result<Vec<usize>, AllocError> {
+    let mut found = distances_of(alloc, net, Toward::Inputs, ranks)?;
+    let behind = distances_of(alloc, net, Toward::Outputs, ranks)?;
+    for (rank, after) in found.iter_mut().zip(behind.iter()) {
+        if *rank >= ranks {
+            *rank = match ranks.checked_sub(1) {
+                Some(last) => last.checked_sub(*after).unwrap_or(NOWHERE),
+                None => NOWHERE,
+            };
+        }
+    }
+    Ok(found)
+}
+
 /// Adds an edge.
-fn add_edge(wiring: &mut Wiring, distances: &[usize], edge: &Edge) -> Result<(), AllocError> {
+fn add_edge(wiring: &mut Wiring, ranks: &[usize], edge: &Edge) -> Result<(), AllocError> {
     if let Some((from, to)) = joined(edge) {
-        if distance(distances, from) <= distance(distances, to) {
-            wiring.loops.push(*edge)?;
-        } else {
+        if distance(ranks, from).saturating_add(1) == distance(ranks, to) {
             add(&mut wiring.behind, from, to);
             add(&mut wiring.before, to, from);
+        } else {
+            wiring.loops.push(*edge)?;
         }
     }
     if let (Start::Input(_), Some(splitter), None) = (edge.start, to(edge), wiring.first) {
@@ -118,11 +155,11 @@ fn add_edge(wiring: &mut Wiring, distances: &[usize], edge: &Edge) -> Result<(),
     Ok(())
 }
 
-/// The splitters beside each one of a request's network.
-pub fn wiring_of(alloc: Global, request: &Request) -> Result<Wiring, AllocError> {
+/// The splitters beside each one of a request's network that may have so many ranks.
+pub fn wiring_of(alloc: Global, request: &Request, ranks: usize) -> Result<Wiring, AllocError> {
     let net = request.net();
     let count = net.splitters() as usize;
-    let distances = distances_of(alloc, net)?;
+    let levels = ranks_of(alloc, net, ranks)?;
     let mut wiring = Wiring {
         before: vec![in alloc; NONE; count]?,
         behind: vec![in alloc; NONE; count]?,
@@ -130,7 +167,7 @@ pub fn wiring_of(alloc: Global, request: &Request) -> Result<Wiring, AllocError>
         loops: Vec::new(alloc),
     };
     for edge in net.edges() {
-        add_edge(&mut wiring, &distances, edge)?;
+        add_edge(&mut wiring, &levels, edge)?;
     }
     Ok(wiring)
 }
