@@ -4,21 +4,13 @@
 ghost use Rattle.std.specs.Prelude.{IsTrue};
 ghost use Rattle.bt_model.specs.Requests.{IsGrid};
 
-use crate::drawn::drawn_channel;
+use crate::drawn::{Channel, drawn_channel};
 use bt_model::{MOST_ACROSS, Request};
 use bt_net::{Admitted, Edge, Net, NetFault, read};
 use bt_parts::{Cell, Dir, Rect, Tier};
 use hint_numbering::joined;
-use hint_routing::{Chain, Effort, Negotiated, Stand, negotiate};
+use hint_routing::{Effort, Negotiated, Stand, negotiate};
 use std::alloc::{AllocError, Global};
-
-/// The chains of a channel, in cells of which (0, 0) is the first one of the upper row.
-#[derive(Drop)]
-pub struct Channel {
-    pub chains: Vec<Option<Chain>>,
-    /// How many rows lie between the two rows of splitters.
-    pub height: u32,
-}
 
 /// How many rows more than the fewest that are likely are tried.
 const MORE_ROWS: u32 = 24;

@@ -1,10 +1,17 @@
-//! Channels that a router found once, as drawings: so they need no search, and have fewer rows than one has time to look for.
-use crate::channel::Channel;
+//! Channels, and those that a router found once, as drawings: so they need no search, and have fewer rows than one has time to look for.
+use crate::cells::ahead;
 use crate::eight::piece;
-use crate::stack::ahead;
 use bt_parts::{Cell, Dir, Kind};
 use hint_routing::{Chain, Step};
 use std::alloc::{AllocError, Global};
+
+/// The chains of a channel, in cells of which (0, 0) is the first one of the upper row.
+#[derive(Drop)]
+pub struct Channel {
+    pub chains: Vec<Option<Chain>>,
+    /// How many rows lie between the two rows of splitters.
+    pub height: u32,
+}
 
 /// The channel of sixteen lines.
 const SIXTEEN: [&str; 8] = [

@@ -1,5 +1,5 @@
 //! Edges that lead back round a block of stages, and its ends to the border.
-use crate::stack::ahead;
+use crate::cells::ahead;
 use bt_model::Request;
 use bt_net::Edge;
 use bt_parts::{Cell, Dir, Rect};

@@ -5,6 +5,7 @@
 #![tactic(auto)]
 
 mod arranging;
+mod cells;
 mod channel;
 mod drawn;
 mod eight;

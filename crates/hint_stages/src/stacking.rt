@@ -1,10 +1,12 @@
 //! The parts of a plan, rank by rank from the south to the north.
 use crate::arranging::{Arranged, arrange, shape_of};
-use crate::channel::{Channel, find_channel};
+use crate::cells::ahead;
+use crate::channel::find_channel;
+use crate::drawn::Channel;
 use crate::eight::{CORE_LINES, CORE_RANKS, CORE_ROWS};
 use crate::leading::{SEATS, lead_round};
 use crate::sense::Sense;
-use crate::stack::{Stack, ahead};
+use crate::stack::Stack;
 use crate::wiring::wiring_of;
 use bt_model::Request;
 use bt_net::Edge;
