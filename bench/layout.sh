@@ -58,6 +58,20 @@ CASES = [
     ("sided-loop-5-to-5", ["16x16", "12x16"], "found", 10, None),
     ("sided-loop-6-to-6", ["16x16", "12x14"], "found", 10, None),
     ("sided-loop-7-to-7", ["16x16", "12x14"], "found", 10, None),
+    ("row-8", ["8x13", "8x15"], "found", 1, None),
+    ("row-16", ["16x22", "16x25"], "found", 1, None),
+    ("row-32", ["32x38", "32x44"], "found", 1, None),
+    ("row-64", ["64x68", "64x79"], "found", 1, None),
+    ("row-benes-16", ["16x41"], "found", 1, None),
+    ("row-benes-32", ["32x73"], "found", 1, None),
+    ("row-benes-64", ["64x133"], "found", 1, None),
+    ("led-back-15-of-16", ["20x29"], "found", 10, None),
+    ("led-back-14-of-16", ["20x29"], "found", 10, None),
+    ("led-back-12-of-16", ["22x28"], "found", 10, None),
+    ("led-back-9-of-16", ["24x31"], "found", 10, None),
+    ("scattered-20", ["160x160"], "found", 10, None),
+    ("scattered-50", ["160x160"], "found", 10, None),
+    ("scattered-100", ["160x160"], "found", 10, None),
 ]
 
 
@@ -96,6 +110,11 @@ def sided(text):
     return demanded(text, "side inputs south", "side outputs north")
 
 
+def in_rows(network):
+    """The request for a network whose inputs are side by side in the south, and its outputs in the north."""
+    return demanded(network.text(), "side inputs south", "side outputs north", "row inputs", "row outputs")
+
+
 MADE = {
     "stages-4-to-4": lambda: staged(4, "s0 s2,s0 s3,s1 s2,s1 s3,s2 s4,s2 s5,s3 s4,s3 s5"),
     "ring-8-to-8": lambda: staged(8, "s0 s4,s0 s5,s1 s5,s1 s6,s2 s6,s2 s7,s3 s7,s3 s4"),
@@ -114,6 +133,13 @@ MADE = {
     "sided-loop-5-to-5": lambda: sided(networks.looped(balancer(), 5).text()),
     "sided-loop-6-to-6": lambda: sided(networks.looped(balancer(), 6).text()),
     "sided-loop-7-to-7": lambda: sided(networks.looped(balancer(), 7).text()),
+    **{f"row-{2**k}": lambda k=k: in_rows(networks.butterfly(k)) for k in (3, 4, 5, 6)},
+    **{f"row-benes-{2**k}": lambda k=k: in_rows(networks.benes(k)) for k in (4, 5, 6)},
+    **{
+        f"led-back-{n}-of-16": lambda n=n: sided(networks.looped(networks.butterfly(4), n).text())
+        for n in (9, 12, 14, 15)
+    },
+    **{f"scattered-{n}": lambda n=n: networks.scattered(n, 8, 1).text() for n in (20, 50, 100)},
 }
 
 
@@ -162,7 +188,7 @@ for name, grids, wanted, most_seconds, most_times in CASES:
         rivals = []
         formula = run([program, "formula", "--grid", grid], text, 1, SECONDS)[2] if numbering == 0 else ""
         for words in SOLVERS:
-            if numbering > 0:
+            if numbering > 0 or not formula.startswith("c"):
                 rivals.append(" | | ")
                 continue
             seconds, _, said = run([*words, "/dev/stdin"], formula, 3, SOLVER_SECONDS)

@@ -43,6 +43,21 @@ def doubled(order):
     return Network(one.inputs, one.outputs, 2 * one.splitters, edges)
 
 
+def benes(order):
+    """A stage of splitters for each bit of a line's number, from the highest to the lowest and up again: two
+    butterflies, of which the first one is turned round, with one stage in common."""
+    ends, edges, splitters = 2**order, [], 0
+    starts = [("i", line) for line in range(ends)]
+    for bit in [*range(order - 1, 0, -1), *range(order)]:
+        for line in (line for line in range(ends) if not line >> bit & 1):
+            other, splitter = line | 1 << bit, ("s", splitters)
+            edges += [(starts[line], splitter), (starts[other], splitter)]
+            starts[line] = starts[other] = splitter
+            splitters += 1
+    edges += [(start, ("o", line)) for line, start in enumerate(starts)]
+    return Network(ends, ends, splitters, edges)
+
+
 def looped(network, lines):
     """The network with so many inputs and outputs, each output beyond them led back to the input with its number."""
     targets = {start[1]: target for start, target in network.edges if start[0] == "i"}
@@ -121,7 +136,8 @@ def renumbered(text, seed):
         " ".join([word, end if end in ("inputs", "outputs") else named(end), *rest]) for word, end, *rest in placed
     ]
     chance.shuffle(edges)
-    return "\n".join([head, *edges, *demands, *(line for line in lines if line.startswith("block")), "end"]) + "\n"
+    kept = [line for line in lines if line.startswith(("block", "row"))]
+    return "\n".join([head, *edges, *demands, *kept, "end"]) + "\n"
 
 
 def all_networks():

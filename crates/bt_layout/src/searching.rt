@@ -10,7 +10,7 @@ ghost use Rattle.bt_layout.specs.inner.Progressing.{HasLog, IsWhole};
 use crate::likely::{Trial, Tried, placing};
 use crate::outcome::Layout;
 use crate::sketched::{look_by_sketch, look_in_windows};
-use crate::tested::laid_by_proposal;
+use crate::tested::{laid_by_proposal, laid_by_stages};
 use crate::tight::is_tight;
 use bt_choosers::{Highest, Plan};
 use bt_cnf::{Chooser, Formula};
@@ -48,8 +48,8 @@ pub struct Searched {
 ///
 /// Of a request without a formula it is what hints propose that is tested, and where that lays nothing, there is no answer.
 ///
-/// Of one that has a formula, at first the formula is searched by few steps, where it is small. Then a sketch of a layout is
-/// made, which may show one; then a layout is searched where one is likely, by at most 65,536 steps; where none is
+/// Of one that has a formula, at first the formula is searched by few steps, where it is small. Then a network with stages is
+/// laid stage by stage; then a sketch of a layout is made, which may show one; then a layout is searched where one is likely, by at most 65,536 steps; where none is
 /// found, the log of that search is dropped, and the formula is searched from the start. It has no atoms, so a model of its
 /// clauses meets it. Of a log that refutes it the steps that the last one doesn't need are left out.
 pub fn layout<C: Chooser>(
@@ -198,8 +198,23 @@ fn searched_of(
     Ok(Searched { layout, steps })
 }
 
-/// A layout of a request that a sketch shows or that is found where one is likely.
+/// A layout of a request that is laid stage by stage, that a sketch shows, or that is found where one is likely. What has
+/// stages is told at once, and a search finds such layouts in small rectangles alone.
 fn early_layout(
+    alloc: Global,
+    request: &Request,
+    learnt: u64,
+) -> Result<Option<Vec<Part>>, AllocError>
+    ensures { IfOk result (λ found. IfSome found (λ parts. IsLaidOut request.now parts.items)) }
+{
+    match laid_by_stages(alloc, request)? {
+        Some(parts) => Ok(Some(parts)),
+        None => sketched_layout(alloc, request, learnt),
+    }
+}
+
+/// A layout of a request that a sketch shows or that is found where one is likely.
+fn sketched_layout(
     alloc: Global,
     request: &Request,
     learnt: u64,

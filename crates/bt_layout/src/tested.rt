@@ -8,7 +8,7 @@ use bt_entities::MOST_ENTITIES;
 use bt_lays::{Names, lays};
 use bt_model::Request;
 use bt_parts::{Cell, Part};
-use hint_layouts::{Proposal, name_sketch, propose};
+use hint_layouts::{Proposal, name_sketch, propose, propose_stages};
 use hint_placement::Sketch;
 use std::alloc::{AllocError, Global};
 
@@ -83,6 +83,17 @@ pub fn laid_by_sketch(
         IsLaidOut request.now parts.items × (length parts.items ≤ MOST_ENTITIES))) }
 {
     match name_sketch(alloc, request, sketch)? {
+        Some(proposal) => taken(alloc, request, proposal),
+        None => Ok(None),
+    }
+}
+
+/// The parts that hints propose stage by stage, where they lay the request.
+pub fn laid_by_stages(alloc: Global, request: &Request) -> Result<Option<Vec<Part>>, AllocError>
+    ensures { IfOk result (λ found. IfSome found (λ parts.
+        IsLaidOut request.now parts.items × (length parts.items ≤ MOST_ENTITIES))) }
+{
+    match propose_stages(alloc, request)? {
         Some(proposal) => taken(alloc, request, proposal),
         None => Ok(None),
     }

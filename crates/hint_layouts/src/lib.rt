@@ -5,9 +5,10 @@
 #![tactic(auto)]
 
 mod ends;
+mod framed;
 mod naming;
 mod proposing;
 
 pub use naming::{Proposal, name_sketch};
-pub use proposing::propose;
+pub use proposing::{propose, propose_stages};
 pub use std::alloc::AllocError as Memory;

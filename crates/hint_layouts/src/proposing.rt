@@ -1,4 +1,5 @@
 //! Strategies that propose layouts.
+use crate::framed::{find_framed, routed};
 use crate::naming::{Proposal, name_sketch};
 use bt_model::Request;
 use hint_placement::{Sketch, find_sketch};
@@ -10,18 +11,34 @@ const MOST_ROUTED: u64 = 1 << 20;
 
 /// Whether a router may be asked.
 fn may_route(request: &Request) -> bool {
-    let rect = request.rect();
-    let cells = u64::from(rect.width).saturating_mul(u64::from(rect.height));
-    cells.saturating_mul(request.net().edges().len() as u64) <= MOST_ROUTED
+    routed(request, request.rect()) <= MOST_ROUTED
+}
+
+/// Parts with names that may lay a butterfly or a Benes network, in ascending order of y and then x of their cells, stage by
+/// stage. Of other networks it says at once that it has none.
+pub fn propose_stages(alloc: Global, request: &Request) -> Result<Option<Proposal>, AllocError> {
+    match find_stages(alloc, request)? {
+        Some(sketch) => name_sketch(alloc, request, &sketch),
+        None => Ok(None),
+    }
+}
+
+/// A plan by ranks: in the middle of a large rectangle, or else in all of it.
+fn ranked_sketch(alloc: Global, request: &Request) -> Result<Option<Sketch>, AllocError> {
+    let framed = find_framed(alloc, request)?;
+    if framed.is_some() || !may_route(request) {
+        return Ok(framed);
+    }
+    find_sketch(alloc, request)
 }
 
 /// A plan, by the first strategy that comes to one: stage by stage, or else by ranks.
 fn sketch_of(alloc: Global, request: &Request) -> Result<Option<Sketch>, AllocError> {
     let staged = find_stages(alloc, request)?;
-    if staged.is_some() || !may_route(request) {
+    if staged.is_some() {
         return Ok(staged);
     }
-    find_sketch(alloc, request)
+    ranked_sketch(alloc, request)
 }
 
 /// Parts with names that may lay a request, in ascending order of y and then x of their cells, where some are found. The

@@ -1,4 +1,5 @@
 //! In which order the splitters of each rank stand.
+use crate::eight::CORE_ACROSS;
 use crate::wiring::{Beside, Wiring, both_at};
 use std::alloc::{AllocError, Global};
 use std::mem::replace;
@@ -21,26 +22,37 @@ fn are_apart(alloc: Global, row: &[usize], count: usize) -> Result<bool, AllocEr
     Ok(true)
 }
 
-/// The splitters to which those of a row lead, in this order, where each leads to two.
+/// The splitters to which those of a row lead, where each leads to two: one of each, in this order, and then the others. In
+/// the core the two stand side by side.
 fn next_row(
     alloc: Global,
     row: &[usize],
     behind: &[Beside],
 ) -> Result<Option<Vec<usize>>, AllocError> {
     let mut next = Vec::new(alloc);
+    let mut others = Vec::new(alloc);
     for splitter in row {
-        match both_at(behind, *splitter) {
-            Some((one, other)) => {
-                next.push(one)?;
-                next.push(other)?;
-            }
-            None => return Ok(None),
+        let Some((one, other)) = both_at(behind, *splitter) else {
+            return Ok(None);
+        };
+        next.push(one)?;
+        if are_side_by_side(row.len()) {
+            next.push(other)?;
+        } else {
+            others.push(other)?;
         }
     }
+    next.extend_from_slice(&others)?;
     Ok(Some(next))
 }
 
-/// The splitters to which one leads over so many ranks, in an order in which both that one leads to stand side by side.
+/// Whether two splitters of the upper row that come from the same two stand side by side, where half a block has so many
+/// splitters: so they do in the core, and over a channel they stand half a block apart.
+fn are_side_by_side(half: usize) -> bool {
+    half.saturating_mul(2) == CORE_ACROSS
+}
+
+/// The splitters to which one leads over so many ranks, in the order of their columns over its block.
 fn reached(
     alloc: Global,
     behind: &[Beside],
@@ -138,14 +150,12 @@ fn labels_of(
 /// The two splitters from which both at these places of a row come, first that of the half with the lesser label.
 fn sources(
     row: &[usize],
-    place: usize,
+    places: (usize, usize),
     before: &[Beside],
     labels: &[usize],
 ) -> Option<(usize, usize)> {
-    let first = row.get(place.saturating_mul(2))?;
-    let second = row.get(place.saturating_mul(2).saturating_add(1))?;
-    let (one, other) = both_at(before, *first)?;
-    if both_at(before, *second) != Some((one, other)) {
+    let (one, other) = both_at(before, *row.get(places.0)?)?;
+    if both_at(before, *row.get(places.1)?) != Some((one, other)) {
         None
     } else if label_at(labels, one) < label_at(labels, other) {
         Some((one, other))
@@ -170,20 +180,29 @@ fn row_under(
     labels: &[usize],
 ) -> Result<Option<Vec<usize>>, AllocError> {
     let mut next = vec![in alloc; usize::MAX; row.len()]?;
-    for place in 0..row.len() / 2 {
-        let Some((left, right)) = sources(row, place, before, labels) else {
+    for pair in 0..row.len() / 2 {
+        let place = block_start(pair, half).saturating_add(pair % half.max(1));
+        let opposite = place.saturating_add(half);
+        let upper = if are_side_by_side(half) {
+            (
+                pair.saturating_mul(2),
+                pair.saturating_mul(2).saturating_add(1),
+            )
+        } else {
+            (place, opposite)
+        };
+        let Some((left, right)) = sources(row, upper, before, labels) else {
             return Ok(None);
         };
-        let seat = block_start(place, half).saturating_add(place % half.max(1));
-        write(&mut next, seat, left);
-        write(&mut next, seat.saturating_add(half), right);
+        write(&mut next, place, left);
+        write(&mut next, opposite, right);
     }
     Ok(Some(next))
 }
 
-/// Where the block begins in which a pair of this place stands, where half a block has so many splitters.
-fn block_start(place: usize, half: usize) -> usize {
-    (place / half.max(1)).saturating_mul(half).saturating_mul(2)
+/// Where the block begins in which a pair with this number stands, where half a block has so many splitters.
+fn block_start(pair: usize, half: usize) -> usize {
+    (pair / half.max(1)).saturating_mul(half).saturating_mul(2)
 }
 
 /// The rows of so many ranks, of which the last is this one.
@@ -306,15 +325,25 @@ pub struct Arranged {
 
 /// What network it may be, by the number of its splitters.
 #[derive(Clone, Copy)]
-enum Shape {
+pub enum Shape {
     /// A butterfly of so many ranks.
     Butterfly(usize),
     /// A Benes network: two butterflies of so many ranks, which share one.
     Benes(usize),
 }
 
+impl Shape {
+    /// How many ranks the network has.
+    pub fn ranks(self) -> usize {
+        match self {
+            Shape::Butterfly(ranks) => ranks,
+            Shape::Benes(ranks) => ranks.saturating_mul(2).saturating_sub(1),
+        }
+    }
+}
+
 /// What a network of so many splitters may be.
-fn shape_of(splitters: usize) -> Option<Shape> {
+pub fn shape_of(splitters: usize) -> Option<Shape> {
     let mut across = 1usize;
     for ranks in 1..=MOST_RANKS {
         if splitters == ranks.saturating_mul(across) {
@@ -354,20 +383,23 @@ fn benes_from(
     }
 }
 
-/// The rows of a network, where it is a butterfly or a Benes network.
-pub fn arrange(alloc: Global, wiring: &Wiring) -> Result<Option<Arranged>, AllocError> {
+/// The rows of a network of this shape, where it is one.
+pub fn arrange(
+    alloc: Global,
+    wiring: &Wiring,
+    shape: Shape,
+) -> Result<Option<Arranged>, AllocError> {
     let Some(first) = wiring.first else {
         return Ok(None);
     };
-    match shape_of(wiring.before.len()) {
-        Some(Shape::Butterfly(ranks)) => match rows_onward(alloc, wiring, first, ranks)? {
+    match shape {
+        Shape::Butterfly(ranks) => match rows_onward(alloc, wiring, first, ranks)? {
             Some(upper) => Ok(Some(Arranged {
                 upper,
                 lower: Vec::new(alloc),
             })),
             None => Ok(None),
         },
-        Some(Shape::Benes(ranks)) => benes_from(alloc, wiring, first, ranks),
-        None => Ok(None),
+        Shape::Benes(ranks) => benes_from(alloc, wiring, first, ranks),
     }
 }

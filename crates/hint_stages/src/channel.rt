@@ -1,22 +1,16 @@
 //! The belts between two ranks of a block: two rows of splitters, of which the lower one has two halves side by side, and each
-//! half leads to all of the upper one.
+//! half leads to all of the upper one. The upper splitters stand so that each lower one leads to the one over it, and to the
+//! one as far into the other half: so half of the lines go straight to the north, and the others change places.
 ghost use Rattle.std.specs.Prelude.{IsTrue};
 ghost use Rattle.bt_model.specs.Requests.{IsGrid};
 
+use crate::drawn::{Channel, drawn_channel};
 use bt_model::{MOST_ACROSS, Request};
 use bt_net::{Admitted, Edge, Net, NetFault, read};
 use bt_parts::{Cell, Dir, Rect, Tier};
 use hint_numbering::joined;
-use hint_routing::{Chain, Effort, Negotiated, Stand, negotiate};
+use hint_routing::{Effort, Negotiated, Stand, negotiate};
 use std::alloc::{AllocError, Global};
-
-/// The chains of a channel, in cells of which (0, 0) is the first one of the upper row.
-#[derive(Drop)]
-pub struct Channel {
-    pub chains: Vec<Option<Chain>>,
-    /// How many rows lie between the two rows of splitters.
-    pub height: u32,
-}
 
 /// How many rows more than the fewest that are likely are tried.
 const MORE_ROWS: u32 = 24;
@@ -30,16 +24,10 @@ const EFFORT: Effort = Effort {
     patience: 150,
 };
 
-/// The fewest rows in which the router is likely to lead so many lines: more than half of the lines cross the middle, and of
-/// those at most two in a row. Fewer rows cost more rounds than they are worth.
+/// The fewest rows in which the router is likely to lead so many lines: half of the lines cross the middle, and hardly more
+/// than one in a row. Fewer rows cost more rounds than they are worth.
 fn fewest_rows(lines: u32) -> u32 {
-    match lines {
-        0..=4 => 6,
-        5..=8 => 9,
-        9..=16 => 13,
-        17..=32 => 25,
-        _ => 48,
-    }
+    (lines / 2).saturating_add(2).max(6)
 }
 
 /// Adds the bytes of a text.
@@ -50,8 +38,8 @@ fn push_text(text: &mut Vec<u8>, piece: &str) -> Result<(), AllocError> {
 
 /// Adds the edges from a lower splitter to those of the upper row.
 fn push_lower(alloc: Global, text: &mut Vec<u8>, half: u32, lower: u32) -> Result<(), AllocError> {
-    let first = (lower % half.max(1)).saturating_mul(2);
-    let second = first.saturating_add(1);
+    let first = lower % half.max(1);
+    let second = first.saturating_add(half);
     let (one, other) = (
         lower.saturating_mul(2),
         lower.saturating_mul(2).saturating_add(1),
@@ -187,8 +175,23 @@ fn channel_of(
     }
 }
 
-/// A channel of blocks with so many splitters in each half, in as few rows as the router comes to and at most so many.
+/// A channel of blocks with so many splitters in each half, in at most so many rows: one that is kept as a drawing, or else
+/// in as few rows as the router comes to.
 pub fn find_channel(
+    alloc: Global,
+    tier: Tier,
+    half: u32,
+    most: u32,
+) -> Result<Option<Channel>, AllocError> {
+    let lines = half.saturating_mul(4);
+    if let Some(channel) = drawn_channel(alloc, lines)? {
+        return Ok(Some(channel).filter(|channel| channel.height <= most));
+    }
+    routed_channel(alloc, tier, half, most)
+}
+
+/// A channel of blocks with so many splitters in each half, in as few rows as the router comes to and at most so many.
+fn routed_channel(
     alloc: Global,
     tier: Tier,
     half: u32,

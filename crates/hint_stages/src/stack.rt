@@ -1,5 +1,6 @@
 //! A plan that grows from row to row, from the south to the north.
-use crate::channel::Channel;
+use crate::cells::ahead;
+use crate::drawn::Channel;
 use crate::eight::{CORE_ACROSS, CORE_LINES, CORE_RANKS, CORE_ROWS, drawing, piece, seat};
 use crate::sense::Sense;
 use bt_parts::{Cell, Dir, Kind, Part, Tier};
@@ -47,15 +48,6 @@ fn turned(came: Dir, leaves: Dir, sense: Sense) -> Dir {
         (Sense::Against, Dir::West) => Dir::East,
         (Sense::Against, upright) => upright,
     }
-}
-
-/// The cell so many steps on.
-pub fn ahead(cell: Cell, dir: Dir, steps: u32) -> Cell {
-    let mut cell = cell;
-    for _ in 0..steps {
-        cell = cell.next(dir);
-    }
-    cell
 }
 
 impl Stack {
@@ -139,6 +131,16 @@ impl Stack {
                     self.push(Kind::Exit, exit, dir_now)?;
                     came = dir;
                 }
+            }
+        }
+        Ok(())
+    }
+
+    /// Adds the parts of chains, which stand where they are.
+    pub fn push_chains(&mut self, chains: &[Option<Chain>]) -> Result<(), AllocError> {
+        for chain in chains {
+            if let Some(chain) = chain {
+                self.push_chain(chain, Cell { x: 0, y: 0 }, Sense::Onward, 0)?;
             }
         }
         Ok(())

@@ -1,12 +1,16 @@
 //! The parts of a plan, rank by rank from the south to the north.
-use crate::arranging::{Arranged, arrange};
-use crate::channel::{Channel, find_channel};
+use crate::arranging::{Arranged, arrange, shape_of};
+use crate::cells::ahead;
+use crate::channel::find_channel;
+use crate::drawn::Channel;
 use crate::eight::{CORE_LINES, CORE_RANKS, CORE_ROWS};
+use crate::leading::{SEATS, lead_round};
 use crate::sense::Sense;
-use crate::stack::{Stack, ahead};
+use crate::stack::Stack;
 use crate::wiring::wiring_of;
 use bt_model::Request;
-use bt_parts::{Cell, Dir, Tier};
+use bt_net::Edge;
+use bt_parts::{Cell, Dir, Rect, Tier};
 use hint_numbering::goes_north;
 use hint_placement::Sketch;
 use std::alloc::{AllocError, Global};
@@ -172,6 +176,16 @@ fn push_lower(
     push_last(stack, rows, channels)
 }
 
+/// Adds the ranks and the channels of a network.
+fn push_ranks(
+    stack: &mut Stack,
+    arranged: &Arranged,
+    channels: &Channels,
+) -> Result<(), AllocError> {
+    push_lower(stack, &arranged.lower, channels)?;
+    push_upper(stack, &arranged.upper, channels)
+}
+
 /// The plan with these rows and channels, where the rectangle is large enough: rows that are left are belts to the north.
 fn stack_of(
     alloc: Global,
@@ -188,44 +202,82 @@ fn stack_of(
     let last = ahead(Cell { x: 0, y: -1 }, Dir::South, rect.height);
     let mut stack = Stack::new(alloc, request.tier(), last);
     stack.push_belts(lines)?;
-    push_lower(&mut stack, &arranged.lower, channels)?;
-    push_upper(&mut stack, &arranged.upper, channels)?;
+    push_ranks(&mut stack, arranged, channels)?;
     for _ in rows..=rect.height {
         stack.push_belts(lines)?;
     }
     Ok(Some(stack.sketch))
 }
 
-/// Whether a network may have a plan: it has as many inputs as outputs, and as many lines as its rows have.
-fn is_even(request: &Request, arranged: &Arranged) -> bool {
-    let lines = request.net().inputs();
-    match arranged.upper.last() {
-        Some(row) => {
-            request.net().outputs() == lines && row.len().saturating_mul(2) == lines as usize
+/// The plan with these rows and channels in the rectangle, where the router leads its ends to the border, and the edges that
+/// lead back round it.
+fn stack_with_loops(
+    alloc: Global,
+    request: &Request,
+    arranged: &Arranged,
+    channels: &Channels,
+    loops: &[Edge],
+) -> Result<Option<Sketch>, AllocError> {
+    let block = Rect {
+        width: lines_of(arranged),
+        height: channels.rows_of(arranged).saturating_sub(2),
+    };
+    for seat in &SEATS {
+        let Some(first) = seat.first_cell(request.rect(), block) else {
+            continue;
+        };
+        let last = ahead(first, Dir::South, block.height.saturating_sub(1));
+        let mut stack = Stack::new(alloc, request.tier(), last);
+        push_ranks(&mut stack, arranged, channels)?;
+        if let Some(chains) = lead_round(alloc, request, &stack.sketch, first, block, loops)? {
+            stack.push_chains(&chains)?;
+            return Ok(Some(stack.sketch));
         }
-        None => false,
     }
+    Ok(None)
+}
+
+/// How many lines a network has that is arranged so.
+fn lines_of(arranged: &Arranged) -> u32 {
+    let mut lines = 0u32;
+    if let Some(row) = arranged.upper.last() {
+        for _ in row {
+            lines = lines.saturating_add(2);
+        }
+    }
+    lines
+}
+
+/// Whether a network may have a plan: with the edges that lead back it has as many inputs as outputs, and as many lines as its
+/// rows have.
+fn is_even(request: &Request, lines: u32, loops: &[Edge]) -> bool {
+    let net = request.net();
+    let led_back = loops.len() as u64;
+    u64::from(net.inputs()).saturating_add(led_back) == u64::from(lines)
+        && net.outputs() == net.inputs()
 }
 
 /// A plan of a butterfly or of a Benes network, of which a request asks nothing but that inputs are in the south and outputs
-/// in the north, or in rows. None of other networks, or where the rectangle is too small.
+/// in the north, or in rows, and some of whose outputs may be led back to inputs. None of other networks, or where the
+/// rectangle is too small.
 pub fn find_stages(alloc: Global, request: &Request) -> Result<Option<Sketch>, AllocError> {
     if !goes_north(request) || !request.blocks().is_empty() {
         return Ok(None);
     }
-    let wiring = wiring_of(alloc, request)?;
-    let Some(arranged) = arrange(alloc, &wiring)? else {
+    let Some(shape) = shape_of(request.net().splitters() as usize) else {
         return Ok(None);
     };
-    if !is_even(request, &arranged) {
+    let wiring = wiring_of(alloc, request, shape.ranks())?;
+    let Some(arranged) = arrange(alloc, &wiring, shape)? else {
         return Ok(None);
-    }
-    let (rect, lines) = (request.rect(), request.net().inputs());
-    if rect.width < lines {
+    };
+    let (rect, lines) = (request.rect(), lines_of(&arranged));
+    if rect.width < lines || !is_even(request, lines, &wiring.loops) {
         return Ok(None);
     }
     match channels_of(alloc, request.tier(), lines as usize / 2, rect.height)? {
-        Some(channels) => stack_of(alloc, request, &arranged, &channels),
+        Some(channels) if wiring.loops.is_empty() => stack_of(alloc, request, &arranged, &channels),
+        Some(channels) => stack_with_loops(alloc, request, &arranged, &channels, &wiring.loops),
         None => Ok(None),
     }
 }

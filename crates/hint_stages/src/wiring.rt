@@ -1,7 +1,7 @@
 //! Which splitters those of a network come from and lead to.
 use bt_model::Request;
-use bt_net::{Edge, Start};
-use hint_numbering::{joined, to};
+use bt_net::{Edge, Net, Start};
+use hint_numbering::{from, joined, to};
 use std::alloc::{AllocError, Global};
 
 /// The splitters beside one, in the direction of its edges or against it.
@@ -41,7 +41,7 @@ impl Beside {
     }
 }
 
-/// The splitters beside each one of a network.
+/// The splitters beside each one of a network, but for the edges that lead back.
 #[derive(Drop)]
 pub struct Wiring {
     /// Those that it comes from.
@@ -50,7 +50,12 @@ pub struct Wiring {
     pub behind: Vec<Beside>,
     /// A splitter with an input.
     pub first: Option<usize>,
+    /// The edges that lead back: all that don't lead from one rank to the next.
+    pub loops: Vec<Edge>,
 }
+
+/// How far splitters that no end comes to are from the ends.
+const NOWHERE: usize = usize::MAX;
 
 /// Both splitters beside one, in ascending order, where there are two.
 pub fn both_at(beside: &[Beside], splitter: usize) -> Option<(usize, usize)> {
@@ -67,28 +72,102 @@ fn add(beside: &mut [Beside], splitter: usize, other: usize) {
     }
 }
 
+/// To which ends distances are told.
+#[derive(Clone, Copy)]
+enum Toward {
+    Inputs,
+    Outputs,
+}
+
+impl Toward {
+    /// The splitter of which an edge tells how far it is, and the next one on the way; none where an end comes next.
+    fn step(self, edge: &Edge) -> Option<(usize, Option<usize>)> {
+        match self {
+            Toward::Inputs => Some((to(edge)?, from(edge))),
+            Toward::Outputs => Some((from(edge)?, to(edge))),
+        }
+    }
+}
+
+/// The distance of a splitter.
+fn distance(distances: &[usize], splitter: usize) -> usize {
+    distances.get(splitter).copied().unwrap_or(NOWHERE)
+}
+
+/// Shortens what is known of distances by an edge.
+fn shorten(distances: &mut [usize], toward: Toward, edge: &Edge) {
+    if let Some((splitter, next)) = toward.step(edge) {
+        let over = match next {
+            Some(other) => distance(distances, other).saturating_add(1),
+            None => 0,
+        };
+        if let Some(least) = distances.get_mut(splitter) {
+            *least = over.min(*least);
+        }
+    }
+}
+
+/// How many splitters lie between each splitter and the nearest end, as far as so many.
+fn distances_of(
+    alloc: Global,
+    net: &Net,
+    toward: Toward,
+    most: usize,
+) -> Result<Vec<usize>, AllocError> {
+    let mut distances = vec![in alloc; NOWHERE; net.splitters() as usize]?;
+    for _ in 0..most {
+        for edge in net.edges() {
+            shorten(&mut distances, toward, edge);
+        }
+    }
+    Ok(distances)
+}
+
+/// The rank of each splitter of a network with so many ranks, from the inputs on. A way to an end along an edge that leads
+/// back is longer than all ranks, so a distance that is shorter is true; where neither is, the splitter has no rank.
+fn ranks_of(alloc: Global, net: &Net, ranks: usize) -> Result<Vec<usize>, AllocError> {
+    let mut found = distances_of(alloc, net, Toward::Inputs, ranks)?;
+    let behind = distances_of(alloc, net, Toward::Outputs, ranks)?;
+    for (rank, after) in found.iter_mut().zip(behind.iter()) {
+        if *rank >= ranks {
+            *rank = match ranks.checked_sub(1) {
+                Some(last) => last.checked_sub(*after).unwrap_or(NOWHERE),
+                None => NOWHERE,
+            };
+        }
+    }
+    Ok(found)
+}
+
 /// Adds an edge.
-fn add_edge(wiring: &mut Wiring, edge: &Edge) {
+fn add_edge(wiring: &mut Wiring, ranks: &[usize], edge: &Edge) -> Result<(), AllocError> {
     if let Some((from, to)) = joined(edge) {
-        add(&mut wiring.behind, from, to);
-        add(&mut wiring.before, to, from);
+        if distance(ranks, from).saturating_add(1) == distance(ranks, to) {
+            add(&mut wiring.behind, from, to);
+            add(&mut wiring.before, to, from);
+        } else {
+            wiring.loops.push(*edge)?;
+        }
     }
     if let (Start::Input(_), Some(splitter), None) = (edge.start, to(edge), wiring.first) {
         wiring.first = Some(splitter);
     }
+    Ok(())
 }
 
-/// The splitters beside each one of a request's network.
-pub fn wiring_of(alloc: Global, request: &Request) -> Result<Wiring, AllocError> {
+/// The splitters beside each one of a request's network that may have so many ranks.
+pub fn wiring_of(alloc: Global, request: &Request, ranks: usize) -> Result<Wiring, AllocError> {
     let net = request.net();
     let count = net.splitters() as usize;
+    let levels = ranks_of(alloc, net, ranks)?;
     let mut wiring = Wiring {
         before: vec![in alloc; NONE; count]?,
         behind: vec![in alloc; NONE; count]?,
         first: None,
+        loops: Vec::new(alloc),
     };
     for edge in net.edges() {
-        add_edge(&mut wiring, edge);
+        add_edge(&mut wiring, &levels, edge)?;
     }
     Ok(wiring)
 }
