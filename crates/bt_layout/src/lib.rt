@@ -9,6 +9,7 @@ mod lessening;
 mod likely;
 mod order;
 mod outcome;
+mod own;
 mod preferring;
 mod printing;
 mod progress;

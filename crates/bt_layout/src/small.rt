@@ -2,7 +2,7 @@
 ghost use Rattle.std.specs.Prelude.{◌≡◌, ◌↔◌, ℕ, IfOk, IfSome, IsTrue, MatchOption, Option, unwrap_or};
 ghost use Rattle.bt_model.specs.Requests.{IsRequest, LayoutRequest};
 ghost use Rattle.bt_layout.specs.Early.{IsEarly};
-ghost use Rattle.bt_layout.specs.Grids.{area_of};
+ghost use Rattle.bt_layout.specs.Grids.{area_of, IsWithin};
 ghost use Rattle.bt_layout.specs.Small.{HasFewer, IsBeyond, IsSmall, MayBeAsked};
 ghost use Rattle.bt_layout.specs.Smallest.{NamesNoCells, request_on};
 ghost use Rattle.bt_layout.specs.inner.Progressing.{AskEach};
@@ -11,10 +11,15 @@ use crate::early::lay_early;
 use crate::least::request_on;
 use crate::order::grids;
 use crate::outcome::{Early, Small};
-use crate::tested::laid_by_proposal;
+use crate::own::{OwnLayout, narrow_own};
+use crate::tested::{laid_by_proposal, laid_by_sketch};
 use bt_model::{MOST_CELLS, MOST_ENCODED, Request};
-use bt_parts::Rect;
+use bt_parts::{Part, Rect};
+use hint_placement::Sketch;
 use std::alloc::{AllocError, Global};
+
+/// A network of so many splitters is large: the formulas of grids that hold it have from a million clauses on.
+const MANY_SPLITTERS: u32 = 20;
 
 /// Without formulas, layouts are proposed on at most so many grids.
 const MOST_PROPOSED: usize = 20;
@@ -25,10 +30,36 @@ const MOST_PROPOSED: usize = 20;
 /// request. Of grids other than the one that is told nothing is said.
 ///
 /// Where the network, or the number of cells of such grids, is beyond those of which formulas are written, it is what hints
-/// propose that is tested, and there may be no answer.
+/// propose that is tested, and there may be no answer. There, and where a network is large, what is tested first are the
+/// own parts of a design that is laid out, made smaller by windows and seams; of other designs there are none.
 ///
 /// The request names no cells.
 pub fn find_small(
+    alloc: Global,
+    request: &Request,
+    cells: Option<u64>,
+    own: &[Part],
+    learnt: u64,
+) -> Result<Option<Small>, AllocError>
+    requires { NamesNoCells request.now }
+    ensures { IfOk result (λ answer.
+        MatchOption answer (IsBeyond request.now cells) (IsSmall request.now cells learnt)) }
+{
+    if begins_with_own(request, cells) {
+        if let Some(small) = narrowed_small(alloc, request, cells, own, learnt)? {
+            return Ok(Some(small));
+        }
+    }
+    small_anew(alloc, request, cells, learnt)
+}
+
+/// Whether a search begins with the own parts of a design: where its network is large, or the grids are.
+fn begins_with_own(request: &Request, cells: Option<u64>) -> bool {
+    request.net().splitters() >= MANY_SPLITTERS || is_beyond(request, cells)
+}
+
+/// A layout on a small grid that isn't made of a design's own parts.
+fn small_anew(
     alloc: Global,
     request: &Request,
     cells: Option<u64>,
@@ -80,6 +111,70 @@ fn sought_small(
     let requests = small_requests(alloc, request, cells)?;
     let early = lay_early(alloc, &requests, learnt)?;
     Ok(small_of(&requests, early))
+}
+
+/// A layout that hints make of the own parts of a design.
+fn narrowed_small(
+    alloc: Global,
+    request: &Request,
+    cells: Option<u64>,
+    own: &[Part],
+    learnt: u64,
+) -> Result<Option<Small>, AllocError>
+    requires cells { NamesNoCells request.now }
+    ensures { IfOk result (λ answer. IfSome answer (IsSmall request.now cells learnt)) }
+{
+    match narrow_own(alloc, request, own, learnt)? {
+        Some(layout) => small_on(alloc, request, cells, &layout, learnt),
+        None => Ok(None),
+    }
+}
+
+/// Whether a grid has cells, and at most as many each way as the greatest one.
+fn is_within(most: Rect, grid: Rect) -> bool
+    ensures { IsTrue result → IsWithin most grid }
+{
+    1 <= grid.width && grid.width <= most.width && 1 <= grid.height && grid.height <= most.height
+}
+
+/// A layout that was made smaller, where its grid may be asked and it lays the request there.
+fn small_on(
+    alloc: Global,
+    request: &Request,
+    cells: Option<u64>,
+    layout: &OwnLayout,
+    learnt: u64,
+) -> Result<Option<Small>, AllocError>
+    requires cells { NamesNoCells request.now }
+    ensures { IfOk result (λ answer. IfSome answer (IsSmall request.now cells learnt)) }
+{
+    let grid = layout.grid;
+    if is_within(request.rect(), grid) && has_fewer(cells, grid) {
+        sketched_on(alloc, request, cells, grid, &layout.sketch, learnt)
+    } else {
+        Ok(None)
+    }
+}
+
+/// The layout of a sketch on this grid, where it lays the request there.
+fn sketched_on(
+    alloc: Global,
+    request: &Request,
+    cells: Option<u64>,
+    grid: Rect,
+    sketch: &Sketch,
+    learnt: u64,
+) -> Result<Option<Small>, AllocError>
+    requires cells { NamesNoCells request.now }
+    requires request { IsRequest (request_on request.now grid) }
+    requires may { MayBeAsked request.now cells grid }
+    ensures { IfOk result (λ answer. IfSome answer (IsSmall request.now cells learnt)) }
+{
+    let again = request_on(alloc, request, grid)?;
+    match laid_by_sketch(alloc, &again, sketch)? {
+        Some(parts) => Ok(Some(Small::Found { grid, parts })),
+        None => Ok(None),
+    }
 }
 
 /// A layout that hints propose on one of the greatest grids that may be asked.

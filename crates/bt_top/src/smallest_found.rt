@@ -100,21 +100,24 @@ fn found_of(
     ensures { UnlessMemory alloc_error (IsFound bytes.now learnt request.now) result }
 {
     let cells = own_cells(alloc, bytes)?;
-    small_of(alloc, learnt, request, cells)
+    let own = own_parts(alloc, bytes)?;
+    small_of(alloc, learnt, request, cells, &own)
 }
 
-/// The answer to a request on the greatest grid, where the number of cells of a design that is laid out is given.
+/// The answer to a request on the greatest grid, where the number of cells of a design that is laid out is given, and its
+/// own parts.
 fn small_of(
     alloc: Global,
     learnt: u64,
     request: &Request,
     cells: Option<u64>,
+    own: &[Part],
 ) -> Result<Answer, AllocError>
     requires request { IsRequest request.now }
     requires cells { NamesNoCells request.now }
     ensures { UnlessMemory alloc_error (IsSmallFound cells learnt request.now) result }
 {
-    match find_small(alloc, request, cells, learnt) {
+    match find_small(alloc, request, cells, own, learnt) {
         Ok(Some(small)) => small_told(alloc, request, small),
         Ok(None) => Ok(Answer::NotFound),
         Err(_) => Err(AllocError),
@@ -165,6 +168,20 @@ fn own_cells(alloc: Global, bytes: &[u8]) -> Result<Option<u64>, AllocError>
     drop(tree);
     match read {
         Ok(read) => Ok(Some(spanned(&read.parts))),
+        Err(_) => Err(AllocError),
+    }
+}
+
+/// The parts of a design that is laid out, from which a search may begin: nothing is claimed of them.
+fn own_parts(alloc: Global, bytes: &[u8]) -> Result<Vec<Part>, AllocError> {
+    if !is_json(bytes) {
+        return Ok(Vec::new(alloc));
+    }
+    let Ok((tree, _)) = bt_json::read(alloc, bytes) else {
+        return Err(AllocError);
+    };
+    match parts_and_priorities(alloc, &tree) {
+        Ok(read) => Ok(read.parts),
         Err(_) => Err(AllocError),
     }
 }

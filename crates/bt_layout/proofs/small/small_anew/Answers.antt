@@ -4,7 +4,7 @@ use Rattle.std.proofs.lemmas.Bool.{false≢true}
 use Rattle.std.proofs.lemmas.Result.{IfOk-weaker}
 use Rattle.bt_layout.specs.Small.{IsBeyond, IsSmall}
 use Rattle.bt_layout.proofs.Smaller.{said_or}
-use Rattle.bt_layout.proofs.small.find_small.Goals as goal
+use Rattle.bt_layout.proofs.small.small_anew.Goals as goal
 
 pub sought_small-requires-clause-few : goal.sought_small-requires-clause-few
 sought_small-requires-clause-few c = λ beyond. false≢true (sym c.if-is_beyond.false ∙ c.is_beyond.ensures.1 beyond)
