@@ -124,12 +124,45 @@ impl<'a> Sources<'a> {
     /// Adds that from the outputs back a backed edge carries at least the mean of the outputs that it reaches.
     fn add_below(&self, alloc: Global, line: &mut Line) -> Result<(), AllocError> {
         let flow = self.flow;
+        self.add_joints(alloc, line)?;
         for step in 0..flow.order.len() {
             let splitter = flow.splitter_at(step, true);
             if self.below.has(splitter) {
                 self.add_below_outs(alloc, line, splitter)?;
                 self.add_below_ins(alloc, line, splitter)?;
             }
+        }
+        Ok(())
+    }
+
+    /// Adds that a backed edge to a splitter carries at least the mean of both, where both are cut.
+    fn add_joints(&self, alloc: Global, line: &mut Line) -> Result<(), AllocError> {
+        let flow = self.flow;
+        for splitter in 0..flow.graph.splitters() {
+            if flow.is_joint(splitter) {
+                for edge in flow.graph.ins(splitter) {
+                    self.add_joint(alloc, line, splitter, *edge)?;
+                }
+            }
+        }
+        Ok(())
+    }
+
+    /// Adds that of one edge to a splitter: where it is full, and where it is backed.
+    fn add_joint(
+        &self,
+        alloc: Global,
+        line: &mut Line,
+        splitter: usize,
+        edge: usize,
+    ) -> Result<(), AllocError> {
+        if let Some(compared) = self.below.compared(edge) {
+            let place = self.below.at_joint(splitter);
+            let at_least = compared.at_least();
+            if let Some(not_full) = self.literals.not_full(edge) {
+                add_both(alloc, &mut line.aims, not_full, at_least, place)?;
+            }
+            add_both(alloc, &mut line.aims, named(edge, false), at_least, place)?;
         }
         Ok(())
     }

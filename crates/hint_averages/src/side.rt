@@ -23,6 +23,8 @@ pub struct Side {
     at_splitters: Vec<usize>,
     /// For each splitter the place of the scope of its edges.
     at_edges: Vec<usize>,
+    /// For each splitter the place of the scope of what ends with the edges to it, where these are cut.
+    at_joints: Vec<usize>,
 }
 
 impl Side {
@@ -56,6 +58,7 @@ impl Side {
             sums: vec![in alloc; None; splitters]?,
             at_splitters: vec![in alloc; usize::MAX; splitters]?,
             at_edges: vec![in alloc; usize::MAX; splitters]?,
+            at_joints: vec![in alloc; usize::MAX; splitters]?,
         })
     }
 
@@ -130,18 +133,28 @@ impl Side {
     ) -> Result<Vec<Term>, AllocError> {
         let mut terms = Vec::new(alloc);
         for edge in self.near(flow, splitter) {
-            self.add_mean(flow, *edge, &mut terms)?;
+            match self.mean_beyond(alloc, flow, *edge)? {
+                Some(mean) => terms.extend_from_slice(&mean)?,
+                None => terms.push(single(*edge))?,
+            }
         }
         merged(alloc, &mut terms)
     }
 
-    /// Adds the mean of the ends that an edge reaches.
-    fn add_mean(&self, flow: &Flow, edge: usize, terms: &mut Vec<Term>) -> Result<(), AllocError> {
-        match self.beyond(flow, edge) {
-            Some(next) => terms.extend_from_slice(self.mean(next))?,
-            None => terms.push(single(edge))?,
+    /// The mean of the ends that an edge reaches, where it isn't one of them or shares what ends with another one.
+    pub fn mean_beyond(
+        &self,
+        alloc: Global,
+        flow: &Flow,
+        edge: usize,
+    ) -> Result<Option<Vec<Term>>, AllocError> {
+        if let Some(next) = self.beyond(flow, edge) {
+            return Ok(Some(Vec::from_slice(alloc, self.mean(next))?));
         }
-        Ok(())
+        match flow.joint(edge) {
+            Some(joint) if self.is_below => Ok(Some(mean_into(alloc, flow, joint)?)),
+            _ => Ok(None),
+        }
     }
 
     /// The mean of the ends that an edge reaches by a splitter.
@@ -193,6 +206,18 @@ impl Side {
         }
     }
 
+    /// Takes in the scope of what ends with the edges to a splitter.
+    pub fn place_joint(&mut self, splitter: usize, at_joint: usize) {
+        if splitter < self.at_joints.len() {
+            self.at_joints[splitter] = at_joint;
+        }
+    }
+
+    /// The place of the scope of what ends with the edges to a splitter.
+    pub fn at_joint(&self, splitter: usize) -> usize {
+        self.at_joints.get(splitter).copied().unwrap_or(usize::MAX)
+    }
+
     /// The place of the scope of a splitter.
     pub fn at_splitter(&self, splitter: usize) -> usize {
         self.at_splitters
@@ -205,6 +230,17 @@ impl Side {
     pub fn at_edges(&self, splitter: usize) -> usize {
         self.at_edges.get(splitter).copied().unwrap_or(usize::MAX)
     }
+}
+
+/// The mean of the edges to a splitter.
+fn mean_into(alloc: Global, flow: &Flow, splitter: usize) -> Result<Vec<Term>, AllocError> {
+    let ins = flow.graph.ins(splitter);
+    let mut terms = Vec::new(alloc);
+    for edge in ins {
+        terms.push(single(*edge))?;
+    }
+    let sum = merged(alloc, &mut terms)?;
+    shared(alloc, &sum, ins.len())
 }
 
 fn no_means(alloc: Global, count: usize) -> Result<Vec<Vec<Term>>, AllocError> {

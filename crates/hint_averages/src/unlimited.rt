@@ -126,9 +126,9 @@ fn define_edge(
     splitter: usize,
     edge: usize,
 ) -> Result<(), AllocError> {
-    if let Some(beyond) = side.beyond(flow, edge) {
+    if let Some(mean) = side.mean_beyond(alloc, flow, edge)? {
         let both = side.is_chosen(splitter);
-        let compared = compare(alloc, line, next, &[single(edge)], side.mean(beyond), both)?;
+        let compared = compare(alloc, line, next, &[single(edge)], &mean, both)?;
         side.compare(edge, compared);
     }
     Ok(())
@@ -220,6 +220,27 @@ fn place(
             side.place(splitter, at_splitter, at_edges);
         }
     }
+    if side.is_below {
+        place_joints(alloc, line, flow, side, rows)?;
+    }
+    Ok(())
+}
+
+/// Adds the scopes of splitters to which both edges are cut.
+fn place_joints(
+    alloc: Global,
+    line: &mut Line,
+    flow: &Flow,
+    below: &mut Side,
+    rows: &Rows,
+) -> Result<(), AllocError> {
+    for splitter in 0..flow.graph.splitters() {
+        if flow.is_joint(splitter) {
+            let at_joint = rows.at_joint(alloc, line, flow, below, splitter)?;
+            let place = add_scope(line, at_joint)?;
+            below.place_joint(splitter, place);
+        }
+    }
     Ok(())
 }
 
@@ -268,9 +289,28 @@ impl Rows {
         for edge in side.near(flow, splitter) {
             rows.extend_from_slice(list_at(&self.alone, *edge))?;
             add_rows(&mut rows, side.compared(*edge))?;
-            if let Some(beyond) = side.beyond(flow, *edge) {
-                self.add_upper(&mut rows, side.mean(beyond))?;
+            if let Some(mean) = side.mean_beyond(alloc, flow, *edge)? {
+                self.add_upper(&mut rows, &mean)?;
             }
+        }
+        in_order(&mut rows)?;
+        Ok(rows)
+    }
+
+    /// The rows of a splitter, those of each edge to it, and the comparisons of these edges.
+    fn at_joint(
+        &self,
+        alloc: Global,
+        line: &Line,
+        flow: &Flow,
+        below: &Side,
+        splitter: usize,
+    ) -> Result<Vec<usize>, AllocError> {
+        let place = self.places.get(splitter).copied().unwrap_or(0);
+        let mut rows = Vec::from_slice(alloc, list_at(&line.scopes, place))?;
+        for edge in flow.graph.ins(splitter) {
+            rows.extend_from_slice(list_at(&self.alone, *edge))?;
+            add_rows(&mut rows, below.compared(*edge))?;
         }
         in_order(&mut rows)?;
         Ok(rows)

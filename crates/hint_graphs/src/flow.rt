@@ -2,7 +2,7 @@
 use crate::cutting::cuts_of;
 use crate::graph::Graph;
 use crate::lists::is_set;
-use crate::weighing::weigh;
+use crate::weighing::{is_joint, weigh};
 use bt_net::Net;
 use std::alloc::{AllocError, Global};
 
@@ -40,6 +40,21 @@ impl<'a> Flow<'a> {
     /// Whether a flow ends with an edge: at an output, or where it is cut.
     pub fn ends(&self, edge: usize) -> bool {
         is_set(&self.cut, edge) || self.graph.target(edge).is_none()
+    }
+
+    /// The splitter to which an edge leads, where both edges to it are cut.
+    pub fn joint(&self, edge: usize) -> Option<usize> {
+        let splitter = self.graph.target(edge)?;
+        if self.is_joint(splitter) {
+            Some(splitter)
+        } else {
+            None
+        }
+    }
+
+    /// Whether both edges to a splitter are cut.
+    pub fn is_joint(&self, splitter: usize) -> bool {
+        is_joint(&self.graph, &self.cut, splitter)
     }
 
     /// The splitter after so many in the order, or from its end back.

@@ -98,9 +98,17 @@ pub fn weigh(alloc: Global, graph: &Graph, cut: &[bool]) -> Result<Weighed, Allo
         sources: Weight::NONE,
     };
     weighed.begin(graph, cut);
+    weighed.join(graph, cut);
     weighed.go_up(graph, cut);
     weighed.go_down(graph, cut);
     Ok(weighed)
+}
+
+/// Whether a splitter has two in edges, which are cut: it is the last one of what ends with these edges, and the first one of
+/// what begins with them.
+pub fn is_joint(graph: &Graph, cut: &[bool], splitter: usize) -> bool {
+    let ins = graph.ins(splitter);
+    ins.len() == 2 && ins.iter().all(|edge| is_set(cut, *edge))
 }
 
 /// The sum of the weights of edges, where all have one.
@@ -145,6 +153,26 @@ impl Weighed {
             if is_set(cut, edge) || graph.start(edge).is_none() {
                 put(&mut self.above, edge, weight);
                 self.sources = self.sources.plus(weight);
+            }
+        }
+    }
+
+    /// Shares what ends with the in edges of joints between these: it doesn't matter which of them brings it.
+    fn join(&mut self, graph: &Graph, cut: &[bool]) {
+        for splitter in 0..graph.splitters() {
+            if is_joint(graph, cut, splitter) {
+                self.join_at(graph.ins(splitter));
+            }
+        }
+    }
+
+    /// Shares what ends with edges between these.
+    fn join_at(&mut self, edges: &[usize]) {
+        if let Some(all) = sum(&self.below, edges) {
+            if let Some(weight) = all.shared(edges.len()) {
+                for edge in edges {
+                    put(&mut self.below, *edge, weight);
+                }
             }
         }
     }
