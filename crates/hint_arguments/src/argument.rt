@@ -1,5 +1,6 @@
 //! What a search is given with a formula: definitions, scopes and goals.
 use crate::balancing::aims_of;
+use crate::equalling::{add_equal, is_equalled};
 use crate::lacking::add_lacking;
 use bt_cnf::Formula;
 use bt_extend::{Definition, Goal};
@@ -49,11 +50,26 @@ fn extend(
         return Ok(());
     }
     match property {
-        Property::Balanced => add_looping(alloc, net, formula, line, false),
-        Property::DrawnEvenly => add_looping(alloc, net, formula, line, true),
+        Property::Balanced => add_divided(alloc, net, formula, line, false),
+        Property::DrawnEvenly => add_divided(alloc, net, formula, line, true),
         Property::Unlimited => add_unlimited(alloc, net, formula, line),
         Property::Full => add_lacking(alloc, net, formula, line),
         Property::Fair | Property::DrawnFairly => Ok(()),
+    }
+}
+
+/// Adds to a line what follows of how splitters divide, from the outputs back or from the inputs on.
+fn add_divided(
+    alloc: Global,
+    net: &Net,
+    formula: &Formula,
+    line: &mut Line,
+    backward: bool,
+) -> Result<(), AllocError> {
+    if is_equalled(alloc, net)? {
+        add_equal(alloc, net, formula, line, backward)
+    } else {
+        add_looping(alloc, net, formula, line, backward)
     }
 }
 

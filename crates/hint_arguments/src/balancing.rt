@@ -1,6 +1,7 @@
 //! Aims for `balanced` and `drawn-evenly` of networks without loops: from the outputs back a backed edge is full, so the
 //! edges out of each splitter carry the same, and so do all outputs. From the inputs on it is the other way round: an edge
 //! that is free is full, so the edges into each splitter carry the same.
+use crate::equalling::is_equalled;
 use bt_cnf::{Formula, Lit};
 use bt_flow::{Property, Role};
 use bt_net::Net;
@@ -55,11 +56,14 @@ fn even_aims(
     }
     let mut sources = sources_of(alloc, net, formula, from_inputs)?;
     sources.add_all(alloc, &order)?;
+    if !is_equalled(alloc, net)? {
+        sources.add_last(alloc)?;
+    }
     Ok(sources.aims)
 }
 
 /// Whether no splitter prefers an edge, and all caps are equal: else what is full need not be even.
-fn is_plain(net: &Net) -> bool {
+pub fn is_plain(net: &Net) -> bool {
     if !has_no_preference(net) {
         return false;
     }
@@ -102,6 +106,11 @@ impl<'a> Sources<'a> {
         for splitter in order {
             self.add_even(alloc, *splitter)?;
         }
+        Ok(())
+    }
+
+    /// Adds that nothing breaks the property, by all rows that compare flows.
+    fn add_last(&mut self, alloc: Global) -> Result<(), AllocError> {
         let comparisons = self.scopes.len();
         add_opposites(alloc, self.formula, &mut self.aims, comparisons)
     }

@@ -4,6 +4,7 @@
 
 mod argument;
 mod balancing;
+mod equalling;
 mod lacking;
 
 pub use argument::{Argument, argument_of, argument_of_both};
