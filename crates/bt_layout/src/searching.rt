@@ -49,9 +49,10 @@ pub struct Searched {
 /// Of a request without a formula it is what hints propose that is tested, and where that lays nothing, there is no answer.
 ///
 /// Of one that has a formula, at first the formula is searched by few steps, where it is small. Then a network with stages is
-/// laid stage by stage; then a sketch of a layout is made, which may show one; then a layout is searched where one is likely, by at most 65,536 steps; where none is
-/// found, the log of that search is dropped, and the formula is searched from the start. It has no atoms, so a model of its
-/// clauses meets it. Of a log that refutes it the steps that the last one doesn't need are left out.
+/// laid stage by stage; then a sketch of a layout is made, which may show one; then a layout is searched where one is
+/// likely, by at most 65,536 steps; where none is found, the log of that search is dropped, and the formula is searched from
+/// the start. It has no atoms, so a model of its clauses meets it. Of a log that refutes it the steps that the last one
+/// doesn't need are left out. What splitters prefer isn't asked here: `priorities_of` gives it to what was laid.
 pub fn layout<C: Chooser>(
     alloc: Global,
     request: &Request,

@@ -8,13 +8,13 @@ ghost use Rattle.bt_top.specs.Formulas.{columns_of, flow_formula_told, place_for
 
 use crate::answer::{Answer, refused};
 use bt_designs::{DesignFault, Refusal, read_alone, read_lone_request};
-use bt_print::Columns;
 use bt_fenc::encode;
 use bt_flow::Property;
 use bt_model::Request;
 use bt_net::Net;
 use bt_parts::{Rect, Tier};
 use bt_place::{Numbers, encode_place, has_formula};
+use bt_print::Columns;
 use std::alloc::{AllocError, Global};
 
 /// The answer of `formula` to the bytes of its input, about a property.

@@ -2,8 +2,8 @@
 use super::fields;
 use bt_frac::Frac;
 use bt_io::MemSink;
-use bt_simplex::{Operation, Trail, Turn, Wide, WidePlace};
 use bt_print::{print_pivots, print_wide};
+use bt_simplex::{Operation, Trail, Turn, Wide, WidePlace};
 use std::alloc::{AllocError, Global};
 use std::test::Fail;
 
