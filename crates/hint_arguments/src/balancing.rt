@@ -1,11 +1,11 @@
 //! Aims for `balanced` and `drawn-evenly` of networks without loops: from the outputs back a backed edge is full, so the
 //! edges out of each splitter carry the same, and so do all outputs. From the inputs on it is the other way round: an edge
 //! that is free is full, so the edges into each splitter carry the same.
-use crate::equalling::is_equalled;
+use crate::equalling::{is_equalled, is_plain};
 use bt_cnf::{Formula, Lit};
 use bt_flow::{Property, Role};
 use bt_net::Net;
-use hint_graphs::{edges_at, has_no_preference, list_at, loopless, places_of};
+use hint_graphs::{edges_at, list_at, loopless, places_of};
 use hint_scopes::{Aim, Atoms, add_aim, add_both, add_opposites, mark_of, named_as};
 use std::alloc::{AllocError, Global};
 
@@ -60,17 +60,6 @@ fn even_aims(
         sources.add_last(alloc)?;
     }
     Ok(sources.aims)
-}
-
-/// Whether no splitter prefers an edge, and all caps are equal: else what is full need not be even.
-pub fn is_plain(net: &Net) -> bool {
-    if !has_no_preference(net) {
-        return false;
-    }
-    match net.edges().first() {
-        Some(first) => net.edges().iter().all(|edge| edge.cap == first.cap),
-        None => false,
-    }
 }
 
 fn sources_of<'a>(

@@ -2,10 +2,9 @@
 //! splitter divides evenly. Edges are of one kind whose flows are the same sum of what begins. Each is compared with the first
 //! of its kind, by the rows of both splitters and by the comparisons of what comes to these. So no step speaks of more than a
 //! few edges, where the rows of all splitters together would have to be solved else.
-use crate::balancing::is_plain;
 use bt_cnf::{Formula, Lit};
 use bt_net::Net;
-use hint_graphs::{Graph, list_at, loopless, places_of};
+use hint_graphs::{Graph, has_no_preference, list_at, loopless, places_of};
 use hint_scopes::{
     Comparison, Line, Next, add_aim, add_opposites, add_scope, apart, in_order, opposite_of,
 };
@@ -53,6 +52,17 @@ struct Equalling<'a> {
     alike: Vec<Option<Alike>>,
     /// For each splitter the place of its scope.
     places: Vec<usize>,
+}
+
+/// Whether no splitter prefers an edge, and all caps are equal: else what is full need not be even.
+pub fn is_plain(net: &Net) -> bool {
+    if !has_no_preference(net) {
+        return false;
+    }
+    match net.edges().first() {
+        Some(first) => net.edges().iter().all(|edge| edge.cap == first.cap),
+        None => false,
+    }
 }
 
 /// Whether the argument is one for a network: it has many splitters, and no loops, and no splitter prefers an edge.
