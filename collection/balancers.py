@@ -208,12 +208,14 @@ def markdown(book, shown):
 
 def keep(folder, book, shown, kept):
     """Puts the book's string, its table, and its networks and certificates into a folder, these up to so many bytes in
-    all, the shortest first; gives how many are left out."""
+    all, the shortest first, in place of those that stood there of the same balancers; gives how many are left out."""
     kept.mkdir(parents=True, exist_ok=True)
     files.write(kept / BOOK, (folder / BOOK).read_bytes())
     files.write(kept / PAGE, markdown(book, shown))
     certificates, size, left = [], 0, 0
     for name, row in shown.items():
+        for earlier in kept.glob(f"{files.slug(name)}.yes-*"):
+            earlier.unlink()
         files.write(kept / f"{files.slug(name)}.net", row.net_text)
         told = ((prop, row.answer(prop)) for prop in PROPERTIES)
         certificates += [
