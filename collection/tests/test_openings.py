@@ -70,7 +70,7 @@ class Labels(Case):
 class Examples(Case):
     def test_trimmed_to_their_splitters(self):
         found = list(trimming.designs())
-        self.assertEqual(len(found), 41)
+        self.assertEqual(len(found), 46)
         for name, text in found:
             with self.subTest(name=name):
                 label = name.split("/")[-1]

@@ -43,7 +43,7 @@ class Trimmed(Case):
                 halves = {((prop, "halves", ends), (prop, verdict, ends)) for prop, verdict, ends in whole[label]}
                 self.assertLessEqual(open_, halves if name in SEVERAL else set())
                 self.assertEqual(len(whole[label]), len(states.PROPERTIES))
-        self.assertEqual(len(found), 41)
+        self.assertEqual(len(found), 46)
 
     def test_what_holds_of_all_choices_is_told_and_the_rest_is_open(self):
         case = next(it for it in test_ends.CASES if it["expected"]["status"] == "several")
