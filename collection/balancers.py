@@ -15,7 +15,7 @@ from pathlib import Path
 from . import files, inputs, report, running, strings
 from .answers import Limits
 from .built import FIRST_STEPS, KINDS, MOST_STEPS, TIMES_STEPS, Balancer, Laid, Maker, Unbuilt, is_least, labelled, same
-from .command import ENDED_WELL, FAILED, STOPPED, at_least
+from .command import ENDED_WELL, FAILED, STOPPED, at_least, listed
 from .program import NoProgram, find
 from .rows import Row
 from .words import PROPERTIES, WORDS
@@ -95,14 +95,6 @@ def wanted(asked):
     return [(kind, n, m) for kind in KINDS if kind in asked.kinds for n in lines for m in lines]
 
 
-def kinds(words):
-    found = [it.strip() for it in words.split(",")]
-    wrong = [it for it in found if it not in KINDS]
-    if wrong:
-        raise argparse.ArgumentTypeError(f"{wrong[0]!r} is none of {', '.join(KINDS)}")
-    return found
-
-
 def words_of(arguments):
     """What the words ask for."""
     parser = argparse.ArgumentParser(
@@ -114,7 +106,7 @@ def words_of(arguments):
     parser.add_argument("-o", "--output", metavar="FOLDER", required=True, help="where the book and its report go")
     parser.add_argument("--most", type=at_least(1), default=MOST_LINES, help="of how many inputs and outputs at most")
     told = f"which kinds, with commas between: {', '.join(KINDS)}; by default all"
-    parser.add_argument("--kinds", type=kinds, default=list(KINDS), help=told)
+    parser.add_argument("--kinds", type=listed(KINDS), default=list(KINDS), help=told)
     told = "how many seconds of a processor are spent on the layouts of each balancer, those of before counted"
     parser.add_argument("--seconds", type=at_least(0, float), default=60, help=told)
     parser.add_argument("--keep", metavar="FOLDER", help="puts the book, its table and its certificates there too")

@@ -53,13 +53,20 @@ def opening(parser):
     parser.add_argument("--bare-ends", choices=openings.MODES, default="label", help=told)
 
 
-def properties(words):
-    """The properties that are named, with commas between."""
-    found = [it.strip() for it in words.split(",")]
-    wrong = [it for it in found if it not in PROPERTIES]
-    if wrong:
-        raise argparse.ArgumentTypeError(f"{wrong[0]!r} is none of {', '.join(PROPERTIES)}")
-    return found
+def listed(known):
+    """Reads names out of these, with commas between."""
+
+    def read(words):
+        found = [it.strip() for it in words.split(",")]
+        wrong = [it for it in found if it not in known]
+        if wrong:
+            raise argparse.ArgumentTypeError(f"{wrong[0]!r} is none of {', '.join(known)}")
+        return found
+
+    return read
+
+
+properties = listed(PROPERTIES)
 
 
 def expecting(parser):
