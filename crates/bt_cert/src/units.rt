@@ -9,7 +9,7 @@ ghost use Rattle.bt_cert.specs.inner.Refuting.{IsSound, IsPropagated, IsRefuted,
 
 use crate::assumptions::Assumptions;
 use crate::clause_database::ClauseDatabase;
-use bt_cnf::Lit;
+use bt_cnf::{Lbool, Lit};
 use bt_extend::place_of;
 use std::alloc::AllocError;
 
