@@ -2,7 +2,7 @@
 ghost use Rattle.std.specs.Prelude.{◌≡◌, ◌<◌, length, IsTrue, ◌↔◌, IfOk, OnOk, OnErr};
 ghost use Rattle.bt_cert.specs.inner.Assuming.{AreUnset, IsFalseIn, IsTrueIn, Stands, with_value};
 
-use bt_cnf::{Lit, Var};
+use bt_cnf::{Lbool, Lit, Var};
 use std::alloc::{AllocError, Global};
 use std::marker::Model;
 
@@ -29,17 +29,6 @@ impl Model for Assumptions {
     ghost invariant = { λ a. AreTrailed a.values.items a.trail.items };
 }
 
-/// How a literal stands to what is assumed.
-#[derive(Clone, Copy)]
-pub enum Standing {
-    /// It is true.
-    True,
-    /// It is false.
-    False,
-    /// Nothing is assumed of its variable.
-    Unset,
-}
-
 impl Assumptions {
     /// No assumptions over so many variables.
     pub fn new(alloc: Global, vars: usize) -> Result<Assumptions, AllocError>
@@ -64,15 +53,15 @@ impl Assumptions {
         Ok(())
     }
 
-    /// How a literal stands.
-    pub fn standing(&self, lit: Lit) -> Standing
+    /// The value of a literal: `Unset` where nothing is assumed of its variable.
+    pub fn truth_of(&self, lit: Lit) -> Lbool
         requires { lit.var < length self.now }
         ensures { Stands self.now lit result }
     {
         match self.values[lit.var.place()] {
-            None => Standing::Unset,
-            Some(value) if value == lit.positive => Standing::True,
-            Some(_) => Standing::False,
+            None => Lbool::Unset,
+            Some(value) if value == lit.positive => Lbool::True,
+            Some(_) => Lbool::False,
         }
     }
 
@@ -81,9 +70,9 @@ impl Assumptions {
         requires { lit.var < length self.now }
         ensures { IsTrue result ↔ IsFalseIn self.now lit }
     {
-        match self.standing(lit) {
-            Standing::False => true,
-            Standing::True | Standing::Unset => false,
+        match self.truth_of(lit) {
+            Lbool::False => true,
+            Lbool::True | Lbool::Unset => false,
         }
     }
 
@@ -92,9 +81,9 @@ impl Assumptions {
         requires { lit.var < length self.now }
         ensures { IsTrue result ↔ IsTrueIn self.now lit }
     {
-        match self.standing(lit) {
-            Standing::True => true,
-            Standing::False | Standing::Unset => false,
+        match self.truth_of(lit) {
+            Lbool::True => true,
+            Lbool::False | Lbool::Unset => false,
         }
     }
 

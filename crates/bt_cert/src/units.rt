@@ -7,9 +7,9 @@ ghost use Rattle.bt_cert.specs.Judging.{AreHints};
 ghost use Rattle.bt_cert.specs.inner.Assuming.{IsFalseIn, IsUnitIn, HasNoUnit};
 ghost use Rattle.bt_cert.specs.inner.Refuting.{IsSound, IsPropagated, IsRefuted, hinted, places_of};
 
-use crate::assumptions::{Assumptions, Standing};
+use crate::assumptions::Assumptions;
 use crate::clause_database::ClauseDatabase;
-use bt_cnf::Lit;
+use bt_cnf::{Lbool, Lit};
 use bt_extend::place_of;
 use std::alloc::AllocError;
 
@@ -82,10 +82,10 @@ fn unit_of(clause: &[Lit], assumed: &Assumptions) -> Option<Lit>
 {
     let mut unit = None;
     for lit in clause {
-        match assumed.standing(*lit) {
-            Standing::False => {}
-            Standing::True => return None,
-            Standing::Unset => {
+        match assumed.truth_of(*lit) {
+            Lbool::False => {}
+            Lbool::True => return None,
+            Lbool::Unset => {
                 if let Some(other) = unit {
                     if other != *lit {
                         return None;

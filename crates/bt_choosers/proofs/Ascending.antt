@@ -27,7 +27,7 @@ pub first_is : (clause : List Lit) (unset : List ℕ) (place : ℕ) → Ascends 
     → PicksRecent clause unset (record { place = place; positive = false })
 first_is [] unset place ascends some is = record {
   lowest = λ k d below. up_to unset place k 0 d ascends (omega (arith, is)) below;
-  sign = refl;
+  phase = refl;
 }
 first_is (l ∷ clause) unset place ascends some is =
     elim is [

@@ -4,11 +4,11 @@ use Rattle.std.specs.Prelude.{ℕ, ◌+◌, ◌/◌, ◌==◌, Bool, false, List
 use Rattle.bt_cnf.specs.declared.literal.Lit.{Lit}
 use Rattle.bt_choosers.specs.declared.active.TheConstants.{FIRST_BUMP, MOST_BUMP, MOST_SCORE}
 
--- the score of each variable, the sign that it is set with, and what the next clause adds to the scores of its
+-- the score of each variable, the phase that it is set with, and what the next clause adds to the scores of its
 -- variables
 pub record Activity : Type 0 where
   pub score : ℕ → ℕ
-  pub sign : ℕ → Bool
+  pub phase : ℕ → Bool
   pub bump : ℕ
 
 -- a score that the bump is added to
@@ -19,9 +19,9 @@ raised bump score = min (score + bump) MOST_SCORE
 abbrev pub raised_score : Activity → List Lit → ℕ → ℕ
 raised_score a clause v = fold (λ score l. if l.var == v then raised a.bump score else score) (a.score v) clause
 
--- the sign that makes the clause's last literal of the variable true, or the one before where it has none
-abbrev pub taken_sign : Activity → List Lit → ℕ → Bool
-taken_sign a clause v = fold (λ sign l. if l.var == v then l.positive else sign) (a.sign v) clause
+-- the phase that makes the clause's last literal of the variable true, or the one before where it has none
+abbrev pub taken_phase : Activity → List Lit → ℕ → Bool
+taken_phase a clause v = fold (λ phase l. if l.var == v then l.positive else phase) (a.phase v) clause
 
 -- a bump that has grown by a twentieth
 abbrev pub grown_bump : ℕ → ℕ
@@ -35,11 +35,11 @@ scaled bump n = if nat_lt MOST_BUMP bump then n / 2 else n
 abbrev pub after_clause : Activity → List Lit → Activity
 after_clause a clause = record {
   score = λ v. scaled (grown_bump a.bump) (raised_score a clause v);
-  sign = taken_sign a clause;
+  phase = taken_phase a clause;
   bump = scaled (grown_bump a.bump) (grown_bump a.bump);
 }
 
 -- what is so once these clauses were told, the last of which comes first
 abbrev pub activity_of : List (List Lit) → Activity
-activity_of [] = record { score = λ v. 0; sign = λ v. false; bump = FIRST_BUMP }
+activity_of [] = record { score = λ v. 0; phase = λ v. false; bump = FIRST_BUMP }
 activity_of (clause ∷ earlier) = after_clause (activity_of earlier) clause

@@ -2,5 +2,5 @@ pub mod Activities
 pub mod Orders
 pub mod Picks
 pub mod Remembering
-pub mod Standings
+pub mod Tallies
 pub mod inner

@@ -12,12 +12,12 @@ picked unset pick = slice_index_or unset pick.place 0
 -- the lowest variable is set to false
 pub record PicksLowest (unset : List ℕ) (pick : Pick) : Type 0 where
   pub lowest : All (λ v. picked unset pick ≤ v) unset
-  pub sign : pick.positive ≡ false
+  pub phase : pick.positive ≡ false
 
 -- the highest variable is set to true
 pub record PicksHighest (unset : List ℕ) (pick : Pick) : Type 0 where
   pub highest : All (λ v. v ≤ picked unset pick) unset
-  pub sign : pick.positive ≡ true
+  pub phase : pick.positive ≡ true
 
 -- the first of the clause's variables that is unset is set to false, or the lowest one where all of them are set
 abbrev pub PicksRecent : List Lit → List ℕ → Pick → Type 0
@@ -25,10 +25,10 @@ PicksRecent [] unset pick = PicksLowest unset pick
 PicksRecent (l ∷ clause) unset pick =
     (Contains unset l.var × (picked unset pick ≡ l.var) × (pick.positive ≡ false)) ⊎ ((Contains unset l.var → ⊥) × PicksRecent clause unset pick)
 
--- the variable of the greatest score, the first among equals, is set by its sign
+-- the variable of the greatest score, the first among equals, is set by its phase
 pub record PicksActive (a : Activity) (unset : List ℕ) (pick : Pick) : Type 0 where
   pub greatest : IsFirstBest (λ v w. nat_lt (a.score w) (a.score v)) unset (length unset) pick.place
-  pub sign : pick.positive ≡ a.sign (picked unset pick)
+  pub phase : pick.positive ≡ a.phase (picked unset pick)
 
 -- the first of the choosers picks, as it may; where there is none, the lowest variable is set to false
 abbrev pub AsksFirst : {C : Type 0} → (C → List ℕ → Pick → Type 0) → List C → List ℕ → Pick → Type 0

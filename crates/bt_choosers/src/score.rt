@@ -1,4 +1,5 @@
-//! Scores that double again and again and are never scaled down.
+//! Scores that double again and again. They have an exponent of their own, since there are no floating-point numbers; so
+//! none is ever scaled down.
 
 /// The first 32 digits of a whole number in base 2, and how many more it has. A greater number has more of them, or the
 /// greater digits.

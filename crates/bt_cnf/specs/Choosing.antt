@@ -16,12 +16,12 @@ Gains None (Some new) more = ⊥
 Gains (Some old) None more = ⊥
 Gains (Some old) (Some new) more = new ≡ old ++ more
 
--- the first of the variables that is unset is picked, and set by its sign
+-- the first of the variables that is unset is picked, and set by its phase
 abbrev pub PicksFirst : (ℕ → Bool) → List ℕ → List ℕ → Pick → Type 0
-PicksFirst sign [] unset pick = ⊥
-PicksFirst sign (v ∷ vars) unset pick =
-    ((slice_get unset pick.place ≡ Some v) × (pick.positive ≡ sign v)) ⊎ ((Contains unset v → ⊥) × PicksFirst sign vars unset pick)
+PicksFirst phase [] unset pick = ⊥
+PicksFirst phase (v ∷ vars) unset pick =
+    ((slice_get unset pick.place ≡ Some v) × (pick.positive ≡ phase v)) ⊎ ((Contains unset v → ⊥) × PicksFirst phase vars unset pick)
 
--- whichever of the variables are unset, the first one of these may be picked, and set by its sign
+-- whichever of the variables are unset, the first one of these may be picked, and set by its phase
 abbrev pub AreInPickOrder : (List ℕ → Pick → Type 0) → (ℕ → Bool) → List ℕ → Type 0
-AreInPickOrder may_pick sign vars = (unset : List ℕ) (pick : Pick) → Ascends unset → All (Contains vars) unset → PicksFirst sign vars unset pick → may_pick unset pick
+AreInPickOrder may_pick phase vars = (unset : List ℕ) (pick : Pick) → Ascends unset → All (Contains vars) unset → PicksFirst phase vars unset pick → may_pick unset pick

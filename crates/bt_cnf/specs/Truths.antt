@@ -1,4 +1,4 @@
--- What literals are worth while some variables are set.
+-- The values of literals while some variables are set.
 use Rattle.std.specs.Prelude.{◌≡◌, ℕ, ◌+◌, ◌<◌, Bool, not, List, [], ◌∷◌, Option, None, Some, length, slice_index_or}
 use Rattle.bt_cnf.specs.declared.literal.Lit.{Lit}
 

@@ -2,4 +2,4 @@
 pub mod RowPlaces
 pub mod Codes
 pub mod Unset
-pub mod Worths
+pub mod Lbools

@@ -27,7 +27,7 @@ pub trait Chooser: Drop {
     ghost may_pick: { Self → List ℕ → Pick → Type 0 } = { λ _ _ _. Unit {0} };
 
     /// How it sets each variable, where it has an order of variables.
-    ghost sign_of: { Self → ℕ → Bool } = { λ _ _. false };
+    ghost phase_of: { Self → ℕ → Bool } = { λ _ _. false };
 
     /// Chooses among the unset variables, of which there is at least one, and which ascend.
     fn pick(&mut self, unset: &[Var]) -> Pick
@@ -47,14 +47,14 @@ pub trait Chooser: Drop {
     /// a clause, it may pick the first of them that is unset, whichever are. By default it has none.
     fn arrange(&self, _vars: &mut [Var]) -> bool
         ensures same { IsPermutation _vars.old _vars.new }
-        ensures picks { IsTrue result → AreInPickOrder (may_pick self.now) (sign_of self.now) _vars.new }
+        ensures picks { IsTrue result → AreInPickOrder (may_pick self.now) (phase_of self.now) _vars.new }
     {
         false
     }
 
     /// How it sets a variable of such an order, where it has one.
-    fn sign(&self, _var: Var) -> Option<bool>
-        ensures { IfSome result (λ sign. sign ≡ sign_of self.now _var) }
+    fn phase(&self, _var: Var) -> Option<bool>
+        ensures { IfSome result (λ phase. phase ≡ phase_of self.now _var) }
     {
         None
     }
@@ -66,7 +66,7 @@ impl Chooser for Box<dyn Chooser> {
 
     ghost may_pick = { λ b. (Chooser-box b).may_pick b.value };
 
-    ghost sign_of = { λ b. (Chooser-box b).sign_of b.value };
+    ghost phase_of = { λ b. (Chooser-box b).phase_of b.value };
 
     fn pick(&mut self, unset: &[Var]) -> Pick {
         (**self).pick(unset)
@@ -80,7 +80,7 @@ impl Chooser for Box<dyn Chooser> {
         (**self).arrange(vars)
     }
 
-    fn sign(&self, var: Var) -> Option<bool> {
-        (**self).sign(var)
+    fn phase(&self, var: Var) -> Option<bool> {
+        (**self).phase(var)
     }
 }

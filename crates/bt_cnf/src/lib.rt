@@ -18,5 +18,5 @@ pub use limits::Limits;
 pub use literal::{Clause, ClauseId, Lit, Var, Variable};
 pub use packed::{Packed, pack_all};
 pub use std::alloc::AllocError as Memory;
-pub use truth::{Values, Worth, is_lit_false, is_lit_true};
+pub use truth::{Lbool, Truth, Values, is_lit_false, is_lit_true};
 pub use unset::{lacks_value, list_unset};

@@ -1,64 +1,67 @@
-//! What literals are worth while some variables are set.
+//! The values of literals while some variables are set.
 ghost use Rattle.std.specs.Prelude.{◌≡◌, ◌<◌, ◌↔◌, length, IsTrue, Some, None};
 ghost use Rattle.std.specs.Option.{is_none};
 ghost use Rattle.bt_cnf.specs.Truths.{IsTrueIn, IsFalseIn};
-ghost use Rattle.bt_cnf.specs.inner.Worths.{setting_of};
+ghost use Rattle.bt_cnf.specs.inner.Lbools.{lbool_of};
 
 use crate::literal::{Lit, Variable};
 use bt_arena::Arena;
 use std::marker::Model;
 
-/// Whether a variable is set, and to what. True is 0 and false is 1: so the last bit of a packed literal's
-/// number is the setting that makes the literal true.
+/// A truth value, or none: what solvers call `lbool`. True is 0 and false is 1: so the last bit of a packed literal's
+/// number is the value that makes the literal true.
 #[derive(Clone, Copy, PartialEq, Eq)]
-enum Setting {
+pub enum Lbool {
+    /// It is true.
     True,
+    /// It is false.
     False,
+    /// It has no value.
     Unset,
 }
 
-/// Whether a variable is set, and to what, in one byte: one comparison tells whether a literal is true.
+/// The value of a variable, where it has one, in one byte: one comparison tells whether a literal is true.
 #[derive(Clone, Copy)]
-pub struct Worth {
-    setting: Setting,
+pub struct Truth {
+    lbool: Lbool,
 }
 
-impl Model for Worth {
+impl Model for Truth {
     ghost use Rattle.std.specs.Prelude.{Bool, Option};
-    ghost use Rattle.bt_cnf.specs.inner.Worths.{setting_back, setting_of, value_in};
+    ghost use Rattle.bt_cnf.specs.inner.Lbools.{lbool_back, lbool_of, value_in};
 
     ghost Value = { Option Bool };
 
-    ghost view = { λ w. value_in w.setting };
+    ghost view = { λ w. value_in w.lbool };
 
-    ghost inverse = { λ value. record { setting = setting_of value } };
+    ghost inverse = { λ value. record { lbool = lbool_of value } };
 
-    ghost inverse_ok = { λ w h i. record { setting = setting_back w.setting i } };
+    ghost inverse_ok = { λ w h i. record { lbool = lbool_back w.lbool i } };
 }
 
-/// The setting of a variable that has a value.
-fn set_to(value: bool) -> Setting
-    ensures { result ≡ setting_of (Some value) }
+/// The value of a variable that is set.
+fn set_to(value: bool) -> Lbool
+    ensures { result ≡ lbool_of (Some value) }
 {
-    if value { Setting::True } else { Setting::False }
+    if value { Lbool::True } else { Lbool::False }
 }
 
-impl Worth {
+impl Truth {
     /// That of a variable without a value.
-    pub fn unset() -> Worth
+    pub fn unset() -> Truth
         ensures { result ≡ None }
     {
-        Worth {
-            setting: Setting::Unset,
+        Truth {
+            lbool: Lbool::Unset,
         }
     }
 
     /// That of a variable with a value.
-    pub fn set(value: bool) -> Worth
+    pub fn set(value: bool) -> Truth
         ensures { result ≡ Some value }
     {
-        Worth {
-            setting: set_to(value),
+        Truth {
+            lbool: set_to(value),
         }
     }
 
@@ -66,19 +69,19 @@ impl Worth {
     pub fn is_unset(&self) -> bool
         ensures { result ≡ is_none self.now }
     {
-        self.setting == Setting::Unset
+        self.lbool == Lbool::Unset
     }
 
     /// Whether there is this value.
     pub fn is(&self, value: bool) -> bool
         ensures { IsTrue result ↔ (self.now ≡ Some value) }
     {
-        self.setting == set_to(value)
+        self.lbool == set_to(value)
     }
 }
 
-/// For each variable, what it is worth.
-pub type Values = Arena<Worth, Variable>;
+/// For each variable, its value.
+pub type Values = Arena<Truth, Variable>;
 
 /// Whether a literal is true.
 pub fn is_lit_true(values: &Values, lit: &Lit) -> bool

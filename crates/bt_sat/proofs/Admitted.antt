@@ -81,9 +81,9 @@ module _ (all : List (List Lit)) (old new : List Lit) (same : AreSame new old) w
       (held_one s (All-contains (IsHeld s) (all ++ old ∷ []) old are (Contains-push all old)))
 
   -- where the search stands stays the same
-  pub stands : (settled : ℕ) (s : Search) (conflict : Option ℕ) → Stands (all ++ old ∷ []) settled s conflict → Stands (all ++ new ∷ []) settled s conflict
-  stands settled s None is = record { ordered = ordered s is.ordered; held = held s is.held; settles = is.settles }
-  stands settled s (Some number) is = record {
+  pub stands : (propagated : ℕ) (s : Search) (conflict : Option ℕ) → Stands (all ++ old ∷ []) propagated s conflict → Stands (all ++ new ∷ []) propagated s conflict
+  stands propagated s None is = record { ordered = ordered s is.ordered; held = held s is.held; propagates = is.propagates }
+  stands propagated s (Some number) is = record {
     ordered = ordered s is.ordered;
     held = λ some. held s (is.held some);
     below = omega (arith, is.below, size);

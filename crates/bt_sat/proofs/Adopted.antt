@@ -14,7 +14,7 @@ use Rattle.bt_watch.specs.Assigning.{Assigns}
 use Rattle.bt_watch.specs.Watched.{no_lit, first}
 use Rattle.bt_watch.specs.Keeping.{kept_at, AreTrue, IsAtRest, IsWatchable}
 use Rattle.bt_watch.specs.Levels.{start_of, front_of, AreLevels, IsOrdered, IsHeld, among_watched, alone, IsReady}
-use Rattle.bt_watch.specs.Propagating.{IsSettledTo, IsWhole, Keeps}
+use Rattle.bt_watch.specs.Propagating.{IsPropagatedTo, IsWhole, Keeps}
 use Rattle.bt_watch.specs.Reasons.{AreSame, lit_at, IsReason, AreNumbered, AreReasons}
 use Rattle.bt_sat.specs.inner.Asserting.{IsAsserting}
 use Rattle.bt_cnf.proofs.Lists.{past, nat_or, all_more}
@@ -69,10 +69,10 @@ asserted_reason all s lits is =
       ]);
     }
 
--- all is settled still by the trail before
-pub settled_longer : (s : Search) (a : Assignment) (l : Lit) (reason : Option ℕ) → IsWhole (with_assignment s a) → Assigns s.assignment a l reason → IsSettledTo (length s.assignment.trail.items) s
-    → IsSettledTo (length s.assignment.trail.items) (with_assignment s a)
-settled_longer s a l reason whole assigns is =
+-- all is propagated still by the trail before
+pub propagated_longer : (s : Search) (a : Assignment) (l : Lit) (reason : Option ℕ) → IsWhole (with_assignment s a) → Assigns s.assignment a l reason → IsPropagatedTo (length s.assignment.trail.items) s
+    → IsPropagatedTo (length s.assignment.trail.items) (with_assignment s a)
+propagated_longer s a l reason whole assigns is =
     let T = s.assignment.trail.items in
     let wider : (m : Lit) → Contains T m → Contains a.trail.items m = λ m among. subst (λ ts. Contains ts m) (sym assigns.trail) (Contains-append_left T (l ∷ []) m among) in
     record {
@@ -84,7 +84,7 @@ settled_longer s a l reason whole assigns is =
       rest = all_more (IsAtRest is.part T) (IsAtRest is.part a.trail.items) s.clauses (λ c rest. rest_grows is.part T a.trail.items c wider rest) is.rest;
     }
 
--- one clause more that is watched, which no front of a level unsettles
+-- one clause more that is watched, which is at rest by each front of a level
 module _ (all : List (List Lit)) (s mid : Search) (lits : List Lit) (keeps : Keeps lits (length all) s mid) (ordered : IsOrdered all s)
     (rests : (j : ℕ) → j < length s.starts.items → IsAtRest (front_of s j) (front_of s j) lits) where
   front_kept : (j : ℕ) → front_of mid j ≡ front_of s j
@@ -157,7 +157,7 @@ module _ (all : List (List Lit)) (s : Search) (lits : List Lit) (is : IsAssertin
         ordered = ordered;
         held = All-push (IsHeld new) all lits (all_more (IsHeld s) (IsHeld new) all (held_longer s new l (Some (length all)) assigns refl refl old.levels) is.ready.held)
             (alone l (0, is.some, get_or_default lits 0 l no_lit is.some) (λ k d small. get_or_default lits k d no_lit small ∙ ap (lit_at lits) (only k (omega (arith, small, one)))) here);
-        settles = settled_longer s a l (Some (length all)) ordered.whole assigns is.ready.settles;
+        propagates = propagated_longer s a l (Some (length all)) ordered.whole assigns is.ready.propagates;
       }
     where
       only : (k : ℕ) → k < 1 → k ≡ 0
@@ -182,7 +182,7 @@ module _ (all : List (List Lit)) (s : Search) (lits : List Lit) (is : IsAssertin
     assignment_is : mid.assignment ≡ s.assignment
     assignment_is = keeps.assignment
 
-    -- where a false literal of a front would unsettle the clause, there is none
+    -- where a false literal of a front would leave the clause to propagate, there is none
     no_first : (front : List Lit) → ((m : Lit) → Contains front m → Contains s.assignment.trail.items m) → Contains front (opposite (first lits)) → ⊥
     no_first front within among = is.not_false (is.ready.ordered.whole.truths.true_in (opposite (first lits)) (within (opposite (first lits)) among))
 
@@ -209,7 +209,7 @@ module _ (all : List (List Lit)) (s : Search) (lits : List Lit) (is : IsAssertin
         (λ e. absurd (none_some (length all) e)) in
         let more : length mid.clauses ≡ length s.clauses + 1 = ap length keeps.clauses ∙ length-append s.clauses (lits ∷ []) in
         let last : kept_at mid.clauses (length s.clauses) ≡ lits = ap (λ cs. kept_at cs (length s.clauses)) keeps.clauses ∙ get_or_push s.clauses lits [] (length s.clauses) refl in
-        let settles = is.ready.settles in
+        let propagates = is.ready.propagates in
         record {
           ordered = ordered;
           held = All-push (IsHeld new) all lits
@@ -218,18 +218,18 @@ module _ (all : List (List Lit)) (s : Search) (lits : List Lit) (is : IsAssertin
                 (λ among. subst (λ c. Contains c m) (sym last) among),
                 (λ among. subst (λ c. Contains c m) last among),
               )));
-          settles = record {
+          propagates = record {
             whole = ordered.whole;
-            part = settles.part;
-            part_in = all_more (Contains T) (Contains a.trail.items) settles.part wider settles.part_in;
+            part = propagates.part;
+            part_in = all_more (Contains T) (Contains a.trail.items) propagates.part wider propagates.part_in;
             covers = λ k d below small.
-                subst (Contains settles.part) (sym (ap (λ ts. get_or ts k d) assigns_s.trail ∙ get_or_append_left T (l ∷ []) d k below)) (settles.covers k d below below);
+                subst (Contains propagates.part) (sym (ap (λ ts. get_or ts k d) assigns_s.trail ∙ get_or_append_left T (l ∷ []) d k below)) (propagates.covers k d below below);
             rest =
-                subst (All (IsAtRest settles.part a.trail.items)) (sym keeps.clauses)
-                (All-push (IsAtRest settles.part a.trail.items) s.clauses lits
-                (all_more (IsAtRest settles.part T) (IsAtRest settles.part a.trail.items) s.clauses (λ c rest. rest_grows settles.part T a.trail.items c wider rest) settles.rest)
+                subst (All (IsAtRest propagates.part a.trail.items)) (sym keeps.clauses)
+                (All-push (IsAtRest propagates.part a.trail.items) s.clauses lits
+                (all_more (IsAtRest propagates.part T) (IsAtRest propagates.part a.trail.items) s.clauses (λ c rest. rest_grows propagates.part T a.trail.items c wider rest) propagates.rest)
                 (record {
-                  if_first = λ h. absurd (no_first settles.part (λ m among. All-contains (Contains T) settles.part m settles.part_in among) h);
+                  if_first = λ h. absurd (no_first propagates.part (λ m among. All-contains (Contains T) propagates.part m propagates.part_in among) h);
                   if_second = λ h. record {
                     lit = first lits;
                     among = first_among lits (omega (arith, many));

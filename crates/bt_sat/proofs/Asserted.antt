@@ -90,7 +90,7 @@ module _ (all : List (List Lit)) (old new : Search) (picked : List ℕ) (level :
         ready = record {
           ordered = Leveled.back_ordered all old new level ordered back;
           held = λ k d small. Leveled.back_held all old new level ordered back (get_or all k d) (held (omega (arith, known some)) k d small);
-          settles = Leveled.back_settled all old new level ordered back (known some);
+          propagates = Leveled.back_propagated all old new level ordered back (known some);
         };
         some = omega (arith, some, count_lits);
         below = subst (λ n. All (λ (l : Lit). l.var < n) (falses_at T picked)) (sym back.forgets.variables) below_vars;

@@ -20,7 +20,7 @@ use Rattle.bt_watch.proofs.Leveled
 use Rattle.bt_sat.proofs.Deriving.{before_place, in_map}
 use Rattle.bt_sat.proofs.Asserted
 
-module _ (all : List (List Lit)) (old new : Search) (clause : List Lit) (picked : List ℕ) (level settled : ℕ) (ready : IsReady all settled old)
+module _ (all : List (List Lit)) (old new : Search) (clause : List Lit) (picked : List ℕ) (level propagated : ℕ) (ready : IsReady all propagated old)
     (are : ArePicked old.assignment.trail.items clause picked) (at : IsAssertionLevel old.starts.items picked level) (back : Backjumps level old new) (some : 0 < length picked) where
   inside : (i : ℕ) → i < length picked → get_or picked i 0 < length old.assignment.trail.items
   inside i small = are.within (get_or picked i 0) (i, small, get_or_default picked i (get_or picked i 0) 0 small)

@@ -14,7 +14,7 @@ use Rattle.bt_log.specs.Refuting.{Refutes}
 use Rattle.bt_log.specs.Validity.{AreValid}
 use Rattle.bt_sat.specs.Answering.{AddsLemma, Assumes, GivesNext, Says, SaysAssumed}
 use Rattle.bt_sat.specs.Serving.{TellsSteps}
-use Rattle.bt_sat.specs.Solving.{AreFresh, AreNonempty, EndsRefuted, EndsSpent, IsLearnt, IsLemmaOf, IsModel, IsSoundLog, IsSpent, KeepsModel, LacksMemory, Searches, Standing}
+use Rattle.bt_sat.specs.Solving.{AreFresh, AreNonempty, EndsRefuted, EndsSpent, IsLearnt, IsLemmaOf, IsModel, IsSoundLog, IsSpent, KeepsModel, LacksMemory, Searches, Status}
 use Rattle.bt_sat.specs.declared.kernel.Stage.{Stage}
 use Rattle.bt_sat.specs.declared.kernel.Stage.TheVariants.{Running, Complete, Refuted, Spent, Lost}
 use Rattle.bt_sat.specs.declared.logged_formula.LoggedFormula.{LoggedFormula}
@@ -109,7 +109,7 @@ comes_says p answer.Refuted comes = (refl, refutes p comes)
 comes_says p answer.Spent comes = (refl, full_spent p Spent comes)
 
 -- an answer that was searched for
-pub gives : (old new : Progress) (was : Stage) (waiting left : List (Option (List (List Lit)))) (answer : Answer) → MayGoOn (parts_of old was).standing → AnswersBy old waiting new left answer
+pub gives : (old new : Progress) (was : Stage) (waiting left : List (Option (List (List Lit)))) (answer : Answer) → MayGoOn (parts_of old was).status → AnswersBy old waiting new left answer
     → GivesNext (parts_of old was) waiting (parts_of new (stage_after answer)) left answer
 gives old new was waiting left answer may by = record {
   added = by.0.added;
@@ -161,7 +161,7 @@ assumed_says p assumed.Refuted stands = (refl, refutes p stands)
 assumed_says p assumed.Spent stands = (refl, full_spent p Spent stands)
 
 -- literals were made false
-pub assumes : (old new : Progress) (was : Stage) (waiting left : List (Option (List (List Lit)))) (said : Assumed) → MayGoOn (parts_of old was).standing → AssumesBy old waiting new left said
+pub assumes : (old new : Progress) (was : Stage) (waiting left : List (Option (List (List Lit)))) (said : Assumed) → MayGoOn (parts_of old was).status → AssumesBy old waiting new left said
     → Assumes (parts_of old was) waiting (parts_of new (stage_assumed said)) left said
 assumes old new was waiting left said may by = record {
   added = by.0.added;
@@ -206,7 +206,7 @@ pub record MeetsLemma (p : Progress) (lits : List Lit) (weights : List Ratio) : 
   pub falses : All (IsFalseIn p.search.assignment.values) lits
   pub next : IsNextStep p.known (Lemma lits weights)
 
-abbrev model_in : Standing → List Bool
+abbrev model_in : Status → List Bool
 model_in (KeepsModel model) = model
 model_in _ = []
 

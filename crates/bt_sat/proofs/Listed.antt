@@ -11,7 +11,7 @@ use Rattle.bt_watch.proofs.Unset.{unset_before}
 
 truths_of : (p : Progress) → IsRunning p → p.conflict ≡ None → AreTrue p.search.assignment.values p.search.assignment.trail.items
 truths_of p running none =
-    let ready : IsReady (clauses_in p.known) p.settled p.search = subst (Stands (clauses_in p.known) p.settled p.search) none running.stands in
+    let ready : IsReady (clauses_in p.known) p.propagated p.search = subst (Stands (clauses_in p.known) p.propagated p.search) none running.stands in
     ready.ordered.whole.truths
 
 -- the order has all that have no value still once literals were added to the trail

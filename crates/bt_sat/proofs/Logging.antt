@@ -9,7 +9,7 @@ use Rattle.bt_cnf.specs.Truths.{IsFalseIn}
 use Rattle.bt_log.specs.Logs.{Step, Learnt, LogParts, clause_of}
 use Rattle.bt_cnf.specs.Units.{opposite}
 use Rattle.bt_log.specs.Validity.{AreValid, IsValidStep}
-use Rattle.bt_watch.specs.Propagation.{IsSettled}
+use Rattle.bt_watch.specs.Propagation.{IsFullyPropagated}
 use Rattle.bt_watch.specs.declared.search.Search.{Search}
 use Rattle.bt_watch.specs.Levels.{IsHeld}
 use Rattle.bt_watch.specs.Propagating.{IsKept, falses_of}
@@ -23,9 +23,9 @@ use Rattle.bt_sat.specs.inner.LoggedFormula.{clauses_in}
 use Rattle.bt_sat.specs.inner.Progressing.{IsLogged, IsNextStep, LogsStep}
 use Rattle.bt_cnf.proofs.Lists.{nat_or, all_more}
 use Rattle.bt_watch.proofs.Advancing.{goes_not}
-use Rattle.bt_watch.proofs.Ending.{contains_opposite, opposite_in, propagated, twice_opposite}
+use Rattle.bt_watch.proofs.Ending.{contains_opposite, opposite_in, propagation_ends, twice_opposite}
 use Rattle.bt_watch.proofs.Leveled.{held_kept}
-use Rattle.bt_sat.proofs.Open.{settled_is_open}
+use Rattle.bt_sat.proofs.Open.{propagated_is_open}
 
 pub valid_push : (f : FormulaParts) (clauses : List (List Lit)) (steps : List Step) (step : Step) → AreValid f clauses steps → IsValidStep f (clauses ++ map clause_of steps) step
     → AreValid f clauses (steps ++ step ∷ [])
@@ -69,8 +69,8 @@ pub asserted_fresh : (all : List (List Lit)) (s : Search) (lits : List Lit) → 
 asserted_fresh all s lits is =
     let T = s.assignment.trail.items in
     let x = lit_at lits 0 in
-    let end = propagated s s (length T) (goes_not s) is.ready.settles (omega arith) in
-    let settled : IsSettled all (falses_of s) = end.2 all (all_more (IsHeld s) (IsKept s) all (held_kept s) is.ready.held) in
+    let end = propagation_ends s s (length T) (goes_not s) is.ready.propagates (omega arith) in
+    let propagated : IsFullyPropagated all (falses_of s) = end.2 all (all_more (IsHeld s) (IsKept s) all (held_kept s) is.ready.held) in
     let others : (l : Lit) → Contains lits l → l ≢ x → Contains (falses_of s) l = λ l (i, small, at) differs. elim (nat_or i 0) [
       | inl zero_i ↦ absurd (differs (sym at ∙ get_or_default lits i l no_lit small ∙ ap (lit_at lits) zero_i))
       | inr later ↦
@@ -80,7 +80,7 @@ asserted_fresh all s lits is =
     ] in
     let not_made : Contains (falses_of s) (opposite x) → ⊥ = λ among.
     is.not_true (is.ready.ordered.whole.truths.true_in x (subst (Contains T) (twice_opposite x) (opposite_in T (opposite x) among))) in
-    inr (x, settled_is_open all (falses_of s) lits x settled (0, is.some, get_or_default lits 0 x no_lit is.some) others not_made)
+    inr (x, propagated_is_open all (falses_of s) lits x propagated (0, is.some, get_or_default lits 0 x no_lit is.some) others not_made)
 
 -- what was prepared is the next step
 pub prepared_next : (known : LoggedFormula) (s : Search) (lits : List Lit) (hints : List ℕ) → IsPrepared (clauses_in known) known.formula.vars s lits hints → IsNextStep known (Learnt lits hints)

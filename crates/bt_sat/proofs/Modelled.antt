@@ -1,4 +1,4 @@
--- Where all variables have a value and nothing is unsettled, there is a model.
+-- Where all variables have a value and all that is true was propagated, there is a model.
 use Rattle.std.proofs.Common.{◌≡◌, ℕ, ◌<◌, ◌⊎◌, inl, inr, arith, List, [], ◌∷◌, ◌++◌, length, map, get_or, Bool, true, false, not, sym, subst, refl, ap, ◌∙◌, Option, None, Some}
 use Rattle.std.specs.Prelude.{Contains}
 use Rattle.std.specs.List.{All}
@@ -14,7 +14,7 @@ use Rattle.bt_cnf.specs.Truths.{IsFalseIn, IsTrueIn, IsUnset}
 use Rattle.bt_log.specs.Logs.{Lemma, clause_of}
 use Rattle.bt_cnf.specs.Units.{opposite}
 use Rattle.bt_log.specs.Validity.{IsValidLemma}
-use Rattle.bt_watch.specs.Propagation.{IsFalseClause, IsSettled}
+use Rattle.bt_watch.specs.Propagation.{IsFalseClause, IsFullyPropagated}
 use Rattle.bt_watch.specs.declared.search.Search.{Search}
 use Rattle.bt_watch.specs.Keeping.{kept_at, IsWatchable}
 use Rattle.bt_watch.specs.Levels.{IsHeld, among_watched, alone, IsOrdered, IsReady, start_of, Stands}
@@ -28,7 +28,7 @@ use Rattle.bt_sat.specs.inner.Progressing.{IsNextStep}
 use Rattle.bt_cnf.proofs.Lists.{contains_here, contains_there, first_or, none_in, all_of, all_more}
 use Rattle.bt_watch.proofs.Advancing.{goes_not}
 use Rattle.bt_watch.proofs.Backjumped.{take_in}
-use Rattle.bt_watch.proofs.Ending.{contains_opposite, propagated, twice_opposite}
+use Rattle.bt_watch.proofs.Ending.{contains_opposite, propagation_ends, twice_opposite}
 use Rattle.bt_watch.proofs.Leveled.{held_kept}
 use Rattle.bt_sat.proofs.Counting.{all_negated}
 
@@ -92,15 +92,15 @@ complete_meets p is =
     let s = p.search in
     let all = clauses_in p.known in
     let values = s.assignment.values in
-    let ready : IsReady all p.settled s = subst (Stands all p.settled s) is.none is.running.stands in
-    let end = propagated s s p.settled (goes_not s) ready.settles (omega (arith, is.settled)) in
-    let settled : IsSettled all (falses_of s) = end.2 all (all_more (IsHeld s) (IsKept s) all (held_kept s) ready.held) in
+    let ready : IsReady all p.propagated s = subst (Stands all p.propagated s) is.none is.running.stands in
+    let end = propagation_ends s s p.propagated (goes_not s) ready.propagates (omega (arith, is.propagated)) in
+    let propagated : IsFullyPropagated all (falses_of s) = end.2 all (all_more (IsHeld s) (IsKept s) all (held_kept s) ready.held) in
     all_of (MeetsClause (truth_in (model_of values))) all (λ clause among. elim (some_true values clause) [
       | inl found ↦ (found.1.0, found.0, found.1.1, found.1.2, true_under values found.0 found.2)
       | inr none ↦
           let held : IsHeld s clause = All-contains (IsHeld s) all clause ready.held among in
           absurd
-          (All-contains (λ c. IsFalseClause (falses_of s) c → ⊥) all clause settled.no_false among
+          (All-contains (λ c. IsFalseClause (falses_of s) c → ⊥) all clause propagated.no_false among
           (all_of (Contains (falses_of s)) clause (λ l inside.
           let false_l : IsFalseIn values l = false_or values l (is.set l.var (held_below all s clause ready.ordered held l inside)) (none l inside) in
           subst (Contains (falses_of s)) (twice_opposite l) (contains_opposite s.assignment.trail.items (opposite l) (ready.ordered.whole.truths.in_trail (opposite l) false_l)))))

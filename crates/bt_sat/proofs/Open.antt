@@ -5,16 +5,16 @@ use Rattle.std.specs.List.{All}
 use Rattle.std.proofs.lemmas.List.Elements.{All-cons, All-contains}
 use Rattle.bt_cnf.specs.declared.literal.Lit.{Lit}
 use Rattle.bt_cnf.specs.Units.{opposite, IsUnit}
-use Rattle.bt_watch.specs.Propagation.{Reaches, begins, goes_on, IsFalseClause, IsSettled}
+use Rattle.bt_watch.specs.Propagation.{Reaches, begins, goes_on, IsFalseClause, IsFullyPropagated}
 use Rattle.bt_sat.specs.Freshness.{AreOthers}
-use Rattle.bt_sat.specs.Laws.{SettledIsOpen}
+use Rattle.bt_sat.specs.Laws.{PropagatedIsOpen}
 use Rattle.bt_cnf.proofs.Lists.{contains_or, contains_here, contains_there, first_or, none_in, lit_or, all_more, all_of}
 
 -- what propagation comes to stays within a list where it has come to its end
-within : (clauses : List (List Lit)) (begun all : List Lit) → IsSettled clauses all → All (Contains all) begun → (falses : List Lit) → Reaches clauses begun falses → All (Contains all) falses
-within clauses begun all settled start falses begins = start
-within clauses begun all settled start _ (goes_on falses clause l reached among unit) =
-    let before : All (Contains all) falses = within clauses begun all settled start falses reached in
+within : (clauses : List (List Lit)) (begun all : List Lit) → IsFullyPropagated clauses all → All (Contains all) begun → (falses : List Lit) → Reaches clauses begun falses → All (Contains all) falses
+within clauses begun all propagated start falses begins = start
+within clauses begun all propagated start _ (goes_on falses clause l reached among unit) =
+    let before : All (Contains all) falses = within clauses begun all propagated start falses reached in
     let others : All (λ m. (m ≡ l) ⊎ Contains all m) clause =
     all_more (λ m. (m ≡ l) ⊎ Contains falses m) (λ m. (m ≡ l) ⊎ Contains all m) clause
     (λ m h. elim h [ inl same ↦ inl same | inr false_m ↦ inr (All-contains (Contains all) falses m before false_m) ]) unit.others in
@@ -22,9 +22,9 @@ within clauses begun all settled start _ (goes_on falses clause l reached among 
     (elim (contains_or all (opposite l)) [
       | inl made ↦ made
       | inr not_made ↦ elim (contains_or all l) [
-        | inl false_l ↦ absurd (All-contains (λ c. IsFalseClause all c → ⊥) clauses clause settled.no_false among
+        | inl false_l ↦ absurd (All-contains (λ c. IsFalseClause all c → ⊥) clauses clause propagated.no_false among
             (all_more (λ m. (m ≡ l) ⊎ Contains all m) (Contains all) clause (λ m h. elim h [ inl same ↦ subst (Contains all) (sym same) false_l | inr false_m ↦ false_m ]) others))
-        | inr unset ↦ absurd (All-contains (λ c. (m : Lit) → IsUnit all c m → ⊥) clauses clause settled.no_unit among l
+        | inr unset ↦ absurd (All-contains (λ c. (m : Lit) → IsUnit all c m → ⊥) clauses clause propagated.no_unit among l
             (record { among = unit.among; unset = unset; not_true = not_made; others = others }))
       ]
     ])
@@ -58,8 +58,8 @@ others_are (m ∷ lits) x l =
       )
     ]
 
-pub settled_is_open : SettledIsOpen
-settled_is_open clauses falses lits x settled among others not_made =
+pub propagated_is_open : PropagatedIsOpen
+propagated_is_open clauses falses lits x propagated among others not_made =
     let start : All (Contains falses) (others_of lits x) =
     all_of (Contains falses) (others_of lits x) (λ l h. let both = (others_are lits x l).0 h in others l both.0 both.1) in
     record {
@@ -67,8 +67,8 @@ settled_is_open clauses falses lits x settled among others not_made =
       others = others_of lits x;
       are_others = others_are lits x;
       no_false = λ met.
-          All-contains (λ c. IsFalseClause falses c → ⊥) clauses met.clause settled.no_false met.among
+          All-contains (λ c. IsFalseClause falses c → ⊥) clauses met.clause propagated.no_false met.among
           (all_more (Contains met.falses) (Contains falses) met.clause
-          (λ m h. All-contains (Contains falses) met.falses m (within clauses (others_of lits x) falses settled start met.falses met.reached) h) met.is_false);
-      not_made = λ made. not_made (All-contains (Contains falses) made.falses (opposite x) (within clauses (others_of lits x) falses settled start made.falses made.reached) made.holds);
+          (λ m h. All-contains (Contains falses) met.falses m (within clauses (others_of lits x) falses propagated start met.falses met.reached) h) met.is_false);
+      not_made = λ made. not_made (All-contains (Contains falses) made.falses (opposite x) (within clauses (others_of lits x) falses propagated start made.falses made.reached) made.holds);
     }

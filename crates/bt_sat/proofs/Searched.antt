@@ -25,18 +25,18 @@ pub ready_back : (all : List (List Lit)) (level : ℕ) (old new : Search) → Is
 ready_back all level old new ordered held back known = record {
   ordered = Leveled.back_ordered all old new level ordered back;
   held = all_more (IsHeld old) (IsHeld new) all (Leveled.back_held all old new level ordered back) held;
-  settles = Leveled.back_settled all old new level ordered back known;
+  propagates = Leveled.back_propagated all old new level ordered back known;
 }
 
 -- the trail is in order, whether a clause is false or not
-pub stands_ordered : (all : List (List Lit)) (settled : ℕ) (s : Search) (conflict : Option ℕ) → Stands all settled s conflict → IsOrdered all s
-stands_ordered all settled s None stands = stands.ordered
-stands_ordered all settled s (Some conflict) stands = stands.ordered
+pub stands_ordered : (all : List (List Lit)) (propagated : ℕ) (s : Search) (conflict : Option ℕ) → Stands all propagated s conflict → IsOrdered all s
+stands_ordered all propagated s None stands = stands.ordered
+stands_ordered all propagated s (Some conflict) stands = stands.ordered
 
 -- all clauses are kept where something was chosen
-pub stands_held : (all : List (List Lit)) (settled : ℕ) (s : Search) (conflict : Option ℕ) → Stands all settled s conflict → 0 < length s.starts.items → All (IsHeld s) all
-stands_held all settled s None stands some = stands.held
-stands_held all settled s (Some conflict) stands some = stands.held some
+pub stands_held : (all : List (List Lit)) (propagated : ℕ) (s : Search) (conflict : Option ℕ) → Stands all propagated s conflict → 0 < length s.starts.items → All (IsHeld s) all
+stands_held all propagated s None stands some = stands.held
+stands_held all propagated s (Some conflict) stands some = stands.held some
 
 -- the log is of the same formula still
 pub kept_next : (old mid new : Progress) → KeepsFormula old mid → KeepsFormula mid new → KeepsFormula old new

@@ -5,14 +5,14 @@ use Rattle.bt_cnf.specs.declared.literal.Lit.{Lit}
 use Rattle.bt_log.specs.Logs.{Step, clause_of}
 use Rattle.bt_cnf.specs.Units.{opposite}
 use Rattle.bt_log.specs.Validity.{AreValid}
-use Rattle.bt_watch.specs.Propagation.{IsSettled, MeetsFalse}
+use Rattle.bt_watch.specs.Propagation.{IsFullyPropagated, MeetsFalse}
 use Rattle.bt_sat.specs.Freshness.{IsFreshStep, IsOpen}
 use Rattle.bt_sat.specs.Solving.{AreFresh, AreNonempty}
 
 -- where propagation has come to its end, a clause whose literals but one are false, and whose last isn't true, doesn't
 -- follow by propagation
-abbrev pub SettledIsOpen : Type 0
-SettledIsOpen = (clauses : List (List Lit)) (falses lits : List Lit) (x : Lit) → IsSettled clauses falses → Contains lits x
+abbrev pub PropagatedIsOpen : Type 0
+PropagatedIsOpen = (clauses : List (List Lit)) (falses lits : List Lit) (x : Lit) → IsFullyPropagated clauses falses → Contains lits x
     → ((l : Lit) → Contains lits l → l ≢ x → Contains falses l) → (Contains falses (opposite x) → ⊥) → IsOpen clauses lits x
 
 -- where propagation meets a false clause before anything is chosen, only the empty step is fresh

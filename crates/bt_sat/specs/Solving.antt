@@ -12,23 +12,23 @@ use Rattle.bt_sat.specs.Freshness.{IsFreshStep}
 
 -- where a search stands: it goes on, it keeps the model that it answered, it has come to its end, or it has lost its
 -- place for want of memory
-pub data Standing : Type 0 where
-  Searches : Standing
-  KeepsModel : List Bool → Standing
-  EndsRefuted : Standing
-  EndsSpent : Standing
-  LacksMemory : Standing
+pub data Status : Type 0 where
+  Searches : Status
+  KeepsModel : List Bool → Status
+  EndsRefuted : Status
+  EndsSpent : Status
+  LacksMemory : Status
 
 -- the formula, the steps of the log, how many steps it may have, and where the search stands
 pub record SolverParts : Type 0 where
   pub formula : FormulaParts
   pub steps : List Step
   pub limit : ℕ
-  pub standing : Standing
+  pub status : Status
 
 -- a search that begins
 abbrev pub begun : FormulaParts → ℕ → SolverParts
-begun formula limit = record { formula = formula; steps = []; limit = limit; standing = Searches }
+begun formula limit = record { formula = formula; steps = []; limit = limit; status = Searches }
 
 -- the log
 abbrev pub log_of : SolverParts → LogParts
@@ -83,6 +83,6 @@ pub record GoesOnBy (added : List Step) (old new : SolverParts) : Type 0 where
 -- the solver keeps a model under which all literals of a valid lemma are false
 pub record IsLemmaOf (s : SolverParts) (lits : List Lit) (weights : List Ratio) : Type 0 where
   pub model : List Bool
-  pub keeps : s.standing ≡ KeepsModel model
+  pub keeps : s.status ≡ KeepsModel model
   pub unmet : All (λ l. IsTrueUnder (truth_in model) l → ⊥) lits
   pub valid : IsValidLemma s.formula lits weights

@@ -1,4 +1,6 @@
-//! Tracing a conflict back to the clause that is learnt from it.
+//! Tracing a conflict back to the clause that is learnt from it, by the first unique implication point (Marques-Silva and
+//! Sakallah, in GRASP). The greatest place of the trail comes first: so the level at which the conflict is cut is that of
+//! the first place, and nothing has to be known of the levels below it.
 ghost use Rattle.std.specs.Prelude.{◌≡◌, ◌<◌, ◌↔◌, ℕ, length, Contains, IfOk, OnOk, IsTrue};
 ghost use Rattle.std.specs.List.{All};
 ghost use Rattle.bt_sat.specs.inner.Analysing.{IsConflictLevel, IsLearnable, IsReasonFor, IsTaken, IsTopLevel, IsTraced, IsTracing, MarksSeen};

@@ -30,7 +30,7 @@ pub fn restart(progress: &mut Progress)
     if progress.search.starts.len() > 0 {
         tell_released(&mut progress.plan, &progress.search, 0);
         backjump(&mut progress.search, 0);
-        progress.settled = progress.search.assignment.trail.len();
+        progress.propagated = progress.search.assignment.trail.len();
         progress.conflict = None;
     }
 }

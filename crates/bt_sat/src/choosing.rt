@@ -38,7 +38,7 @@ fn next<C: Chooser>(
 pub fn begin_with(progress: &mut Progress, lit: &Lit) -> Result<(), AllocError>
     requires running { IsRunning progress.old }
     requires none { progress.old.conflict ≡ None }
-    requires settled { progress.old.settled ≡ length progress.old.search.assignment.trail.items }
+    requires propagated { progress.old.propagated ≡ length progress.old.search.assignment.trail.items }
     requires listed { ListsUnset progress.old }
     requires lacks { LacksValue progress.old.search.assignment.values lit.now.var }
     ensures decides { OnOk result (Decides progress.old progress.new true) }
@@ -52,7 +52,7 @@ pub fn begin_with(progress: &mut Progress, lit: &Lit) -> Result<(), AllocError>
 pub fn decide<C: Chooser>(progress: &mut Progress, choosers: &mut [C]) -> Result<bool, AllocError>
     requires running { IsRunning progress.old }
     requires none { progress.old.conflict ≡ None }
-    requires settled { progress.old.settled ≡ length progress.old.search.assignment.trail.items }
+    requires propagated { progress.old.propagated ≡ length progress.old.search.assignment.trail.items }
     requires listed { ListsUnset progress.old }
     ensures decides { IfOk result (Decides progress.old progress.new) }
     ensures kept { KeepsFormula progress.old progress.new }

@@ -89,10 +89,10 @@ impl Kernel {
 
     /// Searches on for the next model.
     fn go_on<C: Chooser>(&mut self, choosers: &mut Vec<C>) -> Result<Answer, AllocError>
-        requires { MayGoOn self.old.standing }
+        requires { MayGoOn self.old.status }
         ensures given { IfOk result (GivesNext self.old (map C.told_clauses choosers.old.items)
             self.new (map C.told_clauses choosers.new.items)) }
-        ensures memory { OnErr result (self.new.standing ≡ LacksMemory) }
+        ensures memory { OnErr result (self.new.status ≡ LacksMemory) }
     {
         match answer(&mut self.progress, choosers) {
             Ok(answer) => {
@@ -111,7 +111,7 @@ impl Kernel {
         ensures given { IfOk result (GivesNext self.old (map C.told_clauses choosers.old.items)
             self.new (map C.told_clauses choosers.new.items)) }
         ensures may { MayAnswer self.old result }
-        ensures memory { OnErr result (self.new.standing ≡ LacksMemory) }
+        ensures memory { OnErr result (self.new.status ≡ LacksMemory) }
     {
         match self.stage {
             Stage::Running | Stage::Complete => self.go_on(choosers),
@@ -127,10 +127,10 @@ impl Kernel {
         choosers: &mut Vec<C>,
         lits: &[Lit],
     ) -> Result<Assumed, AllocError>
-        requires { MayGoOn self.old.standing }
+        requires { MayGoOn self.old.status }
         ensures given { IfOk result (Assumes self.old (map C.told_clauses choosers.old.items)
             self.new (map C.told_clauses choosers.new.items)) }
-        ensures memory { OnErr result (self.new.standing ≡ LacksMemory) }
+        ensures memory { OnErr result (self.new.status ≡ LacksMemory) }
     {
         match supposed(&mut self.progress, choosers, lits) {
             Ok(assumed) => {
@@ -153,7 +153,7 @@ impl Kernel {
         ensures given { IfOk result (Assumes self.old (map C.told_clauses choosers.old.items)
             self.new (map C.told_clauses choosers.new.items)) }
         ensures may { MayAnswer self.old result }
-        ensures memory { OnErr result (self.new.standing ≡ LacksMemory) }
+        ensures memory { OnErr result (self.new.status ≡ LacksMemory) }
     {
         match self.stage {
             Stage::Running | Stage::Complete => self.suppose(choosers, lits),

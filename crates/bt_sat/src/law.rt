@@ -1,14 +1,14 @@
 //! Laws of propagation and of logs, as the contracts of functions that do nothing.
 ghost use Rattle.std.specs.Prelude.{◌≡◌};
-ghost use Rattle.bt_sat.specs.Laws.{FreshStepsAreFew, OnlyEmptyAfterConflict, SettledIsOpen};
+ghost use Rattle.bt_sat.specs.Laws.{FreshStepsAreFew, OnlyEmptyAfterConflict, PropagatedIsOpen};
 
 use crate::solver::EPOCH_STEPS;
 
 /// A clause is fresh where propagation has come to its end without a false clause, all its literals but
 /// one are false, and that one isn't true. So is the clause that a search learns, once it has gone back to
 /// the level where all but one of its literals are false.
-pub fn settled_is_open()
-    ensures { SettledIsOpen }
+pub fn propagated_is_open()
+    ensures { PropagatedIsOpen }
 {}
 
 /// A log over v variables has fewer than 3 ^ v steps, where each is valid and fresh, and none is empty: as a

@@ -98,7 +98,7 @@ pub fn take_lemma(progress: &mut Progress, lits: &[Lit], weights: &[Frac]) -> Re
         &mut progress.plan,
         lits,
     )?;
-    progress.settled = progress.search.assignment.trail.len();
+    progress.propagated = progress.search.assignment.trail.len();
     progress.conflict = admit(
         &mut progress.search,
         &progress.known,

@@ -19,6 +19,6 @@ mod serving;
 mod solver;
 mod turns;
 
-pub use law::{fresh_steps_are_few, limits_are, only_empty_after_conflict, settled_is_open};
+pub use law::{fresh_steps_are_few, limits_are, only_empty_after_conflict, propagated_is_open};
 pub use solver::{Added, Answer, Assumed, EPOCH_STEPS, Solver};
 pub use std::alloc::AllocError as Memory;

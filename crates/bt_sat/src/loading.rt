@@ -16,7 +16,7 @@ use bt_log::Log;
 use bt_watch::{Search, load_search};
 use std::alloc::{AllocError, Global};
 
-/// Where conflicts decide, so many reasons after another are followed back at most.
+/// Where conflicts decide, so many reasons after another are followed back at most, so that one literal costs no long walk.
 const MOST_REASONS: usize = 500;
 
 /// How far literals are followed back in a search by a plan.
@@ -86,7 +86,7 @@ fn started(
         order: Order::new(alloc),
         plan,
         limit,
-        settled: 0,
+        propagated: 0,
         conflict,
     })
 }

@@ -10,15 +10,15 @@ use std::alloc::{AllocError, Global};
 #[derive(Clone, Copy, PartialEq, Eq)]
 pub enum Reach {
     /// To the reason of each, by which it may be left out; but the second literal stays, which tells how far the search jumps
-    /// back.
+    /// back: where a chooser decides, searches without it took more steps.
     Near,
-    /// To the reasons of reasons, of so many after another.
+    /// To the reasons of reasons, of so many after another (Sörensson and Biere); taken where conflicts decide.
     Far(usize),
 }
 
 impl Reach {
     /// Whether a literal may be left out where so many of the clause are picked.
-    fn suits(self, picked: usize) -> bool {
+    fn may_leave_out(self, picked: usize) -> bool {
         self != Reach::Near || picked >= 2
     }
 
@@ -43,7 +43,7 @@ enum Mark {
 
 /// A literal whose reason is walked through.
 #[derive(Clone, Copy)]
-struct Visit {
+struct Frame {
     place: usize,
     /// Where the walk goes on.
     next: usize,
@@ -89,7 +89,7 @@ pub struct Minimizer {
     reach: Reach,
     marks: Vec<Mark>,
     marked: Vec<usize>,
-    visits: Vec<Visit>,
+    frames: Vec<Frame>,
 }
 
 impl Minimizer {
@@ -99,7 +99,7 @@ impl Minimizer {
             reach,
             marks: vec![in alloc; Mark::Unknown; size]?,
             marked: Vec::new(alloc),
-            visits: Vec::new(alloc),
+            frames: Vec::new(alloc),
         })
     }
 
@@ -138,9 +138,9 @@ impl Minimizer {
         scene: Scene<'_>,
         agenda: &Agenda,
         reason: KnownLits<'_>,
-        visit: Visit,
+        frame: Frame,
     ) -> Option<Open> {
-        for at in visit.next..reason.len() {
+        for at in frame.next..reason.len() {
             if let Some(place) = scene
                 .search
                 .assignment
@@ -148,7 +148,7 @@ impl Minimizer {
                 .get(reason.variable(at))
                 .copied()
             {
-                let is_covered = place == visit.place
+                let is_covered = place == frame.place
                     || place < scene.root
                     || agenda.has(place)
                     || self.is_marked_implied(place);
@@ -162,28 +162,28 @@ impl Minimizer {
 
     /// Ends with the literals that are walked through, which don't follow as far as is known.
     fn give_up(&mut self) -> Result<Look, AllocError> {
-        for _ in 0..self.visits.len() {
-            if let Some(visit) = self.visits.pop() {
-                self.mark(visit.place, Mark::Needed)?;
+        for _ in 0..self.frames.len() {
+            if let Some(frame) = self.frames.pop() {
+                self.mark(frame.place, Mark::Needed)?;
             }
         }
         Ok(Look::Ends(false))
     }
 
     /// Goes on to a literal of a reason.
-    fn enter(&mut self, scene: Scene<'_>, visit: Visit, open: Open) -> Result<Look, AllocError> {
+    fn enter(&mut self, scene: Scene<'_>, frame: Frame, open: Open) -> Result<Look, AllocError> {
         if self.mark_at(open.place) == Mark::Needed
-            || !self.reach.goes_on(self.visits.len())
+            || !self.reach.goes_on(self.frames.len())
             || scene.reason(open.place).is_none()
         {
             return self.give_up();
         }
-        let _ = self.visits.pop();
-        self.visits.push(Visit {
+        let _ = self.frames.pop();
+        self.frames.push(Frame {
             next: open.at.saturating_add(1),
-            ..visit
+            ..frame
         })?;
-        self.visits.push(Visit {
+        self.frames.push(Frame {
             place: open.place,
             next: 0,
         })?;
@@ -191,10 +191,10 @@ impl Minimizer {
     }
 
     /// Ends with the literal of the last reason, which follows.
-    fn leave(&mut self, visit: Visit) -> Result<Look, AllocError> {
-        let _ = self.visits.pop();
-        self.mark(visit.place, Mark::Implied)?;
-        if self.visits.is_empty() {
+    fn leave(&mut self, frame: Frame) -> Result<Look, AllocError> {
+        let _ = self.frames.pop();
+        self.mark(frame.place, Mark::Implied)?;
+        if self.frames.is_empty() {
             Ok(Look::Ends(true))
         } else {
             Ok(Look::GoesOn)
@@ -203,15 +203,15 @@ impl Minimizer {
 
     /// Looks at the last reason.
     fn look(&mut self, scene: Scene<'_>, agenda: &Agenda) -> Result<Look, AllocError> {
-        let Some(visit) = self.visits.last().copied() else {
+        let Some(frame) = self.frames.last().copied() else {
             return Ok(Look::Ends(false));
         };
-        let Some(reason) = scene.reason(visit.place) else {
+        let Some(reason) = scene.reason(frame.place) else {
             return self.give_up();
         };
-        match self.next_open(scene, agenda, reason, visit) {
-            Some(open) => self.enter(scene, visit, open),
-            None => self.leave(visit),
+        match self.next_open(scene, agenda, reason, frame) {
+            Some(open) => self.enter(scene, frame, open),
+            None => self.leave(frame),
         }
     }
 
@@ -224,14 +224,14 @@ impl Minimizer {
         picked: usize,
         place: usize,
     ) -> Result<bool, AllocError> {
-        if !self.reach.suits(picked) {
+        if !self.reach.may_leave_out(picked) {
             return Ok(false);
         }
         if self.mark_at(place) != Mark::Unknown {
             return Ok(self.is_marked_implied(place));
         }
-        self.visits.clear();
-        self.visits.push(Visit { place, next: 0 })?;
+        self.frames.clear();
+        self.frames.push(Frame { place, next: 0 })?;
         for _ in 0..scene.search.assignment.trail.len().saturating_mul(2) {
             if let Look::Ends(is_implied) = self.look(scene, agenda)? {
                 return Ok(is_implied);

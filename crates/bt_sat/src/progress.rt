@@ -20,8 +20,8 @@ pub struct Progress {
     pub plan: Plan,
     /// The most steps that the log may have.
     pub limit: u64,
-    /// How many literals of the trail are settled.
-    pub settled: usize,
+    /// How many literals of the trail were propagated.
+    pub propagated: usize,
     /// The number of a clause whose literals are all false, where one is known.
     pub conflict: Option<usize>,
 }
@@ -44,9 +44,9 @@ pub fn propagate_all(progress: &mut Progress) -> Result<(), AllocError>
     ensures propagates { OnOk result (PropagatesAll progress.old progress.new) }
     ensures kept { KeepsFormula progress.old progress.new }
 {
-    match propagate(&mut progress.search, progress.settled)? {
+    match propagate(&mut progress.search, progress.propagated)? {
         Some(id) => progress.conflict = number_of(&progress.search.numbers, id),
-        None => progress.settled = progress.search.assignment.trail.len(),
+        None => progress.propagated = progress.search.assignment.trail.len(),
     }
     Ok(())
 }
@@ -73,7 +73,7 @@ pub fn learn(progress: &mut Progress, conflict: usize) -> Result<Learning, Alloc
         progress.known.log.add_learnt(&[], hints)?;
         return Ok(Learning::Refutes);
     }
-    progress.settled = progress.search.assignment.trail.len();
+    progress.propagated = progress.search.assignment.trail.len();
     adopt(
         &mut progress.search,
         &progress.known,

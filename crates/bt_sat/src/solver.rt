@@ -95,7 +95,7 @@ impl<C: Chooser> Solver<C> {
         ensures given { IfOk result (GivesNext self.old.kernel (map C.told_clauses self.old.choosers.items)
             self.new.kernel (map C.told_clauses self.new.choosers.items)) }
         ensures may { MayAnswer self.old.kernel result }
-        ensures memory { OnErr result (self.new.kernel.standing ≡ LacksMemory) }
+        ensures memory { OnErr result (self.new.kernel.status ≡ LacksMemory) }
     {
         self.kernel.next_model(&mut self.choosers)
     }
@@ -108,7 +108,7 @@ impl<C: Chooser> Solver<C> {
         ensures given { IfOk result (Assumes self.old.kernel (map C.told_clauses self.old.choosers.items)
             self.new.kernel (map C.told_clauses self.new.choosers.items)) }
         ensures may { MayAnswer self.old.kernel result }
-        ensures memory { OnErr result (self.new.kernel.standing ≡ LacksMemory) }
+        ensures memory { OnErr result (self.new.kernel.status ≡ LacksMemory) }
     {
         self.kernel.assume(&mut self.choosers, lits)
     }

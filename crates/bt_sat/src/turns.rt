@@ -68,7 +68,7 @@ pub fn supposed<C: Chooser>(
     match assume(progress, choosers, lits)? {
         None => {
             let alloc = progress.learnt_clause.lits.allocator().clone()?;
-            standing(alloc, &progress.search.assignment.values, lits)
+            judge_assumed(alloc, &progress.search.assignment.values, lits)
         }
         Some(Found::Model) => Ok(Assumed::Follows),
         Some(Found::Refuted) => Ok(Assumed::Refuted),
@@ -77,7 +77,7 @@ pub fn supposed<C: Chooser>(
 }
 
 /// Whether one of the literals is true, or which variables are true where none is.
-fn standing(alloc: Global, values: &Values, lits: &[Lit]) -> Result<Assumed, AllocError>
+fn judge_assumed(alloc: Global, values: &Values, lits: &[Lit]) -> Result<Assumed, AllocError>
     ensures { IfOk result IsOpen }
 {
     if has_true(values, lits) {

@@ -245,7 +245,7 @@ module _ (b : Base) (s : SolverParts) (t0 t1 : TableauParts) (chosen : List Bool
 -- ---- its lemma
 
 -- a conflict under the model that the search keeps
-pub model_lemma : (s : SolverParts) (model : List Bool) (conflict : Conflict) → s.standing ≡ KeepsModel model → IsConflict s.formula model conflict → MakesLemma s conflict
+pub model_lemma : (s : SolverParts) (model : List Bool) (conflict : Conflict) → s.status ≡ KeepsModel model → IsConflict s.formula model conflict → MakesLemma s conflict
 model_lemma s model conflict keeps is low =
     record {
       model = model;

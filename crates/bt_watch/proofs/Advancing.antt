@@ -14,16 +14,16 @@ use Rattle.bt_watch.specs.declared.search.Search.{Search}
 use Rattle.bt_watch.specs.declared.clause_pool.Watch.{Watch}
 use Rattle.bt_watch.specs.Assigning.{Assigns}
 use Rattle.bt_watch.specs.Watched.{no_lit, first, second}
-use Rattle.bt_watch.specs.inner.AttendingIn.{AttendsIn}
+use Rattle.bt_watch.specs.inner.VisitingById.{VisitsById}
 use Rattle.bt_watch.specs.Keeping.{IsWatchable, kept_at, IsBlocked, IsAtRest, AreWatched, AreTrue}
 use Rattle.bt_watch.specs.inner.Visiting.{IsVisiting}
 use Rattle.bt_watch.specs.Reasons.{AreSame, AreNumbered, AreReasons, IsReasoned}
 use Rattle.bt_watch.specs.Propagating.{GoesOn, root_of}
-use Rattle.bt_watch.specs.inner.Settling.{Visiting, Advances}
+use Rattle.bt_watch.specs.inner.PropagatingLit.{Visiting, Advances}
 use Rattle.bt_watch.specs.Watchers.{watchers, watches_of}
 use Rattle.bt_watch.specs.inner.Watchers.{Resets, Watches, Unwatches}
 use Rattle.bt_watch.specs.WatchersParts.{WatchersParts}
-use Rattle.bt_watch.specs.declared.search.Attended.TheVariants as attended
+use Rattle.bt_watch.specs.declared.search.Visited.TheVariants as visited
 use Rattle.bt_watch.specs.declared.watched.Visit.TheVariants as visit
 use Rattle.bt_cnf.proofs.Lists.{none_in, all_more}
 use Rattle.bt_watch.proofs.Backjumped.{take_in, take_wider}
@@ -90,9 +90,9 @@ root_more old new more starts trail m among =
 pub numbered_at : (ws : List Watch) (place : ℕ) (watch : Watch) → place < length ws → watch ≡ get_or ws place watch → get_or (map number ws) place 0 ≡ watch.id
 numbered_at ws place watch inside is = number_at ws place inside ∙ ap number (get_or_default ws place no_watch watch inside ∙ sym is)
 
-pub blocked_at : (base : List Lit) (vars : ℕ) (clauses : List (List Lit)) (w : WatchersParts) (gone : Lit) (place : ℕ) (watch : Watch) → AreWatched base vars clauses w → place < length (watches_of w gone)
-    → watch ≡ get_or (watches_of w gone) place watch → IsBlocked clauses watch
-blocked_at base vars clauses w gone place watch are inside is = subst (IsBlocked clauses) (sym is) (are.blocked gone place watch inside)
+pub blocked_at : (base : List Lit) (vars : ℕ) (clauses : List (List Lit)) (w : WatchersParts) (false_lit : Lit) (place : ℕ) (watch : Watch) → AreWatched base vars clauses w → place < length (watches_of w false_lit)
+    → watch ≡ get_or (watches_of w false_lit) place watch → IsBlocked clauses watch
+blocked_at base vars clauses w false_lit place watch are inside is = subst (IsBlocked clauses) (sym is) (are.blocked false_lit place watch inside)
 
 -- the clauses are the same but for the order of one
 goes : (old : Search) (assignment : Assignment) (w : WatchersParts) (clauses : List (List Lit)) (id : ℕ) (new more : List Lit) → id < length old.clauses → clauses ≡ slice_set old.clauses id new
@@ -116,37 +116,37 @@ goes old assignment w clauses id new more below one permuted trail variables roo
   room = room;
 }
 
-module _ (old : Search) (gone : Lit) (place id : ℕ) (clauses : List (List Lit)) (below : id < length old.clauses) (is_old : IsWatchable (length old.assignment.values) (kept_at old.clauses id))
-    (inside : place < length (watchers old.watchers gone)) (is : get_or (watchers old.watchers gone) place 0 ≡ id) where
-  pub stays : (other : Lit) (w : WatchersParts) → AttendsIn old.assignment.values gone id old.clauses clauses (visit.Stays other) → Resets old.watchers w gone place (record { id = id; blocker = other })
-      → Advances gone place old (record { assignment = old.assignment; clauses = clauses; watchers = w; numbers = old.numbers; starts = old.starts }) attended.Stays
+module _ (old : Search) (false_lit : Lit) (place id : ℕ) (clauses : List (List Lit)) (below : id < length old.clauses) (is_old : IsWatchable (length old.assignment.values) (kept_at old.clauses id))
+    (inside : place < length (watchers old.watchers false_lit)) (is : get_or (watchers old.watchers false_lit) place 0 ≡ id) where
+  pub stays : (other : Lit) (w : WatchersParts) → VisitsById old.assignment.values false_lit id old.clauses clauses (visit.Satisfied other) → Resets old.watchers w false_lit place (record { id = id; blocker = other })
+      → Advances false_lit place old (record { assignment = old.assignment; clauses = clauses; watchers = w; numbers = old.numbers; starts = old.starts }) visited.Stays
   stays other w at one =
-      let kept = at.attends.0 in
+      let kept = at.visits.0 in
       let watch : Watch = record { id = id; blocker = other } in
       let good = watchable_kept (length old.assignment.values) (kept_at old.clauses id) at.clause is_old kept in
       let here : kept_at (slice_set old.clauses id at.clause) id ≡ at.clause = get_or-set_same old.clauses id at.clause [] below in
       let blocks : IsBlocked (slice_set old.clauses id at.clause) watch = record {
         below = subst (λ n. id < n) (sym (length-set old.clauses id at.clause)) below;
-        among = subst (λ c. Contains c other) (sym here) (subst (Contains at.clause) at.attends.2 (first_among at.clause good.two));
+        among = subst (λ c. Contains c other) (sym here) (subst (Contains at.clause) at.visits.2 (first_among at.clause good.two));
       } in (
         goes old old.assignment w clauses id at.clause [] below at.one kept.permuted (sym (append-nil old.assignment.trail.items)) refl refl (λ all numbered are. are)
             (λ front inside_front rest. rest_kept front front (kept_at old.clauses id) at.clause rest kept),
-        ap length one.reset ∙ length-set (watches_of old.watchers gone) place watch,
+        ap length one.reset ∙ length-set (watches_of old.watchers false_lit) place watch,
         λ part v.
-            subst (λ cs. IsVisiting part gone (place + 1) (root_of old) old.assignment.values old.assignment.trail.items cs w) (sym at.one)
-            (resets part gone place (place + 1) (root_of old) old.assignment.values old.assignment.trail.items (slice_set old.clauses id at.clause) old.watchers w watch
-            (goes_on part gone place (root_of old) old.assignment.values old.assignment.trail.items old.clauses old.watchers id at.clause v inside is kept
-            (done_true gone old.assignment.trail.items at.clause
-            (satisfied_first old.assignment.values old.assignment.trail.items at.clause v.truths good.two (subst (IsTrueIn old.assignment.values) (sym at.attends.2) at.attends.3))))
-            one (inside_list (watches_of old.watchers gone) place inside) is blocks),
+            subst (λ cs. IsVisiting part false_lit (place + 1) (root_of old) old.assignment.values old.assignment.trail.items cs w) (sym at.one)
+            (resets part false_lit place (place + 1) (root_of old) old.assignment.values old.assignment.trail.items (slice_set old.clauses id at.clause) old.watchers w watch
+            (goes_on part false_lit place (root_of old) old.assignment.values old.assignment.trail.items old.clauses old.watchers id at.clause v inside is kept
+            (done_true false_lit old.assignment.trail.items at.clause
+            (satisfied_first old.assignment.values old.assignment.trail.items at.clause v.truths good.two (subst (IsTrueIn old.assignment.values) (sym at.visits.2) at.visits.3))))
+            one (inside_list (watches_of old.watchers false_lit) place inside) is blocks),
       )
 
   pub forces : (l : Lit) (now : Assignment) (reason : Option ℕ) → AreTrue old.assignment.values old.assignment.trail.items → reason ≡ slice_get old.numbers.items id
-      → AttendsIn old.assignment.values gone id old.clauses clauses (visit.Forces l) → Assigns old.assignment now l reason
-      → Advances gone place old (record { assignment = now; clauses = clauses; watchers = old.watchers; numbers = old.numbers; starts = old.starts }) attended.Stays
+      → VisitsById old.assignment.values false_lit id old.clauses clauses (visit.UnitLit l) → Assigns old.assignment now l reason
+      → Advances false_lit place old (record { assignment = now; clauses = clauses; watchers = old.watchers; numbers = old.numbers; starts = old.starts }) visited.Stays
   forces l now reason truths number at assigns =
-      let kept = at.attends.0 in
-      let leaves = at.attends.2 in
+      let kept = at.visits.0 in
+      let leaves = at.visits.2 in
       let good = watchable_kept (length old.assignment.values) (kept_at old.clauses id) at.clause is_old kept in
       let inside_l : l.var < length old.assignment.values = subst (λ (m : Lit). m.var < length old.assignment.values) leaves.stands (good.below 0 no_lit (omega (arith, good.two))) in
       let after = slice_set old.assignment.values l.var (Some l.positive) in
@@ -159,65 +159,65 @@ module _ (old : Search) (gone : Lit) (place id : ℕ) (clauses : List (List Lit)
             (λ front inside_front rest. rest_kept front front (kept_at old.clauses id) at.clause rest kept),
         refl,
         λ part v.
-            let v' = grows part gone place (root_of old) old.assignment.values old.assignment.trail.items old.clauses old.watchers l v inside_l leaves.not_true leaves.not_false in
+            let v' = grows part false_lit place (root_of old) old.assignment.values old.assignment.trail.items old.clauses old.watchers l v inside_l leaves.not_true leaves.not_false in
             let true_first : IsTrueIn after (first at.clause) =
             subst (IsTrueIn after) (sym leaves.stands) (get_or-set_same old.assignment.values l.var (Some l.positive) None inside_l) in
-            subst (λ vs. IsVisiting part gone (place + 1) (root_of new) vs now.trail.items clauses old.watchers) (sym assigns.values)
-            (roots part gone (place + 1) (root_of old) (root_of new) after now.trail.items clauses old.watchers
-            (subst (λ ts. IsVisiting part gone (place + 1) (root_of old) after ts clauses old.watchers) (sym assigns.trail)
-            (subst (λ cs. IsVisiting part gone (place + 1) (root_of old) after (old.assignment.trail.items ++ l ∷ []) cs old.watchers) (sym at.one)
-            (goes_on part gone place (root_of old) after (old.assignment.trail.items ++ l ∷ []) old.clauses old.watchers id at.clause v' inside is kept
-            (done_true gone (old.assignment.trail.items ++ l ∷ []) at.clause
+            subst (λ vs. IsVisiting part false_lit (place + 1) (root_of new) vs now.trail.items clauses old.watchers) (sym assigns.values)
+            (roots part false_lit (place + 1) (root_of old) (root_of new) after now.trail.items clauses old.watchers
+            (subst (λ ts. IsVisiting part false_lit (place + 1) (root_of old) after ts clauses old.watchers) (sym assigns.trail)
+            (subst (λ cs. IsVisiting part false_lit (place + 1) (root_of old) after (old.assignment.trail.items ++ l ∷ []) cs old.watchers) (sym at.one)
+            (goes_on part false_lit place (root_of old) after (old.assignment.trail.items ++ l ∷ []) old.clauses old.watchers id at.clause v' inside is kept
+            (done_true false_lit (old.assignment.trail.items ++ l ∷ []) at.clause
             (satisfied_first after (old.assignment.trail.items ++ l ∷ []) at.clause v'.truths good.two true_first)))))
             (root_more old new (l ∷ []) refl assigns.trail) (root_in new)),
       )
 
-  pub leaves : (l other : Lit) (w₁ w₂ : WatchersParts) → AreTrue old.assignment.values old.assignment.trail.items → AttendsIn old.assignment.values gone id old.clauses clauses (visit.Moves l other) → IsFalseIn old.assignment.values gone
-      → Watches old.watchers w₁ l (record { id = id; blocker = other }) → Unwatches w₁ w₂ gone place
-      → Advances gone place old (record { assignment = old.assignment; clauses = clauses; watchers = w₂; numbers = old.numbers; starts = old.starts }) attended.Leaves
-  leaves l other w₁ w₂ truths at false_gone one un =
-      let left = at.attends.0 in
-      let now = at.attends.2 in
-      let same : watches_of w₁ gone ≡ watches_of old.watchers gone = one.one.others gone (λ e. now.not_false (subst (IsFalseIn old.assignment.values) e false_gone)) in (
+  pub leaves : (l other : Lit) (w₁ w₂ : WatchersParts) → AreTrue old.assignment.values old.assignment.trail.items → VisitsById old.assignment.values false_lit id old.clauses clauses (visit.NewWatch l other) → IsFalseIn old.assignment.values false_lit
+      → Watches old.watchers w₁ l (record { id = id; blocker = other }) → Unwatches w₁ w₂ false_lit place
+      → Advances false_lit place old (record { assignment = old.assignment; clauses = clauses; watchers = w₂; numbers = old.numbers; starts = old.starts }) visited.Leaves
+  leaves l other w₁ w₂ truths at falsity one un =
+      let left = at.visits.0 in
+      let now = at.visits.2 in
+      let same : watches_of w₁ false_lit ≡ watches_of old.watchers false_lit = one.one.others false_lit (λ e. now.not_false (subst (IsFalseIn old.assignment.values) e falsity)) in (
         goes old old.assignment w₂ clauses id at.clause [] below at.one left.permuted (sym (append-nil old.assignment.trail.items)) refl refl (λ all numbered are. are)
-            (λ front inside_front rest. rest_left old.assignment.values front front gone (kept_at old.clauses id) at.clause l
+            (λ front inside_front rest. rest_left old.assignment.values front front false_lit (kept_at old.clauses id) at.clause l
             (λ m h. truths.true_in m (All-contains (Contains old.assignment.trail.items) front m inside_front h)) (all_here front) rest left now),
         un.without.size ∙ ap length same,
         λ part v.
-            subst (λ cs. IsVisiting part gone place (root_of old) old.assignment.values old.assignment.trail.items cs w₂) (sym at.one)
-            (moves part gone place (root_of old) old.assignment.values old.assignment.trail.items old.clauses old.watchers id at.clause v inside is w₁ w₂ l other left at.attends.1 now one un),
+            subst (λ cs. IsVisiting part false_lit place (root_of old) old.assignment.values old.assignment.trail.items cs w₂) (sym at.one)
+            (moves part false_lit place (root_of old) old.assignment.values old.assignment.trail.items old.clauses old.watchers id at.clause v inside is w₁ w₂ l other left at.visits.1 now one un),
       )
 
-  pub strayed : (w : WatchersParts) → AttendsIn old.assignment.values gone id old.clauses clauses visit.Strays → Unwatches old.watchers w gone place
-      → Advances gone place old (record { assignment = old.assignment; clauses = clauses; watchers = w; numbers = old.numbers; starts = old.starts }) attended.Leaves
-  strayed w at un =
-      let kept = at.attends.0 in
+  pub stale : (w : WatchersParts) → VisitsById old.assignment.values false_lit id old.clauses clauses visit.Stale → Unwatches old.watchers w false_lit place
+      → Advances false_lit place old (record { assignment = old.assignment; clauses = clauses; watchers = w; numbers = old.numbers; starts = old.starts }) visited.Leaves
+  stale w at un =
+      let kept = at.visits.0 in
       let here : kept_at (slice_set old.clauses id at.clause) id ≡ at.clause = get_or-set_same old.clauses id at.clause [] below in (
         goes old old.assignment w clauses id at.clause [] below at.one kept.permuted (sym (append-nil old.assignment.trail.items)) refl refl (λ all numbered are. are)
             (λ front inside_front rest. rest_kept front front (kept_at old.clauses id) at.clause rest kept),
         un.without.size,
         λ part v.
-            subst (λ cs. IsVisiting part gone place (root_of old) old.assignment.values old.assignment.trail.items cs w) (sym at.one)
-            (strays part gone place (root_of old) old.assignment.values old.assignment.trail.items (slice_set old.clauses id at.clause) old.watchers w id
-            (keeps part gone place (root_of old) old.assignment.values old.assignment.trail.items old.clauses old.watchers id at.clause v inside is kept
-            (done_none gone old.assignment.trail.items at.clause at.attends.1 at.attends.2)) inside is
-            (λ e. at.attends.1 (sym (ap first here) ∙ e)) (λ e. at.attends.2 (sym (ap second here) ∙ e)) un),
+            subst (λ cs. IsVisiting part false_lit place (root_of old) old.assignment.values old.assignment.trail.items cs w) (sym at.one)
+            (strays part false_lit place (root_of old) old.assignment.values old.assignment.trail.items (slice_set old.clauses id at.clause) old.watchers w id
+            (keeps part false_lit place (root_of old) old.assignment.values old.assignment.trail.items old.clauses old.watchers id at.clause v inside is kept
+            (done_none false_lit old.assignment.trail.items at.clause at.visits.1 at.visits.2)) inside is
+            (λ e. at.visits.1 (sym (ap first here) ∙ e)) (λ e. at.visits.2 (sym (ap second here) ∙ e)) un),
       )
 
-  pub fails : AttendsIn old.assignment.values gone id old.clauses clauses visit.Fails
-      → Advances gone place old (record { assignment = old.assignment; clauses = clauses; watchers = old.watchers; numbers = old.numbers; starts = old.starts }) (attended.Fails id)
+  pub fails : VisitsById old.assignment.values false_lit id old.clauses clauses visit.Conflict
+      → Advances false_lit place old (record { assignment = old.assignment; clauses = clauses; watchers = old.watchers; numbers = old.numbers; starts = old.starts }) (visited.Conflict id)
   fails at =
       let here : kept_at clauses id ≡ at.clause = ap (λ cs. kept_at cs id) at.one ∙ get_or-set_same old.clauses id at.clause [] below in (
-        goes old old.assignment old.watchers clauses id at.clause [] below at.one at.attends.0.permuted (sym (append-nil old.assignment.trail.items)) refl refl (λ all numbered are. are)
-            (λ front inside_front rest. rest_kept front front (kept_at old.clauses id) at.clause rest at.attends.0),
+        goes old old.assignment old.watchers clauses id at.clause [] below at.one at.visits.0.permuted (sym (append-nil old.assignment.trail.items)) refl refl (λ all numbered are. are)
+            (λ front inside_front rest. rest_kept front front (kept_at old.clauses id) at.clause rest at.visits.0),
         (
           subst (λ n. id < n) (sym (ap length at.one ∙ length-set old.clauses id at.clause)) below,
-          subst (All (IsFalseIn old.assignment.values)) (sym here) at.attends.1,
+          subst (All (IsFalseIn old.assignment.values)) (sym here) at.visits.1,
         ),
         λ whole. record {
           watched =
               subst (λ cs. AreWatched (root_of old) (length old.assignment.values) cs old.watchers) (sym at.one)
-              (watched_kept (root_of old) (length old.assignment.values) old.clauses old.watchers id at.clause whole.watched below at.attends.0);
+              (watched_kept (root_of old) (length old.assignment.values) old.clauses old.watchers id at.clause whole.watched below at.visits.0);
           truths = whole.truths;
         },
       )
@@ -258,38 +258,38 @@ goes_relisted : (s : Search) (w : WatchersParts) → GoesOn s (record { assignme
 goes_relisted s w = record { more = []; trail = sym (append-nil s.assignment.trail.items); variables = refl; count = refl; room = refl; numbers = refl; starts = refl; reasoned = λ all numbered are. are; rests = λ front inside rest. rest; clauses = λ id. IsPermutation-refl (kept_at s.clauses id) }
 
 -- a clause whose blocking literal is true isn't looked at
-pub passed : (old : Search) (gone : Lit) (place : ℕ) (watch : Watch) → AreWatched (root_of old) (length old.assignment.values) old.clauses old.watchers → place < length (watches_of old.watchers gone)
-    → watch ≡ get_or (watches_of old.watchers gone) place watch → IsTrueIn old.assignment.values watch.blocker → Advances gone place old old attended.Stays
-passed old gone place watch watched inside is true_blocker = (
+pub passed : (old : Search) (false_lit : Lit) (place : ℕ) (watch : Watch) → AreWatched (root_of old) (length old.assignment.values) old.clauses old.watchers → place < length (watches_of old.watchers false_lit)
+    → watch ≡ get_or (watches_of old.watchers false_lit) place watch → IsTrueIn old.assignment.values watch.blocker → Advances false_lit place old old visited.Stays
+passed old false_lit place watch watched inside is true_blocker = (
   goes_not old,
   refl,
   λ part v.
-      passes part gone place (root_of old) old.assignment.values old.assignment.trail.items old.clauses old.watchers watch v (numbered_at (watches_of old.watchers gone) place watch inside is)
-      (blocked_at (root_of old) (length old.assignment.values) old.clauses old.watchers gone place watch watched inside is) true_blocker,
+      passes part false_lit place (root_of old) old.assignment.values old.assignment.trail.items old.clauses old.watchers watch v (numbered_at (watches_of old.watchers false_lit) place watch inside is)
+      (blocked_at (root_of old) (length old.assignment.values) old.clauses old.watchers false_lit place watch watched inside is) true_blocker,
 )
 
 -- a clause leaves the list, whose blocking literal is true for good
-pub dropped : (old : Search) (gone : Lit) (place : ℕ) (watch : Watch) (w : WatchersParts) → AreWatched (root_of old) (length old.assignment.values) old.clauses old.watchers
-    → place < length (watches_of old.watchers gone) → watch ≡ get_or (watches_of old.watchers gone) place watch → Contains (root_of old) watch.blocker → Unwatches old.watchers w gone place
-    → Advances gone place old (record { assignment = old.assignment; clauses = old.clauses; watchers = w; numbers = old.numbers; starts = old.starts }) attended.Leaves
-dropped old gone place watch w watched inside is good un =
-    let blocks = blocked_at (root_of old) (length old.assignment.values) old.clauses old.watchers gone place watch watched inside is in (
+pub dropped : (old : Search) (false_lit : Lit) (place : ℕ) (watch : Watch) (w : WatchersParts) → AreWatched (root_of old) (length old.assignment.values) old.clauses old.watchers
+    → place < length (watches_of old.watchers false_lit) → watch ≡ get_or (watches_of old.watchers false_lit) place watch → Contains (root_of old) watch.blocker → Unwatches old.watchers w false_lit place
+    → Advances false_lit place old (record { assignment = old.assignment; clauses = old.clauses; watchers = w; numbers = old.numbers; starts = old.starts }) visited.Leaves
+dropped old false_lit place watch w watched inside is good un =
+    let blocks = blocked_at (root_of old) (length old.assignment.values) old.clauses old.watchers false_lit place watch watched inside is in (
       goes_relisted old w,
       un.without.size,
       λ part v.
-          drops part gone place (root_of old) old.assignment.values old.assignment.trail.items old.clauses old.watchers w watch.id v (inside_numbers (watches_of old.watchers gone) place inside)
-          (numbered_at (watches_of old.watchers gone) place watch inside is) (record { lit = watch.blocker; among = blocks.among; holds = good }) un,
+          drops part false_lit place (root_of old) old.assignment.values old.assignment.trail.items old.clauses old.watchers w watch.id v (inside_numbers (watches_of old.watchers false_lit) place inside)
+          (numbered_at (watches_of old.watchers false_lit) place watch inside is) (record { lit = watch.blocker; among = blocks.among; holds = good }) un,
     )
 
--- nothing is unsettled by no part of the trail
-pub starts : (gone : Lit) (s : Search) → AreWatched (root_of s) (length s.assignment.values) s.clauses s.watchers → AreTrue s.assignment.values s.assignment.trail.items
-    → IsFalseIn s.assignment.values gone → Visiting [] gone 0 s
-starts gone s watched truths false_gone = record {
+-- all is at rest by no part of the trail
+pub starts : (false_lit : Lit) (s : Search) → AreWatched (root_of s) (length s.assignment.values) s.clauses s.watchers → AreTrue s.assignment.values s.assignment.trail.items
+    → IsFalseIn s.assignment.values false_lit → Visiting [] false_lit 0 s
+starts false_lit s watched truths falsity = record {
   watched = watched;
   base_in = root_in s;
   truths = truths;
   rest = λ k d below. record { if_first = λ h. absurd (none_in _ h); if_second = λ h. absurd (none_in _ h) };
   part_in = All-nil (Contains s.assignment.trail.items);
-  gone_false = false_gone;
+  lit_is_false = falsity;
   done = λ k before small. absurd (omega (arith, before));
 }

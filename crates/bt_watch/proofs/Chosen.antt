@@ -69,16 +69,16 @@ module _ (all : List (List Lit)) (old new : Search) (l : Lit) (begins : BeginsLe
       ∙ take-append-le (length old.assignment.trail.items) old.assignment.trail.items (l ∷ []) (omega arith)
       ∙ take_all_of (length old.assignment.trail.items) old.assignment.trail.items (omega arith)
 
-  in_part : (m : Lit) → Contains old.assignment.trail.items m → Contains ready.settles.part m
-  in_part m (k, small, is) = subst (Contains ready.settles.part) is (ready.settles.covers k m small small)
+  in_part : (m : Lit) → Contains old.assignment.trail.items m → Contains ready.propagates.part m
+  in_part m (k, small, is) = subst (Contains ready.propagates.part) is (ready.propagates.covers k m small small)
 
   all_rest : All (IsAtRest old.assignment.trail.items old.assignment.trail.items) old.clauses
   all_rest =
-      all_more (IsAtRest ready.settles.part old.assignment.trail.items) (IsAtRest old.assignment.trail.items old.assignment.trail.items) old.clauses
+      all_more (IsAtRest ready.propagates.part old.assignment.trail.items) (IsAtRest old.assignment.trail.items old.assignment.trail.items) old.clauses
       (λ c rest. record {
         if_first = λ h. rest.if_first (in_part (opposite (first c)) h);
         if_second = λ h. rest.if_second (in_part (opposite (second c)) h);
-      }) ready.settles.rest
+      }) ready.propagates.rest
 
   levels : AreLevels new
   levels = record {
@@ -159,7 +159,7 @@ module _ (all : List (List Lit)) (old new : Search) (l : Lit) (begins : BeginsLe
       none_some : (n : ℕ) → None ≡ Some n → ⊥
       none_some n e = cc
 
-  -- all is kept, and what was settled is so still
+  -- all is kept, and what was propagated is so still
   pub level_ready : IsReady all (length old.assignment.trail.items) new
   level_ready =
       let T = old.assignment.trail.items in
@@ -168,14 +168,14 @@ module _ (all : List (List Lit)) (old new : Search) (l : Lit) (begins : BeginsLe
       record {
         ordered = ordered;
         held = all_more (IsHeld old) (IsHeld new) all held ready.held;
-        settles = record {
+        propagates = record {
           whole = whole;
-          part = ready.settles.part;
-          part_in = all_more (Contains T) (Contains T') ready.settles.part longer_in ready.settles.part_in;
+          part = ready.propagates.part;
+          part_in = all_more (Contains T) (Contains T') ready.propagates.part longer_in ready.propagates.part_in;
           covers = λ k d small inside.
-              subst (Contains ready.settles.part) (sym (ap (λ ts. get_or ts k d) begins.assigns.trail ∙ get_or_append_left T (l ∷ []) d k small)) (ready.settles.covers k d small small);
+              subst (Contains ready.propagates.part) (sym (ap (λ ts. get_or ts k d) begins.assigns.trail ∙ get_or_append_left T (l ∷ []) d k small)) (ready.propagates.covers k d small small);
           rest =
-              subst (All (IsAtRest ready.settles.part T')) (sym begins.clauses)
-              (all_more (IsAtRest ready.settles.part T) (IsAtRest ready.settles.part T') old.clauses (λ c rest. rest_grows ready.settles.part T T' c longer_in rest) ready.settles.rest);
+              subst (All (IsAtRest ready.propagates.part T')) (sym begins.clauses)
+              (all_more (IsAtRest ready.propagates.part T) (IsAtRest ready.propagates.part T') old.clauses (λ c rest. rest_grows ready.propagates.part T T' c longer_in rest) ready.propagates.rest);
         };
       }

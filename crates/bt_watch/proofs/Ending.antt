@@ -8,19 +8,19 @@ use Rattle.std.proofs.lemmas.List.Sorted.{Contains-permutation, IsPermutation-sy
 use Rattle.bt_cnf.specs.declared.literal.Lit.{Lit}
 use Rattle.bt_cnf.specs.Truths.{IsTrueIn, IsFalseIn}
 use Rattle.bt_cnf.specs.Units.{opposite, HasNoBothSigns, IsUnit}
-use Rattle.bt_watch.specs.Propagation.{IsFalseClause, IsSettled}
+use Rattle.bt_watch.specs.Propagation.{IsFalseClause, IsFullyPropagated}
 use Rattle.bt_watch.specs.declared.search.Search.{Search}
 use Rattle.bt_watch.specs.Watched.{no_lit, first, second}
 use Rattle.bt_watch.specs.Keeping.{kept_at, IsAtRest, IsSatisfied}
 use Rattle.bt_watch.specs.inner.Visiting.{IsDone}
-use Rattle.bt_watch.specs.Propagating.{GoesOn, IsSettledTo, IsKept, among_watched, alone, both_signs, falses_of, Propagates, root_of}
-use Rattle.bt_watch.specs.inner.Settling.{Visiting, Settles}
+use Rattle.bt_watch.specs.Propagating.{GoesOn, IsPropagatedTo, IsKept, among_watched, alone, both_signs, falses_of, Propagates, root_of}
+use Rattle.bt_watch.specs.inner.PropagatingLit.{Visiting, PropagatesLit}
 use Rattle.bt_watch.specs.inner.Watching.{HasTrue, IsWatched}
 use Rattle.bt_cnf.proofs.Lists.{contains_here, contains_there, first_or, none_in, nat_or, all_of}
 use Rattle.bt_cnf.proofs.Signs.{twice}
 use Rattle.bt_watch.proofs.Advancing.{root_in}
 use Rattle.bt_watch.proofs.Keeping.{not_both}
-use Rattle.bt_watch.proofs.Settled.{watched_is_settled}
+use Rattle.bt_watch.proofs.FullyPropagated.{watched_is_propagated}
 use Rattle.bt_watch.proofs.Visiting.{visited}
 
 pub twice_opposite : (l : Lit) → opposite (opposite l) ≡ l
@@ -62,24 +62,24 @@ false_of values l is = is ∙ ap (λ b. Some b) (sym (twice l.positive))
 -- a literal more whose clauses are done
 rest_next : (part trail clause : List Lit) (x : Lit) → IsAtRest part trail clause → IsDone (opposite x) trail clause → IsAtRest (part ++ x ∷ []) trail clause
 rest_next part trail clause x rest done =
-    let gone : (l : Lit) → x ≡ opposite l → l ≡ opposite x = λ l e. sym (twice_opposite l) ∙ ap opposite (sym e) in
+    let false_lit : (l : Lit) → x ≡ opposite l → l ≡ opposite x = λ l e. sym (twice_opposite l) ∙ ap opposite (sym e) in
     record {
       if_first = λ h. elim (Contains-push_cases part x (opposite (first clause)) h) [
         | inl before ↦ rest.if_first before
-        | inr same ↦ done.if_first (gone (first clause) same)
+        | inr same ↦ done.if_first (false_lit (first clause) same)
       ];
       if_second = λ h. elim (Contains-push_cases part x (opposite (second clause)) h) [
         | inl before ↦ rest.if_second before
-        | inr same ↦ done.if_second (gone (second clause) same)
+        | inr same ↦ done.if_second (false_lit (second clause) same)
       ];
     }
 
--- all is settled by a literal more, whose clauses were visited
-pub settled_next : (old new : Search) (head : ℕ) (x : Lit) → IsSettledTo head old → Settles (opposite x) old new None → head < length old.assignment.trail.items
-    → ((d : Lit) → get_or old.assignment.trail.items head d ≡ x) → IsSettledTo (head + 1) new
-settled_next old new head x s settles below is =
+-- all is at rest by a literal more, whose clauses were visited
+pub propagated_next : (old new : Search) (head : ℕ) (x : Lit) → IsPropagatedTo head old → PropagatesLit (opposite x) old new None → head < length old.assignment.trail.items
+    → ((d : Lit) → get_or old.assignment.trail.items head d ≡ x) → IsPropagatedTo (head + 1) new
+propagated_next old new head x s propagates below is =
     let trail = old.assignment.trail.items in
-    let goes = settles.0 in
+    let goes = propagates.0 in
     let true_x : IsTrueIn old.assignment.values x = s.whole.truths.true_in x (head, below, is x) in
     let begun : Visiting s.part (opposite x) 0 old = record {
       watched = s.whole.watched;
@@ -87,17 +87,17 @@ settled_next old new head x s settles below is =
       truths = s.whole.truths;
       rest = s.rest;
       part_in = s.part_in;
-      gone_false = false_of old.assignment.values x true_x;
+      lit_is_false = false_of old.assignment.values x true_x;
       done = λ k before small. absurd (omega (arith, before));
     } in
-    let end = settles.1 s.part begun in
+    let end = propagates.1 s.part begun in
     let v = end.2 in
     let stays : (k : ℕ) (d : Lit) → k < length trail → get_or new.assignment.trail.items k d ≡ get_or trail k d =
     λ k d small. ap (λ ls. get_or ls k d) goes.trail ∙ get_or_append_left trail goes.more d k small in
     record {
       whole = record { watched = v.watched; truths = v.truths };
       part = s.part ++ x ∷ [];
-      part_in = All-push (Contains new.assignment.trail.items) s.part x v.part_in (v.truths.in_trail x (true_of new.assignment.values x v.gone_false));
+      part_in = All-push (Contains new.assignment.trail.items) s.part x v.part_in (v.truths.in_trail x (true_of new.assignment.values x v.lit_is_false));
       covers = λ k d before small. elim (nat_or k head) [
         | inl same ↦
             let at : x ≡ get_or new.assignment.trail.items k d = sym (ap (λ n. get_or new.assignment.trail.items n d) same ∙ stays head d below ∙ is d) in
@@ -114,9 +114,9 @@ settled_next old new head x s settles below is =
           (visited s.part (opposite x) end.0 (root_of new) new.assignment.values new.assignment.trail.items new.clauses new.watchers v end.1 id small));
     }
 
--- all is settled by the whole trail
-pub settled_end : (s : Search) (head : ℕ) → IsSettledTo head s → length s.assignment.trail.items ≤ head → IsSettledTo (length s.assignment.trail.items) s
-settled_end s head is all = record {
+-- all is at rest by the whole trail
+pub propagated_end : (s : Search) (head : ℕ) → IsPropagatedTo head s → length s.assignment.trail.items ≤ head → IsPropagatedTo (length s.assignment.trail.items) s
+propagated_end s head is all = record {
   whole = is.whole;
   part = is.part;
   part_in = is.part_in;
@@ -124,7 +124,7 @@ settled_end s head is all = record {
   rest = is.rest;
 }
 
-module _ (s : Search) (is : IsSettledTo (length s.assignment.trail.items) s) where
+module _ (s : Search) (is : IsPropagatedTo (length s.assignment.trail.items) s) where
   signs : HasNoBothSigns (falses_of s)
   signs l one other =
       not_both s.assignment.values (opposite l) (is.whole.truths.true_in (opposite l) (opposite_in s.assignment.trail.items l one))
@@ -150,13 +150,13 @@ module _ (s : Search) (is : IsSettledTo (length s.assignment.trail.items) s) whe
         if_second = λ h. true_in_falses (rest.if_second (in_part (opposite (second clause)) (opposite_in trail (second clause) h)));
       }
 
-  settled : IsSettled s.clauses (falses_of s)
-  settled = watched_is_settled s.clauses (falses_of s) signs watched
+  propagated : IsFullyPropagated s.clauses (falses_of s)
+  propagated = watched_is_propagated s.clauses (falses_of s) signs watched
 
   -- a clause that was given isn't false
   not_false : (clause : List Lit) → IsKept s clause → IsFalseClause (falses_of s) clause → ⊥
   not_false clause (among_watched id small same) all =
-      settled.no_false id [] small
+      propagated.no_false id [] small
       (all_of (Contains (falses_of s)) (kept_at s.clauses id) (λ l among. All-contains (Contains (falses_of s)) clause l all ((same l).1 among)))
   not_false clause (alone l among only true_l) all =
       signs l (All-contains (Contains (falses_of s)) clause l all among) (contains_opposite s.assignment.trail.items l true_l)
@@ -167,7 +167,7 @@ module _ (s : Search) (is : IsSettledTo (length s.assignment.trail.items) s) whe
   not_unit : (clause : List Lit) → IsKept s clause → (l : Lit) → IsUnit (falses_of s) clause l → ⊥
   not_unit clause (among_watched id small same) l unit =
       let P : Lit → Type 0 = λ m. (m ≡ l) ⊎ Contains (falses_of s) m in
-      settled.no_unit id [] small l (record {
+      propagated.no_unit id [] small l (record {
         among = (same l).0 unit.among;
         unset = unit.unset;
         not_true = unit.not_true;
@@ -200,9 +200,9 @@ kept_goes old new clause goes (alone l among only true_l) =
 kept_goes old new clause goes (both_signs l among other) = both_signs l among other
 
 -- the end of propagation
-pub propagated : (old new : Search) (head : ℕ) → GoesOn old new → IsSettledTo head new → length new.assignment.trail.items ≤ head → Propagates old new None
-propagated old new head goes is all =
-    let end = settled_end new head is all in (
+pub propagation_ends : (old new : Search) (head : ℕ) → GoesOn old new → IsPropagatedTo head new → length new.assignment.trail.items ≤ head → Propagates old new None
+propagation_ends old new head goes is all =
+    let end = propagated_end new head is all in (
       goes,
       end,
       λ given kept. record {

@@ -9,7 +9,7 @@ use Rattle.bt_cnf.specs.declared.literal.Lit.{Lit}
 use Rattle.bt_cnf.specs.Truths.{IsTrueIn, IsFalseIn}
 use Rattle.bt_cnf.specs.Units.{opposite}
 use Rattle.bt_watch.specs.declared.clause_pool.Watch.{Watch}
-use Rattle.bt_watch.specs.inner.Attending.{KeepsPair, LeavesOne, WatchesNow}
+use Rattle.bt_watch.specs.inner.VisitingClause.{KeepsPair, LeavesOne, WatchesNow}
 use Rattle.bt_watch.specs.Keeping.{IsWatchable, IsListed, IsFollowed, kept_at, IsBlocked, AreWatched, AreTrue, IsAtRest, IsSatisfied}
 use Rattle.bt_watch.specs.inner.Visiting.{IsDone}
 use Rattle.bt_watch.specs.Watchers.{watchers, watches_of}
@@ -29,9 +29,9 @@ watchable_kept vars old new is kept = record {
 }
 
 -- or where another literal takes the place of one of the pair
-pub watchable_left : (vars : ℕ) (values : List (Option Bool)) (gone : Lit) (old new : List Lit) (l : Lit) → IsWatchable vars old → LeavesOne gone old new → WatchesNow values new l
+pub watchable_left : (vars : ℕ) (values : List (Option Bool)) (false_lit : Lit) (old new : List Lit) (l : Lit) → IsWatchable vars old → LeavesOne false_lit old new → WatchesNow values new l
     → IsWatchable vars new
-watchable_left vars values gone old new l is left now = record {
+watchable_left vars values false_lit old new l is left now = record {
   two = subst (λ n. 2 ≤ n) (sym (length_permutation old new left.permuted)) is.two;
   below = All-permutation (λ m. m.var < vars) old new left.permuted is.below;
   differ = λ e. now.differs (sym now.stands ∙ sym e);
@@ -111,10 +111,10 @@ not_both values l true_l false_l = apart l.positive (sym true_l ∙ false_l)
     apart true e = cc
     apart false e = cc
 
--- nothing is unsettled by a clause that watches another literal now, which isn't false
-pub rest_left : (values : List (Option Bool)) (part trail : List Lit) (gone : Lit) (old new : List Lit) (l : Lit) → ((m : Lit) → Contains trail m → IsTrueIn values m) → All (Contains trail) part
-    → IsAtRest part trail old → LeavesOne gone old new → WatchesNow values new l → IsAtRest part trail new
-rest_left values part trail gone old new l true_in inside rest left now = record {
+-- all is at rest by a clause that watches another literal now, which isn't false
+pub rest_left : (values : List (Option Bool)) (part trail : List Lit) (false_lit : Lit) (old new : List Lit) (l : Lit) → ((m : Lit) → Contains trail m → IsTrueIn values m) → All (Contains trail) part
+    → IsAtRest part trail old → LeavesOne false_lit old new → WatchesNow values new l → IsAtRest part trail new
+rest_left values part trail false_lit old new l true_in inside rest left now = record {
   if_first = λ h. satisfied_kept trail old new left.permuted (elim left.pair [
     | inl pair ↦ rest.if_first (subst (λ m. Contains part (opposite m)) pair.0 h)
     | inr pair ↦ rest.if_second (subst (λ m. Contains part (opposite m)) pair.0 h)
@@ -147,8 +147,8 @@ rest_grows part trail more clause grows rest = record {
   if_second = λ h. satisfied_grows trail more clause grows (rest.if_second h);
 }
 
-pub done_grows : (gone : Lit) (trail more clause : List Lit) → ((l : Lit) → Contains trail l → Contains more l) → IsDone gone trail clause → IsDone gone more clause
-done_grows gone trail more clause grows done = record {
+pub done_grows : (false_lit : Lit) (trail more clause : List Lit) → ((l : Lit) → Contains trail l → Contains more l) → IsDone false_lit trail clause → IsDone false_lit more clause
+done_grows false_lit trail more clause grows done = record {
   if_first = λ h. satisfied_grows trail more clause grows (done.if_first h);
   if_second = λ h. satisfied_grows trail more clause grows (done.if_second h);
 }

@@ -13,16 +13,16 @@ use Rattle.bt_watch.specs.declared.clause_pool.Watch.{Watch}
 use Rattle.bt_watch.specs.declared.search.Search.{Search}
 use Rattle.bt_watch.specs.Assigning.{Assigns}
 use Rattle.bt_watch.specs.Watched.{no_lit}
-use Rattle.bt_watch.specs.inner.AttendingIn.{AttendsIn}
+use Rattle.bt_watch.specs.inner.VisitingById.{VisitsById}
 use Rattle.bt_cnf.specs.Codes.{code_of}
 use Rattle.bt_watch.specs.Keeping.{kept_at, AreTrue, AreWatched, IsBlocked, IsWatchable}
 use Rattle.bt_watch.specs.inner.Loads.{AreEmptyLists}
 use Rattle.bt_watch.specs.Propagating.{root_of, GoesOn}
-use Rattle.bt_watch.specs.inner.Settling.{with_watches, Advances, ComesTo, Settles, Visiting}
+use Rattle.bt_watch.specs.inner.PropagatingLit.{with_watches, Advances, ComesTo, PropagatesLit, Visiting}
 use Rattle.bt_watch.specs.inner.Watchers.{lists_of, with_list, ChangesOne, IsWithout, Resets, Unwatches, Watches}
 use Rattle.bt_watch.specs.Watchers.{watchers, watches_of}
 use Rattle.bt_watch.specs.WatchersParts.{WatchersParts}
-use Rattle.bt_watch.specs.declared.search.Attended.TheVariants as attended
+use Rattle.bt_watch.specs.declared.search.Visited.TheVariants as visited
 use Rattle.bt_watch.specs.declared.watched.Visit.TheVariants as visit
 use Rattle.bt_cnf.proofs.Lists.{lit_or}
 use Rattle.bt_watch.proofs.Advancing.{blocked_at, numbered_at, starts}
@@ -100,19 +100,19 @@ unwatches_out w l list less place below without = record {
   one = changes w l list less;
 }
 
-watches_out : (w w' : WatchersParts) (gone l : Lit) (list : List Watch) (watch : Watch) → code_of gone < length w.lists → l ≢ gone → Watches w w' l watch
-    → Watches (with_list w gone list) (with_list w' gone list) l watch
-watches_out w w' gone l list watch below apart one =
-    let below' : code_of gone < length w'.lists = subst (λ n. code_of gone < n) (sym one.one.size) below in
+watches_out : (w w' : WatchersParts) (false_lit l : Lit) (list : List Watch) (watch : Watch) → code_of false_lit < length w.lists → l ≢ false_lit → Watches w w' l watch
+    → Watches (with_list w false_lit list) (with_list w' false_lit list) l watch
+watches_out w w' false_lit l list watch below apart one =
+    let below' : code_of false_lit < length w'.lists = subst (λ n. code_of false_lit < n) (sym one.one.size) below in
     record {
-      added = with_there w' gone l list apart ∙ one.added ∙ ap (λ ws. ws ++ watch ∷ []) (sym (with_there w gone l list apart));
+      added = with_there w' false_lit l list apart ∙ one.added ∙ ap (λ ws. ws ++ watch ∷ []) (sym (with_there w false_lit l list apart));
       one = record {
-        size = length-set w'.lists (code_of gone) list ∙ one.one.size ∙ sym (length-set w.lists (code_of gone) list);
-        others = λ m differs. elim (lit_or m gone) [
+        size = length-set w'.lists (code_of false_lit) list ∙ one.one.size ∙ sym (length-set w.lists (code_of false_lit) list);
+        others = λ m differs. elim (lit_or m false_lit) [
           | inl same ↦
-              ap (watches_of (with_list w' gone list)) same ∙ with_here w' gone list below' ∙ sym (with_here w gone list below)
-              ∙ sym (ap (watches_of (with_list w gone list)) same)
-          | inr other ↦ with_there w' gone m list other ∙ one.one.others m differs ∙ sym (with_there w gone m list other)
+              ap (watches_of (with_list w' false_lit list)) same ∙ with_here w' false_lit list below' ∙ sym (with_here w false_lit list below)
+              ∙ sym (ap (watches_of (with_list w false_lit list)) same)
+          | inr other ↦ with_there w' false_lit m list other ∙ one.one.others m differs ∙ sym (with_there w false_lit m list other)
         ];
       };
     }
@@ -133,30 +133,30 @@ without_of place was now lost =
     }
 
 -- a search from whose lists one was taken out
-pub standing : (s : Search) (gone : Lit) (list : List Watch) → AreWatched (root_of s) (length s.assignment.values) s.clauses (with_list s.watchers gone list) → gone.var < length s.assignment.values
-    → code_of gone < length s.watchers.lists
-standing s gone list watched variable =
-    code_below gone (length s.assignment.values) (length s.watchers.lists) variable (sym (length-set s.watchers.lists (code_of gone) list) ∙ watched.lists)
+pub standing : (s : Search) (false_lit : Lit) (list : List Watch) → AreWatched (root_of s) (length s.assignment.values) s.clauses (with_list s.watchers false_lit list) → false_lit.var < length s.assignment.values
+    → code_of false_lit < length s.watchers.lists
+standing s false_lit list watched variable =
+    code_below false_lit (length s.assignment.values) (length s.watchers.lists) variable (sym (length-set s.watchers.lists (code_of false_lit) list) ∙ watched.lists)
 
-module _ (s : Search) (gone : Lit) (list : List Watch) (place : ℕ) (watch : Watch) (watched : AreWatched (root_of s) (length s.assignment.values) s.clauses (with_list s.watchers gone list))
-    (variable : gone.var < length s.assignment.values) (inside : place < length list) (at : watch ≡ get_or list place watch) where
-  stands : code_of gone < length s.watchers.lists
-  stands = standing s gone list watched variable
+module _ (s : Search) (false_lit : Lit) (list : List Watch) (place : ℕ) (watch : Watch) (watched : AreWatched (root_of s) (length s.assignment.values) s.clauses (with_list s.watchers false_lit list))
+    (variable : false_lit.var < length s.assignment.values) (inside : place < length list) (at : watch ≡ get_or list place watch) where
+  stands : code_of false_lit < length s.watchers.lists
+  stands = standing s false_lit list watched variable
 
-  inside_out : place < length (watches_of (with_list s.watchers gone list) gone)
-  inside_out = subst (λ ws. place < length ws) (sym (with_here s.watchers gone list stands)) inside
+  inside_out : place < length (watches_of (with_list s.watchers false_lit list) false_lit)
+  inside_out = subst (λ ws. place < length ws) (sym (with_here s.watchers false_lit list stands)) inside
 
-  at_out : watch ≡ get_or (watches_of (with_list s.watchers gone list) gone) place watch
-  at_out = at ∙ ap (λ ws. get_or ws place watch) (sym (with_here s.watchers gone list stands))
+  at_out : watch ≡ get_or (watches_of (with_list s.watchers false_lit list) false_lit) place watch
+  at_out = at ∙ ap (λ ws. get_or ws place watch) (sym (with_here s.watchers false_lit list stands))
 
-  numbered : get_or (watchers (with_list s.watchers gone list) gone) place 0 ≡ watch.id
-  numbered = numbered_at (watches_of (with_list s.watchers gone list) gone) place watch inside_out at_out
+  numbered : get_or (watchers (with_list s.watchers false_lit list) false_lit) place 0 ≡ watch.id
+  numbered = numbered_at (watches_of (with_list s.watchers false_lit list) false_lit) place watch inside_out at_out
 
-  numbers_inside : place < length (watchers (with_list s.watchers gone list) gone)
-  numbers_inside = inside_numbers (watches_of (with_list s.watchers gone list) gone) place inside_out
+  numbers_inside : place < length (watchers (with_list s.watchers false_lit list) false_lit)
+  numbers_inside = inside_numbers (watches_of (with_list s.watchers false_lit list) false_lit) place inside_out
 
   blocked : IsBlocked s.clauses watch
-  blocked = blocked_at (root_of s) (length s.assignment.values) s.clauses (with_list s.watchers gone list) gone place watch watched inside_out at_out
+  blocked = blocked_at (root_of s) (length s.assignment.values) s.clauses (with_list s.watchers false_lit list) false_lit place watch watched inside_out at_out
 
   pub id_below : watch.id < length s.clauses
   id_below = blocked.below
@@ -167,141 +167,141 @@ module _ (s : Search) (gone : Lit) (list : List Watch) (place : ℕ) (watch : Wa
   pub blocker_below : watch.blocker.var < length s.assignment.values
   blocker_below = All-contains (λ (l : Lit). l.var < length s.assignment.values) (kept_at s.clauses watch.id) watch.blocker watchable.below blocked.among
 
-  passed : IsTrueIn s.assignment.values watch.blocker → Advances gone place (with_watches s gone list) (with_watches s gone list) attended.Stays
-  passed true_blocker = Advancing.passed (with_watches s gone list) gone place watch watched inside_out at_out true_blocker
+  passed : IsTrueIn s.assignment.values watch.blocker → Advances false_lit place (with_watches s false_lit list) (with_watches s false_lit list) visited.Stays
+  passed true_blocker = Advancing.passed (with_watches s false_lit list) false_lit place watch watched inside_out at_out true_blocker
 
   -- a clause whose blocking literal is true for good leaves the list
-  pub dropped : (less : List Watch) → Contains (root_of s) watch.blocker → IsWithout place list less → Advances gone place (with_watches s gone list) (with_watches s gone less) attended.Leaves
+  pub dropped : (less : List Watch) → Contains (root_of s) watch.blocker → IsWithout place list less → Advances false_lit place (with_watches s false_lit list) (with_watches s false_lit less) visited.Leaves
   dropped less good without =
-      Advancing.dropped (with_watches s gone list) gone place watch (with_list s.watchers gone less) watched inside_out at_out good (unwatches_out s.watchers gone list less place stands without)
+      Advancing.dropped (with_watches s false_lit list) false_lit place watch (with_list s.watchers false_lit less) watched inside_out at_out good (unwatches_out s.watchers false_lit list less place stands without)
 
   module _ (clauses : List (List Lit)) where
     -- the literal that is watched now is one of a variable, and has a list
-    pub moved_below : (l other : Lit) → AttendsIn s.assignment.values gone watch.id s.clauses clauses (visit.Moves l other) → l.var < length s.assignment.values
-    moved_below l other visits =
-        let good = watchable_left (length s.assignment.values) s.assignment.values gone (kept_at s.clauses watch.id) visits.clause l watchable visits.attends.0 visits.attends.2 in
-        subst (λ (m : Lit). m.var < length s.assignment.values) visits.attends.2.stands (good.below 1 no_lit (omega (arith, good.two)))
+    pub new_watch_below : (l other : Lit) → VisitsById s.assignment.values false_lit watch.id s.clauses clauses (visit.NewWatch l other) → l.var < length s.assignment.values
+    new_watch_below l other visits =
+        let good = watchable_left (length s.assignment.values) s.assignment.values false_lit (kept_at s.clauses watch.id) visits.clause l watchable visits.visits.0 visits.visits.2 in
+        subst (λ (m : Lit). m.var < length s.assignment.values) visits.visits.2.stands (good.below 1 no_lit (omega (arith, good.two)))
 
-    pub moved_stands : (l other : Lit) → AttendsIn s.assignment.values gone watch.id s.clauses clauses (visit.Moves l other) → code_of l < length s.watchers.lists
-    moved_stands l other visits =
-        code_below l (length s.assignment.values) (length s.watchers.lists) (moved_below l other visits)
-        (sym (length-set s.watchers.lists (code_of gone) list) ∙ watched.lists)
+    pub new_watch_stands : (l other : Lit) → VisitsById s.assignment.values false_lit watch.id s.clauses clauses (visit.NewWatch l other) → code_of l < length s.watchers.lists
+    new_watch_stands l other visits =
+        code_below l (length s.assignment.values) (length s.watchers.lists) (new_watch_below l other visits)
+        (sym (length-set s.watchers.lists (code_of false_lit) list) ∙ watched.lists)
 
     -- and so is one that is made true
-    pub forced_below : (l : Lit) → AttendsIn s.assignment.values gone watch.id s.clauses clauses (visit.Forces l) → l.var < length s.assignment.values
-    forced_below l visits =
-        let good = watchable_kept (length s.assignment.values) (kept_at s.clauses watch.id) visits.clause watchable visits.attends.0 in
-        subst (λ (m : Lit). m.var < length s.assignment.values) visits.attends.2.stands (good.below 0 no_lit (omega (arith, good.two)))
+    pub unit_below : (l : Lit) → VisitsById s.assignment.values false_lit watch.id s.clauses clauses (visit.UnitLit l) → l.var < length s.assignment.values
+    unit_below l visits =
+        let good = watchable_kept (length s.assignment.values) (kept_at s.clauses watch.id) visits.clause watchable visits.visits.0 in
+        subst (λ (m : Lit). m.var < length s.assignment.values) visits.visits.2.stands (good.below 0 no_lit (omega (arith, good.two)))
 
-    pub stays : (other : Lit) → AttendsIn s.assignment.values gone watch.id s.clauses clauses (visit.Stays other)
-        → Advances gone place (with_watches s gone list)
-        (with_watches (record { assignment = s.assignment; clauses = clauses; watchers = s.watchers; numbers = s.numbers; starts = s.starts }) gone
+    pub stays : (other : Lit) → VisitsById s.assignment.values false_lit watch.id s.clauses clauses (visit.Satisfied other)
+        → Advances false_lit place (with_watches s false_lit list)
+        (with_watches (record { assignment = s.assignment; clauses = clauses; watchers = s.watchers; numbers = s.numbers; starts = s.starts }) false_lit
         (set list place (record { id = watch.id; blocker = other })))
-        attended.Stays
+        visited.Stays
     stays other visits =
         let now : Watch = record { id = watch.id; blocker = other } in
-        Advancing.stays (with_watches s gone list) gone place watch.id clauses id_below watchable numbers_inside numbered other (with_list s.watchers gone (set list place now)) visits
-        (resets_out s.watchers gone list place now stands)
+        Advancing.stays (with_watches s false_lit list) false_lit place watch.id clauses id_below watchable numbers_inside numbered other (with_list s.watchers false_lit (set list place now)) visits
+        (resets_out s.watchers false_lit list place now stands)
 
-    pub strayed : (less : List Watch) → AttendsIn s.assignment.values gone watch.id s.clauses clauses visit.Strays → IsWithout place list less
-        → Advances gone place (with_watches s gone list)
-        (with_watches (record { assignment = s.assignment; clauses = clauses; watchers = s.watchers; numbers = s.numbers; starts = s.starts }) gone less) attended.Leaves
-    strayed less visits without =
-        Advancing.strayed (with_watches s gone list) gone place watch.id clauses id_below watchable numbers_inside numbered (with_list s.watchers gone less) visits
-        (unwatches_out s.watchers gone list less place stands without)
+    pub stale : (less : List Watch) → VisitsById s.assignment.values false_lit watch.id s.clauses clauses visit.Stale → IsWithout place list less
+        → Advances false_lit place (with_watches s false_lit list)
+        (with_watches (record { assignment = s.assignment; clauses = clauses; watchers = s.watchers; numbers = s.numbers; starts = s.starts }) false_lit less) visited.Leaves
+    stale less visits without =
+        Advancing.stale (with_watches s false_lit list) false_lit place watch.id clauses id_below watchable numbers_inside numbered (with_list s.watchers false_lit less) visits
+        (unwatches_out s.watchers false_lit list less place stands without)
 
     pub moved : (l other : Lit) (w : WatchersParts) (less : List Watch) → AreTrue s.assignment.values s.assignment.trail.items
-        → AttendsIn s.assignment.values gone watch.id s.clauses clauses (visit.Moves l other) → IsFalseIn s.assignment.values gone
+        → VisitsById s.assignment.values false_lit watch.id s.clauses clauses (visit.NewWatch l other) → IsFalseIn s.assignment.values false_lit
         → Watches s.watchers w l (record { id = watch.id; blocker = other }) → IsWithout place list less
-        → Advances gone place (with_watches s gone list)
-        (with_watches (record { assignment = s.assignment; clauses = clauses; watchers = w; numbers = s.numbers; starts = s.starts }) gone less) attended.Leaves
-    moved l other w less truths visits false_gone one without =
-        let apart : l ≢ gone = λ e. visits.attends.2.not_false (subst (IsFalseIn s.assignment.values) (sym e) false_gone) in
-        Advancing.leaves (with_watches s gone list) gone place watch.id clauses id_below watchable numbers_inside numbered l other (with_list w gone list) (with_list w gone less) truths visits false_gone
-        (watches_out s.watchers w gone l list (record { id = watch.id; blocker = other }) stands apart one)
-        (unwatches_out w gone list less place (subst (λ n. code_of gone < n) (sym one.one.size) stands) without)
+        → Advances false_lit place (with_watches s false_lit list)
+        (with_watches (record { assignment = s.assignment; clauses = clauses; watchers = w; numbers = s.numbers; starts = s.starts }) false_lit less) visited.Leaves
+    moved l other w less truths visits falsity one without =
+        let apart : l ≢ false_lit = λ e. visits.visits.2.not_false (subst (IsFalseIn s.assignment.values) (sym e) falsity) in
+        Advancing.leaves (with_watches s false_lit list) false_lit place watch.id clauses id_below watchable numbers_inside numbered l other (with_list w false_lit list) (with_list w false_lit less) truths visits falsity
+        (watches_out s.watchers w false_lit l list (record { id = watch.id; blocker = other }) stands apart one)
+        (unwatches_out w false_lit list less place (subst (λ n. code_of false_lit < n) (sym one.one.size) stands) without)
 
     pub forced : (l : Lit) (now : Assignment) (reason : Option ℕ) → AreTrue s.assignment.values s.assignment.trail.items → reason ≡ slice_get s.numbers.items watch.id
-        → AttendsIn s.assignment.values gone watch.id s.clauses clauses (visit.Forces l) → Assigns s.assignment now l reason
-        → Advances gone place (with_watches s gone list)
-        (with_watches (record { assignment = now; clauses = clauses; watchers = s.watchers; numbers = s.numbers; starts = s.starts }) gone list) attended.Stays
+        → VisitsById s.assignment.values false_lit watch.id s.clauses clauses (visit.UnitLit l) → Assigns s.assignment now l reason
+        → Advances false_lit place (with_watches s false_lit list)
+        (with_watches (record { assignment = now; clauses = clauses; watchers = s.watchers; numbers = s.numbers; starts = s.starts }) false_lit list) visited.Stays
     forced l now reason truths number visits assigns =
-        Advancing.forces (with_watches s gone list) gone place watch.id clauses id_below watchable numbers_inside numbered l now reason truths number visits assigns
+        Advancing.forces (with_watches s false_lit list) false_lit place watch.id clauses id_below watchable numbers_inside numbered l now reason truths number visits assigns
 
-    pub failed : AttendsIn s.assignment.values gone watch.id s.clauses clauses visit.Fails
-        → Advances gone place (with_watches s gone list)
-        (with_watches (record { assignment = s.assignment; clauses = clauses; watchers = s.watchers; numbers = s.numbers; starts = s.starts }) gone list) (attended.Fails watch.id)
-    failed visits = Advancing.fails (with_watches s gone list) gone place watch.id clauses id_below watchable numbers_inside numbered visits
+    pub failed : VisitsById s.assignment.values false_lit watch.id s.clauses clauses visit.Conflict
+        → Advances false_lit place (with_watches s false_lit list)
+        (with_watches (record { assignment = s.assignment; clauses = clauses; watchers = s.watchers; numbers = s.numbers; starts = s.starts }) false_lit list) (visited.Conflict watch.id)
+    failed visits = Advancing.fails (with_watches s false_lit list) false_lit place watch.id clauses id_below watchable numbers_inside numbered visits
 
-module _ (s : Search) (gone : Lit) (list : List Watch) (variable : gone.var < length s.assignment.values) where
-  module _ (watched : AreWatched (root_of s) (length s.assignment.values) s.clauses (with_list s.watchers gone list)) where
+module _ (s : Search) (false_lit : Lit) (list : List Watch) (variable : false_lit.var < length s.assignment.values) where
+  module _ (watched : AreWatched (root_of s) (length s.assignment.values) s.clauses (with_list s.watchers false_lit list)) where
     -- the blocking literals are of variables
     pub blockers_below : All (λ (w : Watch). w.blocker.var < length s.assignment.values) list
-    blockers_below k d small = blocker_below s gone list k (get_or list k d) watched variable small (get_or_default list k d (get_or list k d) small)
+    blockers_below k d small = blocker_below s false_lit list k (get_or list k d) watched variable small (get_or_default list k d (get_or list k d) small)
 
   -- the clauses are passed whose blocking literals are true
-  skips : (part : List Lit) (from count : ℕ) → Visiting part gone from (with_watches s gone list) → AllWithin (λ (w : Watch). IsTrueIn s.assignment.values w.blocker) list from (from + count)
-      → from + count ≤ length list → Visiting part gone (from + count) (with_watches s gone list)
+  skips : (part : List Lit) (from count : ℕ) → Visiting part false_lit from (with_watches s false_lit list) → AllWithin (λ (w : Watch). IsTrueIn s.assignment.values w.blocker) list from (from + count)
+      → from + count ≤ length list → Visiting part false_lit (from + count) (with_watches s false_lit list)
   skips part from zero v trues within =
       let same : from ≡ from + 0 = omega arith in
-      subst (λ n. Visiting part gone n (with_watches s gone list)) same v
+      subst (λ n. Visiting part false_lit n (with_watches s false_lit list)) same v
   skips part from (suc count) v trues within =
       let place = from + count in
       let watch = get_or list place no_watch in
       let inside : place < length list = omega (arith, within) in
-      let before : Visiting part gone place (with_watches s gone list) = skips part from count v (λ k d low high. trues k d low (omega (arith, high))) (omega (arith, within)) in
+      let before : Visiting part false_lit place (with_watches s false_lit list) = skips part from count v (λ k d low high. trues k d low (omega (arith, high))) (omega (arith, within)) in
       let true_blocker : IsTrueIn s.assignment.values watch.blocker = trues place no_watch (omega arith) (omega arith) in
-      let after = (passed s gone list place watch before.watched variable inside (get_or_default list place no_watch watch inside) true_blocker).2 part before in
+      let after = (passed s false_lit list place watch before.watched variable inside (get_or_default list place no_watch watch inside) true_blocker).2 part before in
       let same : place + 1 ≡ from + suc count = omega arith in
-      subst (λ n. Visiting part gone n (with_watches s gone list)) same after
+      subst (λ n. Visiting part false_lit n (with_watches s false_lit list)) same after
 
-  skipped : (part : List Lit) (from place : ℕ) → Visiting part gone from (with_watches s gone list) → from ≤ place → place ≤ length list
-      → AllWithin (λ (w : Watch). IsTrueIn s.assignment.values w.blocker) list from place → Visiting part gone place (with_watches s gone list)
+  skipped : (part : List Lit) (from place : ℕ) → Visiting part false_lit from (with_watches s false_lit list) → from ≤ place → place ≤ length list
+      → AllWithin (λ (w : Watch). IsTrueIn s.assignment.values w.blocker) list from place → Visiting part false_lit place (with_watches s false_lit list)
   skipped part from place v order within trues =
       let same : from + (place - from) ≡ place = omega (arith, order) in
-      subst (λ n. Visiting part gone n (with_watches s gone list)) same
+      subst (λ n. Visiting part false_lit n (with_watches s false_lit list)) same
       (skips part from (place - from) v (λ k d low high. trues k d low (omega (arith, high, same))) (omega (arith, same, within)))
 
-  module _ (seen : List Watch) (same : seen ≡ list) (part : List Lit) (from : ℕ) (v : Visiting part gone from (with_watches s gone list)) where
-    pub comes_to : (place : ℕ) → ComesTo s.assignment.values seen from place → Visiting part gone place (with_watches s gone list)
+  module _ (seen : List Watch) (same : seen ≡ list) (part : List Lit) (from : ℕ) (v : Visiting part false_lit from (with_watches s false_lit list)) where
+    pub comes_to : (place : ℕ) → ComesTo s.assignment.values seen from place → Visiting part false_lit place (with_watches s false_lit list)
     comes_to place at =
         let here : ComesTo s.assignment.values list from place = subst (λ ws. ComesTo s.assignment.values ws from place) same at in
         skipped part from place v here.order (omega (arith, here.within)) here.trues
 
     pub comes_behind : (place : ℕ) → from ≤ place → place ≡ length list → AllWithin (λ (w : Watch). IsTrueIn s.assignment.values w.blocker) seen from (length seen)
-        → Visiting part gone place (with_watches s gone list)
+        → Visiting part false_lit place (with_watches s false_lit list)
     comes_behind place order end trues =
         skipped part from place v order (omega (arith, end))
         (subst (AllWithin (λ (w : Watch). IsTrueIn s.assignment.values w.blocker) list from) (sym end) (subst (λ ws. AllWithin (λ (w : Watch). IsTrueIn s.assignment.values w.blocker) ws from (length ws)) same trues))
 
 -- a search is that with its own list
-pub with_taken : (s : Search) (gone : Lit) (w : WatchersParts) (other list : List Watch) → w ≡ with_list s.watchers gone other → list ≡ watches_of s.watchers gone
-    → with_watches (record { assignment = s.assignment; clauses = s.clauses; watchers = w; numbers = s.numbers; starts = s.starts }) gone list ≡ s
-with_taken s gone w other list out is =
-    let back : with_list w gone list ≡ s.watchers =
-    ap (λ v. with_list v gone list) out ∙ with_twice s.watchers gone other list ∙ ap (with_list s.watchers gone) is ∙ with_own s.watchers gone in
+pub with_taken : (s : Search) (false_lit : Lit) (w : WatchersParts) (other list : List Watch) → w ≡ with_list s.watchers false_lit other → list ≡ watches_of s.watchers false_lit
+    → with_watches (record { assignment = s.assignment; clauses = s.clauses; watchers = w; numbers = s.numbers; starts = s.starts }) false_lit list ≡ s
+with_taken s false_lit w other list out is =
+    let back : with_list w false_lit list ≡ s.watchers =
+    ap (λ v. with_list v false_lit list) out ∙ with_twice s.watchers false_lit other list ∙ ap (with_list s.watchers false_lit) is ∙ with_own s.watchers false_lit in
     let make : WatchersParts → Search = λ v. record { assignment = s.assignment; clauses = s.clauses; watchers = v; numbers = s.numbers; starts = s.starts } in
     ap make back
 
-goes_of : (gone : Lit) (old new : Search) (failed : Option ℕ) → Settles gone old new failed → GoesOn old new
-goes_of gone old new (Some id) settles = settles.0
-goes_of gone old new None settles = settles.0
+goes_of : (false_lit : Lit) (old new : Search) (failed : Option ℕ) → PropagatesLit false_lit old new failed → GoesOn old new
+goes_of false_lit old new (Some id) propagates = propagates.0
+goes_of false_lit old new None propagates = propagates.0
 
 -- the clauses are watched after all were visited
-whole_after : (gone : Lit) (old new : Search) (failed : Option ℕ) → AreWatched (root_of old) (length old.assignment.values) old.clauses old.watchers → AreTrue old.assignment.values old.assignment.trail.items
-    → IsFalseIn old.assignment.values gone → Settles gone old new failed → AreWatched (root_of new) (length new.assignment.values) new.clauses new.watchers
-whole_after gone old new (Some id) watched truths false_gone settles = (settles.2 (record { watched = watched; truths = truths })).watched
-whole_after gone old new None watched truths false_gone settles = (settles.1 [] (starts gone old watched truths false_gone)).2.watched
+whole_after : (false_lit : Lit) (old new : Search) (failed : Option ℕ) → AreWatched (root_of old) (length old.assignment.values) old.clauses old.watchers → AreTrue old.assignment.values old.assignment.trail.items
+    → IsFalseIn old.assignment.values false_lit → PropagatesLit false_lit old new failed → AreWatched (root_of new) (length new.assignment.values) new.clauses new.watchers
+whole_after false_lit old new (Some id) watched truths falsity propagates = (propagates.2 (record { watched = watched; truths = truths })).watched
+whole_after false_lit old new None watched truths falsity propagates = (propagates.1 [] (starts false_lit old watched truths falsity)).2.watched
 
 -- so the list has its place still
-pub standing_after : (old new : Search) (gone : Lit) (list : List Watch) (failed : Option ℕ) → AreWatched (root_of old) (length old.assignment.values) old.clauses old.watchers
-    → AreTrue old.assignment.values old.assignment.trail.items → IsFalseIn old.assignment.values gone → gone.var < length old.assignment.values → Settles gone old (with_watches new gone list) failed
-    → code_of gone < length new.watchers.lists
-standing_after old new gone list failed watched truths false_gone variable settles =
-    standing new gone list (whole_after gone old (with_watches new gone list) failed watched truths false_gone settles)
-    (subst (λ n. gone.var < n) (sym (goes_of gone old (with_watches new gone list) failed settles).variables) variable)
+pub standing_after : (old new : Search) (false_lit : Lit) (list : List Watch) (failed : Option ℕ) → AreWatched (root_of old) (length old.assignment.values) old.clauses old.watchers
+    → AreTrue old.assignment.values old.assignment.trail.items → IsFalseIn old.assignment.values false_lit → false_lit.var < length old.assignment.values → PropagatesLit false_lit old (with_watches new false_lit list) failed
+    → code_of false_lit < length new.watchers.lists
+standing_after old new false_lit list failed watched truths falsity variable propagates =
+    standing new false_lit list (whole_after false_lit old (with_watches new false_lit list) failed watched truths falsity propagates)
+    (subst (λ n. false_lit.var < n) (sym (goes_of false_lit old (with_watches new false_lit list) failed propagates).variables) variable)
 
 -- the number of clauses that are visited
-pub len_of : (s : Search) (gone : Lit) (list : List Watch) (place : ℕ) → Visiting [] gone place (with_watches s gone list) → gone.var < length s.assignment.values
-    → length (watches_of (with_list s.watchers gone list) gone) ≡ length list
-len_of s gone list place v variable = ap length (with_here s.watchers gone list (standing s gone list v.watched variable))
+pub len_of : (s : Search) (false_lit : Lit) (list : List Watch) (place : ℕ) → Visiting [] false_lit place (with_watches s false_lit list) → false_lit.var < length s.assignment.values
+    → length (watches_of (with_list s.watchers false_lit list) false_lit) ≡ length list
+len_of s false_lit list place v variable = ap length (with_here s.watchers false_lit list (standing s false_lit list v.watched variable))

@@ -9,7 +9,7 @@ use Rattle.bt_watch.specs.declared.search.Search.{Search}
 use Rattle.bt_watch.specs.Watched.{no_lit}
 use Rattle.bt_watch.specs.Keeping.{kept_at, AreWatched, IsAtRest}
 use Rattle.bt_watch.specs.Levels.{start_of, front_of, AreLevels, IsOrdered, IsHeld, among_watched, alone, Backjumps}
-use Rattle.bt_watch.specs.Propagating.{GoesOn, IsKept, IsSettledTo, IsWhole, root_of}
+use Rattle.bt_watch.specs.Propagating.{GoesOn, IsKept, IsPropagatedTo, IsWhole, root_of}
 use Rattle.bt_watch.specs.Reasons.{AreSame, lit_at, IsReason, AreNumbered, IsReasoned}
 use Rattle.bt_watch.specs.Propagating as kept
 use Rattle.bt_cnf.proofs.Lists.{past, lt_or, lt_or_eq}
@@ -156,9 +156,9 @@ module _ (all : List (List Lit)) (old new : Search) (level : ℕ) (ordered : IsO
       among_watched id (subst (λ cs. id < length cs) (sym back.clauses) small) (subst (λ cs. AreSame clause (kept_at cs id)) (sym back.clauses) same)
   back_held clause (alone l among only true_l) = alone l among only (root_back l true_l)
 
-  -- nothing is unsettled there
-  pub back_settled : level < length old.starts.items → IsSettledTo (length new.assignment.trail.items) new
-  back_settled known = record {
+  -- all is at rest there
+  pub back_propagated : level < length old.starts.items → IsPropagatedTo (length new.assignment.trail.items) new
+  back_propagated known = record {
     whole = back_whole;
     part = new.assignment.trail.items;
     part_in = all_here new.assignment.trail.items;

@@ -1,6 +1,6 @@
 pub mod Adding
 pub mod Advancing
-pub mod Attended
+pub mod VisitedClause
 pub mod Backjumped
 pub mod Chosen
 pub mod Codes
@@ -13,7 +13,7 @@ pub mod Longer
 pub mod Propagated
 pub mod Reasoning
 pub mod Roots
-pub mod Settled
+pub mod FullyPropagated
 pub mod Unset
 pub mod Visiting
 pub mod Watches

@@ -71,12 +71,12 @@ empty_whole vars s is =
     none_some : (b : Bool) → None ≡ Some b → ⊥
     none_some b e = cc
 
--- all clauses are kept, and nothing is said to be settled
+-- all clauses are kept, and nothing is said to be propagated
 pub all_loaded : (all : List (List Lit)) (count : ℕ) (s : Search) → HasLoaded all count s → length all ≤ count → IsReady all 0 s
 all_loaded all count s is whole = record {
   ordered = is.ordered;
   held = λ k d small. subst (IsHeld s) (get_or_default all k [] d small) (is.held k (omega (arith, small, whole)));
-  settles = record {
+  propagates = record {
     whole = is.ordered.whole;
     part = [];
     part_in = nothing (Contains s.assignment.trail.items) [] refl;

@@ -14,19 +14,19 @@ use Rattle.bt_cnf.proofs.Lists.{got_at, all_of, all_more}
 use Rattle.bt_watch.proofs.Reasoning.{got_none}
 use Rattle.bt_watch.proofs.Leveled
 
-module _ (all : List (List Lit)) (settled : ℕ) (old new : Search) (ready : IsReady all settled old) where
+module _ (all : List (List Lit)) (propagated : ℕ) (old new : Search) (ready : IsReady all propagated old) where
   pub inferred_none : Propagates old new None → IsReady all (length new.assignment.trail.items) new
-  inferred_none (goes, settles, all_settled) = record {
-    ordered = Leveled.goes_ordered all old new ready.ordered goes settles.whole;
+  inferred_none (goes, propagates, all_propagated) = record {
+    ordered = Leveled.goes_ordered all old new ready.ordered goes propagates.whole;
     held = all_more (IsHeld old) (IsHeld new) all (Leveled.goes_held all old new ready.ordered goes) ready.held;
-    settles = settles;
+    propagates = propagates;
   }
 
-  pub propagated_some : (id : ℕ) (found : Option ℕ) → Propagates old new (Some id) → found ≡ slice_get new.numbers.items id → (settled' : ℕ) → Stands all settled' new found
-  propagated_some id None (goes, fails, whole) is settled' =
+  pub propagated_some : (id : ℕ) (found : Option ℕ) → Propagates old new (Some id) → found ≡ slice_get new.numbers.items id → (propagated' : ℕ) → Stands all propagated' new found
+  propagated_some id None (goes, fails, whole) is propagated' =
       let ordered = Leveled.goes_ordered all old new ready.ordered goes whole in
       absurd (got_none new.numbers.items id (sym is) (subst (λ n. id < n) (sym ordered.numbered.count) fails.0))
-  propagated_some id (Some n) (goes, fails, whole) is settled' =
+  propagated_some id (Some n) (goes, fails, whole) is propagated' =
       let ordered = Leveled.goes_ordered all old new ready.ordered goes whole in
       let number : get_or new.numbers.items id 0 ≡ n = got_at new.numbers.items id 0 n (sym is) in
       let same : AreSame (clause_at all n) (kept_at new.clauses id) = subst (λ k. AreSame (clause_at all k) (kept_at new.clauses id)) number (ordered.numbered.same id fails.0) in

@@ -11,7 +11,7 @@ use Rattle.bt_watch.specs.declared.assignment.Assignment.{Assignment}
 use Rattle.bt_watch.specs.declared.search.Search.{Search}
 use Rattle.bt_watch.specs.Assigning.{Assigns}
 use Rattle.bt_watch.specs.Watched.{no_lit}
-use Rattle.bt_watch.specs.inner.Attending.{KeepsPair, Leaves}
+use Rattle.bt_watch.specs.inner.VisitingClause.{KeepsPair, Leaves}
 use Rattle.bt_watch.specs.Keeping.{kept_at, AreTrue}
 use Rattle.bt_watch.specs.Reasons.{AreSame, lit_at, IsReason, AreNumbered, AreReasons}
 use Rattle.bt_cnf.proofs.Lists.{got_at, all_of, lt_or_eq}

@@ -79,11 +79,11 @@ watch_grows w w' l m watch x one among =
     ]
 
 -- what holds of all on the lists holds where one is taken off
-pub all_less : (P : Watch → Type 0) (w w' : WatchersParts) (gone : Lit) (place : ℕ) → Unwatches w w' gone place → place < length (watches_of w gone)
+pub all_less : (P : Watch → Type 0) (w w' : WatchersParts) (false_lit : Lit) (place : ℕ) → Unwatches w w' false_lit place → place < length (watches_of w false_lit)
     → ((l : Lit) → All P (watches_of w l)) → (l : Lit) → All P (watches_of w' l)
-all_less P w w' gone place un inside all l =
-    elim (lit_or l gone) [
-      | inl same ↦ subst (λ k. All P (watches_of w' k)) (sym same) (without_all P place (watches_of w gone) (watches_of w' gone) un.without inside (all gone))
+all_less P w w' false_lit place un inside all l =
+    elim (lit_or l false_lit) [
+      | inl same ↦ subst (λ k. All P (watches_of w' k)) (sym same) (without_all P place (watches_of w false_lit) (watches_of w' false_lit) un.without inside (all false_lit))
       | inr differs ↦ subst (All P) (sym (un.one.others l differs)) (all l)
     ]
 

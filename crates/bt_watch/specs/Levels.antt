@@ -7,7 +7,7 @@ use Rattle.bt_cnf.specs.Units.{clause_at}
 use Rattle.bt_watch.specs.declared.assignment.Assignment.{Assignment}
 use Rattle.bt_watch.specs.declared.search.Search.{Search}
 use Rattle.bt_watch.specs.Keeping.{kept_at, AreTrue, IsAtRest}
-use Rattle.bt_watch.specs.Propagating.{IsWhole, IsSettledTo}
+use Rattle.bt_watch.specs.Propagating.{IsWhole, IsPropagatedTo}
 use Rattle.bt_watch.specs.Reasons.{AreSame, AreNumbered, IsReasoned, lit_at}
 use Rattle.bt_watch.specs.Assigning.{Assigns}
 
@@ -19,7 +19,7 @@ start_of s level = slice_index_or s.starts.items level (length s.assignment.trai
 abbrev pub front_of : Search → ℕ → List Lit
 front_of s level = take (start_of s level) s.assignment.trail.items
 
--- levels begin at ascending places of the trail, and where each began nothing was unsettled
+-- levels begin at ascending places of the trail, and where each began all that was true had been propagated
 pub record AreLevels (s : Search) : Type 0 where
   pub within : (j : ℕ) → j < length s.starts.items → start_of s j < length s.assignment.trail.items
   pub ascend : (i j : ℕ) → i < j → j < length s.starts.items → start_of s i < start_of s j
@@ -38,11 +38,11 @@ pub data IsHeld (s : Search) (clause : List Lit) : Type 0 where
   among_watched : (id : ℕ) → id < length s.clauses → AreSame clause (kept_at s.clauses id) → IsHeld s clause
   alone : (l : Lit) → Contains clause l → All (λ m. m ≡ l) clause → Contains (front_of s 0) l → IsHeld s clause
 
--- all clauses are kept, and nothing is unsettled by the first so many literals of the trail
-pub record IsReady (all : List (List Lit)) (settled : ℕ) (s : Search) : Type 0 where
+-- all clauses are kept, and the first so many literals of the trail were propagated
+pub record IsReady (all : List (List Lit)) (propagated : ℕ) (s : Search) : Type 0 where
   pub ordered : IsOrdered all s
   pub held : All (IsHeld s) all
-  pub settles : IsSettledTo settled s
+  pub propagates : IsPropagatedTo propagated s
 
 -- all literals of the clause with this number are false; where something was chosen, all clauses are kept
 pub record IsInConflict (all : List (List Lit)) (number : ℕ) (s : Search) : Type 0 where
@@ -87,5 +87,5 @@ pub record BeginsLevel (l : Lit) (old new : Search) : Type 0 where
 
 -- where the search stands: all literals of a clause are false, or none is known to be so
 abbrev pub Stands : List (List Lit) → ℕ → Search → Option ℕ → Type 0
-Stands all settled s None = IsReady all settled s
-Stands all settled s (Some conflict) = IsInConflict all conflict s
+Stands all propagated s None = IsReady all propagated s
+Stands all propagated s (Some conflict) = IsInConflict all conflict s

@@ -4,7 +4,7 @@ use Rattle.std.specs.List.{All}
 use Rattle.bt_cnf.specs.declared.literal.Lit.{Lit}
 use Rattle.bt_cnf.specs.Truths.{IsFalseIn, unset}
 use Rattle.bt_cnf.specs.Units.{opposite}
-use Rattle.bt_watch.specs.Propagation.{IsSettled}
+use Rattle.bt_watch.specs.Propagation.{IsFullyPropagated}
 use Rattle.bt_watch.specs.declared.search.Search.{Search}
 use Rattle.bt_watch.specs.Keeping.{kept_at, AreWatched, AreTrue, IsAtRest}
 use Rattle.bt_watch.specs.Reasons.{AreSame, AreNumbered, IsReasoned}
@@ -35,8 +35,8 @@ pub record IsWhole (s : Search) : Type 0 where
 abbrev pub FailsAt : Search → ℕ → Type 0
 FailsAt s id = (id < length s.clauses) × All (IsFalseIn s.assignment.values) (kept_at s.clauses id)
 
--- nothing is unsettled by the first so many literals of the trail
-pub record IsSettledTo (head : ℕ) (s : Search) : Type 0 where
+-- the first so many literals of the trail were propagated: by them each clause is at rest
+pub record IsPropagatedTo (head : ℕ) (s : Search) : Type 0 where
   pub whole : IsWhole s
   pub part : List Lit
   pub part_in : All (Contains s.assignment.trail.items) part
@@ -54,11 +54,11 @@ pub data IsKept (s : Search) (clause : List Lit) : Type 0 where
 abbrev pub falses_of : Search → List Lit
 falses_of s = map opposite s.assignment.trail.items
 
--- propagation came to its end: all is settled, and of the clauses that were given none is false and none is a unit;
+-- propagation came to its end: all is propagated, and of the clauses that were given none is false and none is a unit;
 -- or it came to a clause whose literals are all false
 abbrev pub Propagates : Search → Search → Option ℕ → Type 0
-Propagates old new None = GoesOn old new × IsSettledTo (length new.assignment.trail.items) new
-    × ((given : List (List Lit)) → All (IsKept old) given → IsSettled given (falses_of new))
+Propagates old new None = GoesOn old new × IsPropagatedTo (length new.assignment.trail.items) new
+    × ((given : List (List Lit)) → All (IsKept old) given → IsFullyPropagated given (falses_of new))
 Propagates old new (Some id) = GoesOn old new × FailsAt new id × IsWhole new
 
 -- one more clause is watched, behind the others, and its number is known; nothing else has changed

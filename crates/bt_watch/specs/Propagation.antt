@@ -30,6 +30,6 @@ pub record MakesTrue (clauses : List (List Lit)) (begun : List Lit) (l : Lit) : 
   pub holds : Contains falses (opposite l)
 
 -- where these literals are false, no clause is false and none is a unit: propagation has come to its end
-pub record IsSettled (clauses : List (List Lit)) (falses : List Lit) : Type 0 where
+pub record IsFullyPropagated (clauses : List (List Lit)) (falses : List Lit) : Type 0 where
   pub no_false : All (λ clause. IsFalseClause falses clause → ⊥) clauses
   pub no_unit : All (λ clause. (l : Lit) → IsUnit falses clause l → ⊥) clauses

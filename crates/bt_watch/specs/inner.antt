@@ -1,9 +1,9 @@
 -- How clauses are watched and visited, which no public clause cites.
-pub mod Attending
-pub mod AttendingIn
+pub mod VisitingClause
+pub mod VisitingById
 pub mod Loads
 pub mod Roots
-pub mod Settling
+pub mod PropagatingLit
 pub mod Visiting
 pub mod Visits
 pub mod Watchers

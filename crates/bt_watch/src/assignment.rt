@@ -2,7 +2,7 @@
 ghost use Rattle.std.specs.Prelude.{◌≡◌, ◌<◌, length, slice_set, OnOk};
 ghost use Rattle.bt_watch.specs.Assigning.{Assigns};
 
-use bt_cnf::{Lit, Values, Var, Worth};
+use bt_cnf::{Lit, Truth, Values, Var};
 use std::alloc::AllocError;
 
 /// The values of the variables, and the literals that are true, in the order in which they were set.
@@ -28,7 +28,7 @@ pub fn assign(
     set_place(&mut assignment.places, lit.var, assignment.trail.len());
     assignment.trail.push(*lit)?;
     assignment.reasons.push(reason)?;
-    *assignment.values.get_mut(lit.var) = Worth::set(lit.positive);
+    *assignment.values.get_mut(lit.var) = Truth::set(lit.positive);
     Ok(())
 }
 

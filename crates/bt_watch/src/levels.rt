@@ -6,7 +6,7 @@ ghost use Rattle.std.specs.List.Sorted.{IsNonDecreasing};
 
 use crate::assignment::{Assignment, assign};
 use crate::search::Search;
-use bt_cnf::{Lit, Worth};
+use bt_cnf::{Lit, Truth};
 use std::alloc::AllocError;
 
 /// Begins a level with a literal that is chosen.
@@ -27,7 +27,7 @@ fn unassign(assignment: &mut Assignment, size: usize)
 {
     while assignment.trail.len() > size {
         if let Some(lit) = assignment.trail.pop() {
-            *assignment.values.get_mut(lit.var) = Worth::unset();
+            *assignment.values.get_mut(lit.var) = Truth::unset();
         }
     }
     assignment.reasons.truncate(size);

@@ -9,7 +9,7 @@ use crate::assignment::{Assignment, assign};
 use crate::search::{Search, keep};
 use crate::watchers::{Counts, Watchers};
 use bt_arena::{Arena, Pool};
-use bt_cnf::{ClauseId, Formula, Lit, Values, Worth, is_lit_false, is_lit_true};
+use bt_cnf::{ClauseId, Formula, Lit, Truth, Values, is_lit_false, is_lit_true};
 use std::alloc::{AllocError, Global};
 
 /// The values of so many variables, of which none is set.
@@ -18,7 +18,7 @@ fn unset_values(alloc: Global, vars: usize) -> Result<Values, AllocError>
 {
     let mut values = Arena::new(alloc)?;
     for _ in 0..vars {
-        values.add(Worth::unset())?;
+        values.add(Truth::unset())?;
     }
     Ok(values)
 }
@@ -164,7 +164,9 @@ fn load_clauses(
     Ok(None)
 }
 
-/// A search whose clauses are those of a formula, up to one whose literals are all false, and the number of such a clause.
+/// A search whose clauses are those of a formula, up to one whose literals are all false, and the number of such a
+/// clause. Nothing is propagated yet: clauses are watched even where their literals are false already, and the first
+/// propagation goes through the whole trail.
 pub fn load_search(alloc: Global, formula: &Formula) -> Result<(Search, Option<usize>), AllocError>
     ensures stands { IfOk result (λ work. Stands formula.now.clauses 0 work.0 work.1) }
     ensures same { IfOk result (λ work. length work.0.assignment.values ≡ formula.now.vars) }

@@ -1,18 +1,19 @@
-//! Propagation over watched clauses.
+//! Propagation over watched clauses: two watched literals each (Moskewicz and others, in Chaff) and a blocking one
+//! (Sörensson and Eén, in MiniSat).
 ghost use Rattle.std.specs.Prelude.{◌≡◌, ◌<◌, ◌≤◌, length, IfOk, OnOk, IsTrue, Some, slice_get, vec_len, Contains};
 ghost use Rattle.std.specs.List.{All};
 ghost use Rattle.bt_watch.specs.Keeping.{AreWatched, AreTrue, IsWatchable, kept_at};
-ghost use Rattle.bt_watch.specs.inner.AttendingIn.{AttendsIn};
+ghost use Rattle.bt_watch.specs.inner.VisitingById.{VisitsById};
 ghost use Rattle.bt_cnf.specs.Truths.{IsFalseIn};
 ghost use Rattle.bt_watch.specs.inner.Watchers.{with_list};
 ghost use Rattle.bt_watch.specs.inner.Roots.{bound_of};
-ghost use Rattle.bt_watch.specs.inner.Settling.{Advances, Finds, Settles, with_watches};
-ghost use Rattle.bt_watch.specs.Propagating.{IsSettledTo, Keeps, Propagates, root_of};
+ghost use Rattle.bt_watch.specs.inner.PropagatingLit.{Advances, Finds, PropagatesLit, with_watches};
+ghost use Rattle.bt_watch.specs.Propagating.{IsPropagatedTo, Keeps, Propagates, root_of};
 
 use crate::assignment::{Assignment, assign};
 use crate::clause_pool::{ClausePool, PackedId, Watch};
 use crate::opposites::negation;
-use crate::watched::{Visit, attend};
+use crate::watched::{Visit, visit_clause};
 use crate::watchers::Watchers;
 use bt_cnf::{Lit, Packed, Values, pack_all};
 use std::alloc::AllocError;
@@ -32,13 +33,13 @@ pub struct Search {
 
 /// What became of a clause on the list of a literal that is false.
 #[derive(Clone, Copy)]
-pub enum Attended {
+pub enum Visited {
     /// It stays on the list.
     Stays,
     /// It is on the list no longer.
     Leaves,
     /// All its literals are false.
-    Fails(PackedId),
+    Conflict(PackedId),
 }
 
 /// What comes next on the list of a literal that is false.
@@ -53,14 +54,14 @@ pub enum Next {
 }
 
 /// Visits a clause where a literal has become false.
-fn attend_in(clauses: &mut ClausePool, id: PackedId, gone: &Packed, values: &Values) -> Visit
+fn visit_by_id(clauses: &mut ClausePool, id: PackedId, false_lit: &Packed, values: &Values) -> Visit
     requires id { id < length clauses.old }
     requires watchable { IsWatchable (length values.now) (kept_at clauses.old id) }
-    requires gone { IsFalseIn values.now gone.now }
-    ensures { AttendsIn values.now gone.now id clauses.old clauses.new result }
+    requires false_lit { IsFalseIn values.now false_lit.now }
+    ensures { VisitsById values.now false_lit.now id clauses.old clauses.new result }
 {
     let id = id.unpack(clauses);
-    attend(clauses.slice_mut(id), gone, values)
+    visit_clause(clauses.slice_mut(id), false_lit, values)
 }
 
 /// The number of a kept clause.
@@ -103,7 +104,7 @@ fn is_at(trail: &[Lit], place: usize, lit: &Packed) -> bool
 }
 
 /// Finds the next clause to deal with on a list, from a place on. Most blocking literals are true, and the walk
-/// past those reads nothing else but where they stand.
+/// past those reads nothing else but where they stand, since propagation waits for memory.
 fn find_next(search: &Search, root: usize, list: &[Watch], from: usize) -> Next
     requires bound { root ≡ bound_of search.now.starts.items }
     requires variables { All (λ w. w.blocker.var < length search.now.assignment.values) list.now }
@@ -125,61 +126,67 @@ fn find_next(search: &Search, root: usize, list: &[Watch], from: usize) -> Next
 }
 
 /// Visits the clause at a place of the list of a literal that is false, which was taken out of the lists.
-pub fn attend_at(
+pub fn visit_at(
     search: &mut Search,
-    gone: &Packed,
+    false_lit: &Packed,
     list: &mut Vec<Watch>,
     place: usize,
-) -> Result<Attended, AllocError>
+) -> Result<Visited, AllocError>
     requires watched { AreWatched (root_of search.old) (length search.old.assignment.values)
-        search.old.clauses (with_list search.old.watchers gone.now list.old.items) }
+        search.old.clauses (with_list search.old.watchers false_lit.now list.old.items) }
     requires truths { AreTrue search.old.assignment.values search.old.assignment.trail.items }
-    requires gone { IsFalseIn search.old.assignment.values gone.now }
-    requires variable { gone.now.var < length search.old.assignment.values }
+    requires false_lit { IsFalseIn search.old.assignment.values false_lit.now }
+    requires variable { false_lit.now.var < length search.old.assignment.values }
     requires place { place < vec_len list.old }
-    ensures { IfOk result (Advances gone.now place (with_watches search.old gone.now list.old.items)
-        (with_watches search.new gone.now list.new.items)) }
+    ensures { IfOk result (Advances false_lit.now place (with_watches search.old false_lit.now list.old.items)
+        (with_watches search.new false_lit.now list.new.items)) }
 {
     let id = list[place].id;
-    match attend_in(&mut search.clauses, id, gone, &search.assignment.values) {
-        Visit::Strays => {
+    match visit_by_id(
+        &mut search.clauses,
+        id,
+        false_lit,
+        &search.assignment.values,
+    ) {
+        Visit::Stale => {
             let _ = list.swap_remove(place);
-            Ok(Attended::Leaves)
+            Ok(Visited::Leaves)
         }
-        Visit::Stays(blocker) => {
+        Visit::Satisfied(blocker) => {
             list[place] = Watch { id, blocker };
-            Ok(Attended::Stays)
+            Ok(Visited::Stays)
         }
-        Visit::Moves(lit, blocker) => {
+        Visit::NewWatch(lit, blocker) => {
             search.watchers.watch(&lit, Watch { id, blocker })?;
             let _ = list.swap_remove(place);
-            Ok(Attended::Leaves)
+            Ok(Visited::Leaves)
         }
-        Visit::Forces(lit) => {
+        Visit::UnitLit(lit) => {
             let lit = lit.unpack(&search.assignment.values);
             let reason = number_of(&search.numbers, id);
             assign(&mut search.assignment, &lit, reason)?;
-            Ok(Attended::Stays)
+            Ok(Visited::Stays)
         }
-        Visit::Fails => Ok(Attended::Fails(id)),
+        Visit::Conflict => Ok(Visited::Conflict(id)),
     }
 }
 
 /// Visits all clauses on the list of a literal that is false, which was taken out of the lists, but for those
-/// whose blocking literal is true: where that one is true for good, the clause leaves the list. Tells the
-/// clause whose literals are all false, where there is one.
-fn settle_list(
+/// whose blocking literal is true: where that one was true before the first choice, no choice takes it back, and
+/// the clause leaves the list, which leaves a third of the visits. Tells the clause whose literals are all false,
+/// where there is one.
+fn visit_list(
     search: &mut Search,
-    gone: &Packed,
+    false_lit: &Packed,
     list: &mut Vec<Watch>,
 ) -> Result<Option<PackedId>, AllocError>
     requires watched { AreWatched (root_of search.old) (length search.old.assignment.values)
-        search.old.clauses (with_list search.old.watchers gone.now list.old.items) }
+        search.old.clauses (with_list search.old.watchers false_lit.now list.old.items) }
     requires truths { AreTrue search.old.assignment.values search.old.assignment.trail.items }
-    requires gone { IsFalseIn search.old.assignment.values gone.now }
-    requires variable { gone.now.var < length search.old.assignment.values }
-    ensures { IfOk result (Settles gone.now (with_watches search.old gone.now list.old.items)
-        (with_watches search.new gone.now list.new.items)) }
+    requires false_lit { IsFalseIn search.old.assignment.values false_lit.now }
+    requires variable { false_lit.now.var < length search.old.assignment.values }
+    ensures { IfOk result (PropagatesLit false_lit.now (with_watches search.old false_lit.now list.old.items)
+        (with_watches search.new false_lit.now list.new.items)) }
 {
     let root = root_bound(&search.starts);
     let mut from = 0;
@@ -190,10 +197,10 @@ fn settle_list(
                 let _ = list.swap_remove(place);
                 from = place;
             }
-            Next::Open(place) => match attend_at(search, gone, list, place)? {
-                Attended::Stays => from = place + 1,
-                Attended::Leaves => from = place,
-                Attended::Fails(id) => return Ok(Some(id)),
+            Next::Open(place) => match visit_at(search, false_lit, list, place)? {
+                Visited::Stays => from = place + 1,
+                Visited::Leaves => from = place,
+                Visited::Conflict(id) => return Ok(Some(id)),
             },
         }
     }
@@ -203,32 +210,35 @@ fn settle_list(
 /// Visits all clauses that watch a literal that is false. Tells the clause whose literals are all false,
 /// where there is one. The literal's list is taken out meanwhile, since no clause comes to watch a literal
 /// that is false; so it is walked without a look at the others.
-pub fn settle(search: &mut Search, gone: &Packed) -> Result<Option<PackedId>, AllocError>
+pub fn propagate_lit(
+    search: &mut Search,
+    false_lit: &Packed,
+) -> Result<Option<PackedId>, AllocError>
     requires watched { AreWatched (root_of search.old) (length search.old.assignment.values)
         search.old.clauses search.old.watchers }
     requires truths { AreTrue search.old.assignment.values search.old.assignment.trail.items }
-    requires gone { IsFalseIn search.old.assignment.values gone.now }
-    requires variable { gone.now.var < length search.old.assignment.values }
-    ensures { IfOk result (Settles gone.now search.old search.new) }
+    requires false_lit { IsFalseIn search.old.assignment.values false_lit.now }
+    requires variable { false_lit.now.var < length search.old.assignment.values }
+    ensures { IfOk result (PropagatesLit false_lit.now search.old search.new) }
 {
     let alloc = search.numbers.allocator().clone()?;
-    let mut list = search.watchers.replace(gone, Vec::new(alloc));
-    let failed = settle_list(search, gone, &mut list)?;
-    let _ = search.watchers.replace(gone, list);
+    let mut list = search.watchers.replace(false_lit, Vec::new(alloc));
+    let failed = visit_list(search, false_lit, &mut list)?;
+    let _ = search.watchers.replace(false_lit, list);
     Ok(failed)
 }
 
-/// Propagates the literals that are true, the first so many of which are settled. Where
+/// Propagates the literals that are true, the first so many of which were propagated before. Where
 /// it ends without a clause whose literals are all false, none of the clauses that were given is false, and
-/// none is a unit. Else it tells such a clause.
-pub fn propagate(search: &mut Search, settled: usize) -> Result<Option<PackedId>, AllocError>
-    requires { IsSettledTo settled search.old }
+/// none is a unit. Else it tells such a clause. It ends since each literal that it adds sets one more variable.
+pub fn propagate(search: &mut Search, propagated: usize) -> Result<Option<PackedId>, AllocError>
+    requires { IsPropagatedTo propagated search.old }
     ensures { IfOk result (Propagates search.old search.new) }
 {
-    let mut head = settled;
+    let mut head = propagated;
     while head < search.assignment.trail.len() {
-        let gone = Packed::pack(&negation(&search.assignment.trail[head]))?;
-        if let Some(id) = settle(search, &gone)? {
+        let false_lit = Packed::pack(&negation(&search.assignment.trail[head]))?;
+        if let Some(id) = propagate_lit(search, &false_lit)? {
             return Ok(Some(id));
         }
         head += 1;

@@ -2,7 +2,7 @@
 //! two is false.
 ghost use Rattle.std.specs.Prelude.{◌≡◌, ◌<◌, ◌≤◌, length};
 ghost use Rattle.bt_cnf.specs.Formulas.{LitsBelow};
-ghost use Rattle.bt_watch.specs.inner.Attending.{Attends};
+ghost use Rattle.bt_watch.specs.inner.VisitingClause.{VisitsClause};
 ghost use Rattle.bt_cnf.specs.Truths.{IsFalseIn};
 ghost use Rattle.bt_watch.specs.inner.Visits.{BringsSecond, CanWatch, ReplacesSecond, Visits};
 
@@ -11,39 +11,39 @@ use bt_cnf::{Packed, Values};
 /// What a clause does where a literal has become false.
 #[derive(Clone, Copy)]
 pub enum Visit {
-    /// It doesn't watch the literal.
-    Strays,
-    /// Its other watched literal, this one, is true.
-    Stays(Packed),
+    /// It doesn't watch the literal any more.
+    Stale,
+    /// It is true by its other watched literal, this one.
+    Satisfied(Packed),
     /// It watches the first literal from now on, which isn't false, in place of the false one. The second is
     /// its other watched literal.
-    Moves(Packed, Packed),
-    /// It is a unit, and makes this literal true.
-    Forces(Packed),
+    NewWatch(Packed, Packed),
+    /// It is a unit: this literal has no value, and all others are false.
+    UnitLit(Packed),
     /// All its literals are false.
-    Fails,
+    Conflict,
 }
 
 /// What the clause does where a literal has become false. Where it watches it still, it stands second then.
-pub fn attend(lits: &mut [Packed], gone: &Packed, values: &Values) -> Visit
+pub fn visit_clause(lits: &mut [Packed], false_lit: &Packed, values: &Values) -> Visit
     requires two { 2 ≤ length lits.old }
     requires variables { LitsBelow (length values.now) lits.old }
-    requires gone { IsFalseIn values.now gone.now }
-    ensures { Attends values.now gone.now lits.old lits.new result }
+    requires false_lit { IsFalseIn values.now false_lit.now }
+    ensures { VisitsClause values.now false_lit.now lits.old lits.new result }
 {
-    bring_second(lits, gone);
-    if !lits[1].is(gone) {
-        return Visit::Strays;
+    bring_second(lits, false_lit);
+    if !lits[1].is(false_lit) {
+        return Visit::Stale;
     }
     visit_second(lits, values)
 }
 
 /// Puts a literal into the second place, in exchange, where it stands in the first.
-fn bring_second(lits: &mut [Packed], gone: &Packed)
+fn bring_second(lits: &mut [Packed], false_lit: &Packed)
     requires { 2 ≤ length lits.old }
-    ensures { BringsSecond gone.now lits.old lits.new }
+    ensures { BringsSecond false_lit.now lits.old lits.new }
 {
-    if lits[0].is(gone) {
+    if lits[0].is(false_lit) {
         lits.swap(0, 1);
     }
 }
@@ -56,19 +56,20 @@ fn visit_second(lits: &mut [Packed], values: &Values) -> Visit
 {
     let other = lits[0];
     if other.is_true(values) {
-        return Visit::Stays(other);
+        return Visit::Satisfied(other);
     }
     if let Some(lit) = replace_second(lits, &other, values) {
-        return Visit::Moves(lit, other);
+        return Visit::NewWatch(lit, other);
     }
     if other.is_false(values) {
-        return Visit::Fails;
+        return Visit::Conflict;
     }
-    Visit::Forces(other)
+    Visit::UnitLit(other)
 }
 
 /// Puts a literal that isn't false and isn't the first in the second place, in exchange, where one stands
-/// behind the first two.
+/// behind the first two. It looks from the third place on each time: a place remembered for each clause reads fewer
+/// literals, but is read itself at each visit, and searches took no less time.
 fn replace_second(lits: &mut [Packed], first: &Packed, values: &Values) -> Option<Packed>
     requires two { 2 ≤ length lits.old }
     requires variables { LitsBelow (length values.now) lits.old }

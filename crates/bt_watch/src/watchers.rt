@@ -11,7 +11,8 @@ use std::alloc::{AllocError, Global};
 use std::marker::Model;
 use std::mem::replace;
 
-/// For each literal, how many clauses are going to watch it, so that its list gets its room at once.
+/// For each literal, how many clauses are going to watch it, so that its list gets its room at once and isn't copied as
+/// it grows.
 #[derive(Drop)]
 pub struct Counts {
     positives: Vec<usize>,

@@ -2,7 +2,8 @@
 use crate::clauses::Database;
 use crate::trail::{Number, Trail};
 use crate::watches::{Watch, Watches};
-use hint_solver::{Literal, Value, Visit};
+use bt_cnf::Lbool;
+use hint_solver::{Literal, Visit};
 use std::alloc::{AllocError, Global};
 
 /// Of which clauses a propagation is.
@@ -65,12 +66,12 @@ impl Checker {
             [first, second, ..] => (*first, Some(*second)),
         };
         let is_unit = match second {
-            Some(second) => self.trail.value(second) == Value::False,
+            Some(second) => self.trail.value(second) == Lbool::False,
             None => true,
         };
         match self.trail.value(first) {
-            Value::False => Ok(true),
-            Value::Unset if is_unit => {
+            Lbool::False => Ok(true),
+            Lbool::Unset if is_unit => {
                 self.trail.push(first, Some(number))?;
                 Ok(false)
             }
@@ -142,12 +143,17 @@ impl Checker {
     }
 
     /// Visits a clause that watches a literal which is false.
-    fn visit(&mut self, part: Part, gone: Literal, number: Number) -> Result<Watched, AllocError> {
+    fn visit(
+        &mut self,
+        part: Part,
+        false_literal: Literal,
+        number: Number,
+    ) -> Result<Watched, AllocError> {
         let Some(entry) = self.database.entry(number) else {
             return Ok(Watched::Leaves);
         };
         let is_stale = match self.database.get(number) {
-            [first, second, ..] => *first != gone && *second != gone,
+            [first, second, ..] => *first != false_literal && *second != false_literal,
             _ => true,
         };
         if is_stale || !entry.is_there || entry.is_core != (part == Part::Core) {
@@ -156,10 +162,10 @@ impl Checker {
         match self
             .database
             .literals
-            .visit(entry.span, gone, self.trail.values())
+            .visit(entry.span, false_literal, self.trail.values())
         {
-            Visit::Stays(_) => Ok(Watched::Stays),
-            Visit::Moves(literal, blocker) => {
+            Visit::Satisfied(_) => Ok(Watched::Stays),
+            Visit::NewWatch(literal, blocker) => {
                 let watch = Watch {
                     clause: number,
                     blocker,
@@ -170,19 +176,19 @@ impl Checker {
                 }
                 Ok(Watched::Leaves)
             }
-            Visit::Forces(literal) => {
+            Visit::Unit(literal) => {
                 self.trail.push(literal, Some(number))?;
                 Ok(Watched::Stays)
             }
-            Visit::Fails => Ok(Watched::Conflict),
+            Visit::Conflict => Ok(Watched::Conflict),
         }
     }
 
     /// Visits the clauses of a list that watch a literal which is false; tells one whose literals are all false.
-    fn visit_all(
+    fn visit_list(
         &mut self,
         part: Part,
-        gone: Literal,
+        false_literal: Literal,
         list: &mut Vec<Watch>,
     ) -> Result<Option<Number>, AllocError> {
         let mut place = 0usize;
@@ -191,11 +197,11 @@ impl Checker {
                 break;
             }
             let watch = list[place];
-            if self.trail.value(watch.blocker) == Value::True {
+            if self.trail.value(watch.blocker) == Lbool::True {
                 place = place.saturating_add(1);
                 continue;
             }
-            match self.visit(part, gone, watch.clause)? {
+            match self.visit(part, false_literal, watch.clause)? {
                 Watched::Stays => place = place.saturating_add(1),
                 Watched::Leaves => {
                     let _ = list.swap_remove(place);
@@ -213,10 +219,10 @@ impl Checker {
         part: Part,
         literal: Literal,
     ) -> Result<Option<Number>, AllocError> {
-        let gone = literal.negated();
-        let mut list = self.exchange(part, gone, Vec::new(alloc));
-        let conflict = self.visit_all(part, gone, &mut list)?;
-        let _ = self.exchange(part, gone, list);
+        let false_literal = literal.negated();
+        let mut list = self.exchange(part, false_literal, Vec::new(alloc));
+        let conflict = self.visit_list(part, false_literal, &mut list)?;
+        let _ = self.exchange(part, false_literal, list);
         Ok(conflict)
     }
 

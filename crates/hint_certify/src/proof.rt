@@ -4,7 +4,8 @@ use crate::hints::Tracer;
 use crate::index::Index;
 use crate::numbers::{Token, Tokens};
 use crate::trail::Number;
-use hint_solver::{Literal, Value};
+use bt_cnf::Lbool;
+use hint_solver::Literal;
 use std::alloc::{AllocError, Global};
 
 /// Why a proof isn't taken.
@@ -173,7 +174,7 @@ impl Reading {
         };
         let is_reason = match self.checker.database.get(clause).first() {
             Some(first) => {
-                self.checker.trail.value(*first) == Value::True
+                self.checker.trail.value(*first) == Lbool::True
                     && self.checker.trail.reason(*first) == Some(clause)
             }
             None => false,
@@ -255,9 +256,9 @@ fn refuted(
             break;
         };
         match checker.trail.value(literal) {
-            Value::True => return Ok(checker.trail.reason(literal)),
-            Value::Unset => checker.trail.push(literal.negated(), None)?,
-            Value::False => {}
+            Lbool::True => return Ok(checker.trail.reason(literal)),
+            Lbool::Unset => checker.trail.push(literal.negated(), None)?,
+            Lbool::False => {}
         }
     }
     checker.propagate(alloc, variables)

@@ -1,5 +1,6 @@
 //! What is true, and why.
-use hint_solver::{Literal, Value, Values};
+use bt_cnf::Lbool;
+use hint_solver::{Literal, Values};
 use std::alloc::{AllocError, Global};
 
 /// The number of a clause among those of the formula and of the proof.
@@ -30,7 +31,7 @@ impl Trail {
     }
 
     /// The value of a literal.
-    pub fn value(&self, literal: Literal) -> Value {
+    pub fn value(&self, literal: Literal) -> Lbool {
         self.values.get(literal)
     }
 

@@ -21,13 +21,13 @@ impl Span {
 #[derive(Clone, Copy)]
 pub enum Visit {
     /// It has this literal, which is true.
-    Stays(Literal),
+    Satisfied(Literal),
     /// The first of these is watched now in place of the false one; the other one is watched too.
-    Moves(Literal, Literal),
+    NewWatch(Literal, Literal),
     /// All its literals but this one are false.
-    Forces(Literal),
+    Unit(Literal),
     /// All its literals are false.
-    Fails,
+    Conflict,
 }
 
 /// The literals of clauses, one clause behind the other.
@@ -45,28 +45,28 @@ fn packed(place: usize) -> Result<u32, AllocError> {
 }
 
 /// Visits a clause whose first two literals are watched, one of which is false.
-fn passed(clause: &mut [Literal], gone: Literal, values: &Values) -> Visit {
+fn visited(clause: &mut [Literal], false_literal: Literal, values: &Values) -> Visit {
     if clause.len() < 2 {
-        return Visit::Fails;
+        return Visit::Conflict;
     }
-    if clause[0] == gone {
+    if clause[0] == false_literal {
         clause.swap(0, 1);
     }
     let first = clause[0];
     if values.is_true(first) {
-        return Visit::Stays(first);
+        return Visit::Satisfied(first);
     }
     for place in 2..clause.len() {
         let literal = clause[place];
         if !values.is_false(literal) {
             clause.swap(1, place);
-            return Visit::Moves(literal, first);
+            return Visit::NewWatch(literal, first);
         }
     }
     if values.is_false(first) {
-        Visit::Fails
+        Visit::Conflict
     } else {
-        Visit::Forces(first)
+        Visit::Unit(first)
     }
 }
 
@@ -121,12 +121,12 @@ impl Clauses {
     }
 
     /// Visits a clause one of whose watched literals is false.
-    pub fn visit(&mut self, span: Span, gone: Literal, values: &Values) -> Visit {
+    pub fn visit(&mut self, span: Span, false_literal: Literal, values: &Values) -> Visit {
         let (start, end) = (span.start as usize, span.end as usize);
         if start <= end && end <= self.literals.len() {
-            passed(self.literals.slice_mut(start..end), gone, values)
+            visited(self.literals.slice_mut(start..end), false_literal, values)
         } else {
-            Visit::Fails
+            Visit::Conflict
         }
     }
 

@@ -21,4 +21,4 @@ pub use literal::Literal;
 pub use loading::load;
 pub use solver::{Answer, Solver};
 pub use std::alloc::AllocError as Memory;
-pub use values::{Value, Values};
+pub use values::Values;

@@ -2,8 +2,8 @@
 use crate::clauses::{Clauses, Span, Visit};
 use crate::literal::Literal;
 use crate::trail::{Reason, Trail};
-use crate::values::Value;
 use crate::watches::{Watch, Watches};
+use bt_cnf::Lbool;
 use std::alloc::{AllocError, Global};
 
 /// A clause whose literals are all false.
@@ -23,10 +23,10 @@ pub struct Search {
 
 /// What became of a watch.
 #[derive(Clone, Copy)]
-enum Attended {
+enum Visited {
     Stays,
     Leaves,
-    Fails,
+    Conflict,
 }
 
 /// Makes true what follows of a literal by clauses of two.
@@ -38,9 +38,9 @@ fn follow(
     let negation = from.negated();
     for literal in followers {
         match trail.values().get(*literal) {
-            Value::True => {}
-            Value::False => return Ok(Some(Conflict::Either(negation, *literal))),
-            Value::Unset => trail.push(*literal, Reason::Either(negation))?,
+            Lbool::True => {}
+            Lbool::False => return Ok(Some(Conflict::Either(negation, *literal))),
+            Lbool::Unset => trail.push(*literal, Reason::Either(negation))?,
         }
     }
     Ok(None)
@@ -76,26 +76,26 @@ impl Search {
     }
 
     /// Visits a clause that watches a literal that is false.
-    fn attend(&mut self, gone: Literal, watch: Watch) -> Result<Attended, AllocError> {
+    fn visit(&mut self, false_literal: Literal, watch: Watch) -> Result<Visited, AllocError> {
         let span = watch.span;
-        match self.clauses.visit(span, gone, self.trail.values()) {
-            Visit::Stays(_) => Ok(Attended::Stays),
-            Visit::Moves(literal, blocker) => {
+        match self.clauses.visit(span, false_literal, self.trail.values()) {
+            Visit::Satisfied(_) => Ok(Visited::Stays),
+            Visit::NewWatch(literal, blocker) => {
                 self.watches.watch(literal, Watch { span, blocker })?;
-                Ok(Attended::Leaves)
+                Ok(Visited::Leaves)
             }
-            Visit::Forces(literal) => {
+            Visit::Unit(literal) => {
                 self.trail.push(literal, Reason::Clause(span))?;
-                Ok(Attended::Stays)
+                Ok(Visited::Stays)
             }
-            Visit::Fails => Ok(Attended::Fails),
+            Visit::Conflict => Ok(Visited::Conflict),
         }
     }
 
     /// Visits the clauses of a list that watch a literal that is false.
-    fn attend_all(
+    fn visit_list(
         &mut self,
-        gone: Literal,
+        false_literal: Literal,
         list: &mut Vec<Watch>,
     ) -> Result<Option<Conflict>, AllocError> {
         let mut place = 0usize;
@@ -108,23 +108,27 @@ impl Search {
                 place = place.saturating_add(1);
                 continue;
             }
-            match self.attend(gone, watch)? {
-                Attended::Stays => place = place.saturating_add(1),
-                Attended::Leaves => {
+            match self.visit(false_literal, watch)? {
+                Visited::Stays => place = place.saturating_add(1),
+                Visited::Leaves => {
                     let _ = list.swap_remove(place);
                 }
-                Attended::Fails => return Ok(Some(Conflict::Clause(watch.span))),
+                Visited::Conflict => return Ok(Some(Conflict::Clause(watch.span))),
             }
         }
         Ok(None)
     }
 
     /// Makes true what follows of a literal by longer clauses.
-    fn settle(&mut self, alloc: Global, literal: Literal) -> Result<Option<Conflict>, AllocError> {
-        let gone = literal.negated();
-        let mut list = self.watches.exchange(gone, Vec::new(alloc));
-        let conflict = self.attend_all(gone, &mut list)?;
-        let _ = self.watches.exchange(gone, list);
+    fn propagate_literal(
+        &mut self,
+        alloc: Global,
+        literal: Literal,
+    ) -> Result<Option<Conflict>, AllocError> {
+        let false_literal = literal.negated();
+        let mut list = self.watches.exchange(false_literal, Vec::new(alloc));
+        let conflict = self.visit_list(false_literal, &mut list)?;
+        let _ = self.watches.exchange(false_literal, list);
         Ok(conflict)
     }
 
@@ -137,7 +141,7 @@ impl Search {
             let followers = self.watches.followers(literal);
             let mut conflict = follow(&mut self.trail, followers, literal)?;
             if conflict.is_none() {
-                conflict = self.settle(alloc, literal)?;
+                conflict = self.propagate_literal(alloc, literal)?;
             }
             if conflict.is_some() {
                 return Ok(conflict);

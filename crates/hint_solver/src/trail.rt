@@ -1,7 +1,8 @@
 //! What is true, in the order in which it became so.
 use crate::clauses::Span;
 use crate::literal::Literal;
-use crate::values::{Value, Values};
+use crate::values::Values;
+use bt_cnf::Lbool;
 use std::alloc::{AllocError, Global};
 
 /// Why a literal is true.
@@ -30,7 +31,7 @@ pub struct Trail {
     literals: Vec<Literal>,
     starts: Vec<usize>,
     /// What follows of so many literals is true too.
-    settled: usize,
+    propagated: usize,
 }
 
 impl Trail {
@@ -45,7 +46,7 @@ impl Trail {
             records: vec![in alloc; record; variables]?,
             literals: Vec::new(alloc),
             starts: Vec::new(alloc),
-            settled: 0,
+            propagated: 0,
         })
     }
 
@@ -105,19 +106,19 @@ impl Trail {
     /// Makes a literal true without a reason, where it has no value. Whether it is true then.
     pub fn choose(&mut self, literal: Literal) -> Result<bool, AllocError> {
         match self.values.get(literal) {
-            Value::Unset => {
+            Lbool::Unset => {
                 self.push(literal, Reason::Choice)?;
                 Ok(true)
             }
-            Value::True => Ok(true),
-            Value::False => Ok(false),
+            Lbool::True => Ok(true),
+            Lbool::False => Ok(false),
         }
     }
 
     /// The next literal of which it is to be looked what follows.
     pub fn next(&mut self) -> Option<Literal> {
-        let literal = *self.literals.get(self.settled)?;
-        self.settled = self.settled.saturating_add(1);
+        let literal = *self.literals.get(self.propagated)?;
+        self.propagated = self.propagated.saturating_add(1);
         Some(literal)
     }
 
@@ -142,7 +143,7 @@ impl Trail {
     /// Ends the levels behind one, whose literals were taken back.
     pub fn end(&mut self, level: usize) {
         self.starts.truncate(level);
-        self.settled = self.settled.min(self.literals.len());
+        self.propagated = self.propagated.min(self.literals.len());
     }
 
     /// Forgets why literals are true that are so for good.

@@ -1,19 +1,12 @@
 //! The values of literals.
 use crate::literal::Literal;
+use bt_cnf::Lbool;
 use std::alloc::{AllocError, Global};
-
-/// What a literal is.
-#[derive(Clone, Copy, PartialEq, Eq)]
-pub enum Value {
-    Unset,
-    True,
-    False,
-}
 
 /// The value of each literal, those of a variable side by side.
 #[derive(Drop)]
 pub struct Values {
-    of_literals: Vec<Value>,
+    of_literals: Vec<Lbool>,
 }
 
 impl Values {
@@ -21,30 +14,30 @@ impl Values {
     pub fn new(alloc: Global, variables: usize) -> Result<Values, AllocError> {
         let count = variables.saturating_mul(2);
         Ok(Values {
-            of_literals: vec![in alloc; Value::Unset; count]?,
+            of_literals: vec![in alloc; Lbool::Unset; count]?,
         })
     }
 
     /// The value of a literal.
-    pub fn get(&self, literal: Literal) -> Value {
+    pub fn get(&self, literal: Literal) -> Lbool {
         match self.of_literals.get(literal.place()) {
             Some(value) => *value,
-            None => Value::Unset,
+            None => Lbool::Unset,
         }
     }
 
     /// Whether a literal is true.
     pub fn is_true(&self, literal: Literal) -> bool {
-        self.get(literal) == Value::True
+        self.get(literal) == Lbool::True
     }
 
     /// Whether a literal is false.
     pub fn is_false(&self, literal: Literal) -> bool {
-        self.get(literal) == Value::False
+        self.get(literal) == Lbool::False
     }
 
     /// Gives a literal its value.
-    fn put(&mut self, literal: Literal, value: Value) {
+    fn put(&mut self, literal: Literal, value: Lbool) {
         if let Some(old) = self.of_literals.get_mut(literal.place()) {
             *old = value;
         }
@@ -52,13 +45,13 @@ impl Values {
 
     /// Makes a literal true.
     pub fn set(&mut self, literal: Literal) {
-        self.put(literal, Value::True);
-        self.put(literal.negated(), Value::False);
+        self.put(literal, Lbool::True);
+        self.put(literal.negated(), Lbool::False);
     }
 
     /// Leaves a literal without a value.
     pub fn clear(&mut self, literal: Literal) {
-        self.put(literal, Value::Unset);
-        self.put(literal.negated(), Value::Unset);
+        self.put(literal, Lbool::Unset);
+        self.put(literal.negated(), Lbool::Unset);
     }
 }

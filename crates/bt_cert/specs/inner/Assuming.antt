@@ -2,8 +2,8 @@
 use Rattle.std.specs.Prelude.{◌≡◌, ◌⊎◌, ℕ, ◌<◌, ◌↔◌, Bool, not, List, [], ◌∷◌, length, Option, None, Some, slice_set, slice_index_or, Contains}
 use Rattle.std.specs.List.{All}
 use Rattle.bt_cnf.specs.declared.literal.Lit.{Lit}
-use Rattle.bt_cert.specs.declared.assumptions.Standing.{Standing}
-use Rattle.bt_cert.specs.declared.assumptions.Standing.TheVariants.{True, False, Unset}
+use Rattle.bt_cnf.specs.declared.truth.Lbool.{Lbool}
+use Rattle.bt_cnf.specs.declared.truth.Lbool.TheVariants.{True, False, Unset}
 
 -- what is assumed of a variable, if something is
 abbrev pub value_at : List (Option Bool) → ℕ → Option Bool
@@ -30,8 +30,8 @@ IsFalseIn values l = value_at values l.var ≡ Some (not l.positive)
 abbrev pub IsUnsetIn : List (Option Bool) → Lit → Type 0
 IsUnsetIn values l = value_at values l.var ≡ None
 
--- how a literal stands
-abbrev pub Stands : List (Option Bool) → Lit → Standing → Type 0
+-- the value of a literal
+abbrev pub Stands : List (Option Bool) → Lit → Lbool → Type 0
 Stands values l True = IsTrueIn values l
 Stands values l False = IsFalseIn values l
 Stands values l Unset = IsUnsetIn values l

@@ -19,7 +19,7 @@ pub record HaveUniquePoint (s : Search) (picked : List ℕ) : Type 0 where
   pub first : 0 < length picked → start_of s level ≤ slice_index_or picked 0 0
   pub rest : (i : ℕ) → 0 < i → i < length picked → slice_index_or picked i 0 < start_of s level
 
--- nothing is unsettled, and of the literals of a clause the first alone is unset, the others being false; the second
+-- all that is true was propagated, and of the literals of a clause the first alone is unset, the others being false; the second
 -- became false at the last level, or there is none, and nothing is chosen
 pub record IsAsserting (all : List (List Lit)) (s : Search) (lits : List Lit) : Type 0 where
   pub ready : IsReady all (length s.assignment.trail.items) s

@@ -10,20 +10,20 @@ pub record KeepsLog (old new : Progress) : Type 0 where
   pub known : new.known ≡ old.known
   pub limit : new.limit ≡ old.limit
 
--- all variables have a value, and nothing is unsettled
+-- all variables have a value, and all that is true was propagated
 pub record IsComplete (p : Progress) : Type 0 where
   pub running : IsRunning p
   pub none : p.conflict ≡ None
-  pub settled : p.settled ≡ length p.search.assignment.trail.items
+  pub propagated : p.propagated ≡ length p.search.assignment.trail.items
   pub set : (v : ℕ) → v < length p.search.assignment.values → IsUnset p.search.assignment.values v → ⊥
 
 -- the order of the search still has all variables that have no value
 abbrev pub ListsUnset : Progress → Type 0
 ListsUnset p = HasUnset p.search.assignment.values p.order
 
--- where no clause is known to be false, nothing is unsettled, and the variables that have no value are listed
+-- where no clause is known to be false, all that is true was propagated, and the variables that have no value are listed
 pub record IsAtChoice (p : Progress) : Type 0 where
-  pub settled : p.conflict ≡ None → p.settled ≡ length p.search.assignment.trail.items
+  pub propagated : p.conflict ≡ None → p.propagated ≡ length p.search.assignment.trail.items
   pub listed : p.conflict ≡ None → ListsUnset p
 
 -- what is true was propagated, and the search may decide where no clause is known to be false

@@ -3,7 +3,7 @@ use Rattle.std.specs.Prelude.{◌≡◌, Bool, false, List, Option, None, Some, 
 use Rattle.bt_frac.specs.Ratio.{Ratio}
 use Rattle.bt_cnf.specs.declared.literal.Lit.{Lit}
 use Rattle.bt_log.specs.Logs.{Lemma}
-use Rattle.bt_sat.specs.Solving.{SolverParts, Standing, Searches, KeepsModel, EndsRefuted, EndsSpent, LacksMemory}
+use Rattle.bt_sat.specs.Solving.{SolverParts, Status, Searches, KeepsModel, EndsRefuted, EndsSpent, LacksMemory}
 use Rattle.bt_sat.specs.declared.progress.Progress.{Progress}
 use Rattle.bt_sat.specs.declared.solver.Answer.{Answer}
 use Rattle.bt_sat.specs.declared.solver.Assumed.{Assumed}
@@ -26,12 +26,12 @@ abbrev pub model_of : List (Option Bool) → List Bool
 model_of values = map value_of values
 
 -- where the search stands, as callers see it
-abbrev pub standing_of : Stage → List (Option Bool) → Standing
-standing_of Running values = Searches
-standing_of Complete values = KeepsModel (model_of values)
-standing_of Refuted values = EndsRefuted
-standing_of Spent values = EndsSpent
-standing_of Lost values = LacksMemory
+abbrev pub status_of : Stage → List (Option Bool) → Status
+status_of Running values = Searches
+status_of Complete values = KeepsModel (model_of values)
+status_of Refuted values = EndsRefuted
+status_of Spent values = EndsSpent
+status_of Lost values = LacksMemory
 
 -- what callers see of a search
 abbrev pub parts_of : Progress → Stage → SolverParts
@@ -39,7 +39,7 @@ parts_of p stage = record {
   formula = p.known.formula;
   steps = p.known.log.steps;
   limit = p.limit;
-  standing = standing_of stage p.search.assignment.values;
+  status = status_of stage p.search.assignment.values;
 }
 
 -- what is known of the search at each stage
@@ -96,7 +96,7 @@ stage_assumed assumed.Refuted = Refuted
 stage_assumed assumed.Spent = Spent
 
 -- the search has not come to its end
-abbrev pub MayGoOn : Standing → Type 0
+abbrev pub MayGoOn : Status → Type 0
 MayGoOn Searches = Unit {0}
 MayGoOn (KeepsModel model) = Unit {0}
 MayGoOn _ = ⊥

@@ -64,7 +64,7 @@ CanAdmit all s lits = IsAsserting all s lits ⊎ IsFailing all s lits
 pub record BackjumpsFor (old : Search) (clause : List Lit) (new : Search) (lits : List Lit) : Type 0 where
   pub same : AreSame clause lits
   pub variables : length new.assignment.values ≡ length old.assignment.values
-  pub admits : (all : List (List Lit)) (settled : ℕ) → IsReady all settled old → 0 < length lits → CanAdmit all new lits
+  pub admits : (all : List (List Lit)) (propagated : ℕ) → IsReady all propagated old → 0 < length lits → CanAdmit all new lits
 
 -- the clause is one of those that are kept, or the one whose literals are all false
 pub record Admits (all : List (List Lit)) (lits : List Lit) (old new : Search) (conflict : Option ℕ) : Type 0 where

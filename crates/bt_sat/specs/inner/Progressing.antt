@@ -32,7 +32,7 @@ pub record IsNextStep (known : LoggedFormula) (step : Step) : Type 0 where
 pub record IsRunning (p : Progress) : Type 0 where
   pub logged : IsLogged p.known p.limit
   pub variables : length p.search.assignment.values ≡ p.known.formula.vars
-  pub stands : Stands (clauses_in p.known) p.settled p.search p.conflict
+  pub stands : Stands (clauses_in p.known) p.propagated p.search p.conflict
 
 -- the log has one step more
 pub record LogsStep (old new : LoggedFormula) (step : Step) : Type 0 where
@@ -63,12 +63,12 @@ pub record Grows (old new : Progress) : Type 0 where
   pub trail : new.search.assignment.trail.items ≡ old.search.assignment.trail.items ++ more
   pub order : new.order ≡ old.order
 
--- what is true was propagated: nothing is unsettled by the whole trail, or a clause has only false literals
+-- what is true was propagated: all of the trail, or a clause has only false literals
 pub record PropagatesAll (old new : Progress) : Type 0 where
   pub running : IsRunning new
   pub known : new.known ≡ old.known
   pub limit : new.limit ≡ old.limit
-  pub settled : new.conflict ≡ None → new.settled ≡ length new.search.assignment.trail.items
+  pub propagated : new.conflict ≡ None → new.propagated ≡ length new.search.assignment.trail.items
   pub fewer : unset new.search.assignment.values ≤ unset old.search.assignment.values
   pub grows : Grows old new
 

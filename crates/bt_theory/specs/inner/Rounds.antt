@@ -42,7 +42,7 @@ pub record IsReady (b : Base) (s : SolverParts) (t : TableauParts) : Type 0 wher
 
 -- the search keeps the model, and its log is sound
 pub record HasModel (s : SolverParts) (model : List Bool) : Type 0 where
-  pub keeps : s.standing ≡ KeepsModel model
+  pub keeps : s.status ≡ KeepsModel model
   pub is_model : IsModel s model
   pub sound : IsSoundLog s
 

@@ -4,12 +4,12 @@ use Rattle.std.specs.List.{HoldsAt, AllWithin, swap}
 use Rattle.bt_cnf.specs.declared.literal.Lit.{Lit}
 use Rattle.bt_cnf.specs.Truths.{IsTrueIn, IsFalseIn}
 use Rattle.bt_watch.specs.declared.watched.Visit.{Visit}
-use Rattle.bt_watch.specs.declared.watched.Visit.TheVariants.{Strays, Stays, Moves, Forces, Fails}
+use Rattle.bt_watch.specs.declared.watched.Visit.TheVariants.{Stale, Satisfied, NewWatch, UnitLit, Conflict}
 
 -- the first two were exchanged where the literal stood first, and nothing was changed where it didn't
-pub record BringsSecond (gone : Lit) (old new : List Lit) : Type 0 where
-  pub first : HoldsAt (λ l. l ≡ gone) old 0 → new ≡ swap old 0 1
-  pub other : HoldsAt (λ l. l ≢ gone) old 0 → new ≡ old
+pub record BringsSecond (false_lit : Lit) (old new : List Lit) : Type 0 where
+  pub first : HoldsAt (λ l. l ≡ false_lit) old 0 → new ≡ swap old 0 1
+  pub other : HoldsAt (λ l. l ≢ false_lit) old 0 → new ≡ old
 
 -- the literal is another and isn't false, or it is false or the same
 abbrev pub CanWatch : List (Option Bool) → Lit → Lit → Bool → Type 0
@@ -42,8 +42,8 @@ StandsFirst lits l = HoldsAt (λ m. m ≡ l) lits 0
 
 -- what the clause does where its second literal is false
 abbrev pub Visits : List (Option Bool) → List Lit → List Lit → Visit → Type 0
-Visits values old new Strays = ⊥
-Visits values old new (Stays other) = (new ≡ old) × StandsFirst old other × IsTrueIn values other
-Visits values old new (Moves l other) = StandsFirst old other × MovesTo values other old new l
-Visits values old new (Forces l) = StandsFirst old l × StandsStill values l old new × (IsTrueIn values l → ⊥) × (IsFalseIn values l → ⊥)
-Visits values old new Fails = (first : Lit) × StandsFirst old first × StandsStill values first old new × IsFalseIn values first
+Visits values old new Stale = ⊥
+Visits values old new (Satisfied other) = (new ≡ old) × StandsFirst old other × IsTrueIn values other
+Visits values old new (NewWatch l other) = StandsFirst old other × MovesTo values other old new l
+Visits values old new (UnitLit l) = StandsFirst old l × StandsStill values l old new × (IsTrueIn values l → ⊥) × (IsFalseIn values l → ⊥)
+Visits values old new Conflict = (first : Lit) × StandsFirst old first × StandsStill values first old new × IsFalseIn values first

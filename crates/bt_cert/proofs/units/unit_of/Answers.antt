@@ -19,9 +19,9 @@ loop-lit-preserved c =
     let i = c.loop-lit.lit-index in
     let lit = c.lit-item.result in
     let is = take_more lits i lit c.loop-lit-test.true ∙ ap (λ x. take i lits ++ x ∷ []) (sym c.lit-item.is) in
-    elim c.match-standing.branch [
+    elim c.match-truth_of.branch [
       | in-False w ↦
-          so_far values lits i lit c.loop-lit.unit c.match-standing.unit is w.unit-is
+          so_far values lits i lit c.loop-lit.unit c.match-truth_of.unit is w.unit-is
           (so_far_false values (take i lits) lit c.loop-lit.unit c.loop-lit.invariant w.in-False.ensures)
       | in-Unset w ↦
           let here : IsUnitIn values (take i lits ++ lit ∷ []) lit =
@@ -32,7 +32,7 @@ loop-lit-preserved c =
             | in_default w' ↦
                 so_far_first values (take i lits) lit (subst (IsUnitSoFar values (take i lits)) w'.in_default.is c.loop-lit.invariant) w.in-Unset.ensures
           ] in
-          so_far values lits i lit (Some lit) c.match-standing.unit is w.unit-is here
+          so_far values lits i lit (Some lit) c.match-truth_of.unit is w.unit-is here
     ]
 
 none_left : (values : List (Option Bool)) (lits : List Lit) (unit : Option Lit) → IsUnitSoFar values lits unit → IfNone unit (HasNoUnit values lits)

@@ -7,21 +7,21 @@ use Rattle.bt_sat.proofs.cdcl.restart.Goals as goal
 pub backjump-requires-clause-truths : goal.backjump-requires-clause-truths
 backjump-requires-clause-truths c =
     let p = c.args.progress.now in
-    (stands_ordered (clauses_in p.known) p.settled p.search p.conflict c.requires.stands).whole.truths
+    (stands_ordered (clauses_in p.known) p.propagated p.search p.conflict c.requires.stands).whole.truths
 
 pub backjump-requires-clause-placed : goal.backjump-requires-clause-placed
 backjump-requires-clause-placed c =
     let p = c.args.progress.now in
-    (stands_ordered (clauses_in p.known) p.settled p.search p.conflict c.requires.stands).reasoned.placed
+    (stands_ordered (clauses_in p.known) p.propagated p.search p.conflict c.requires.stands).reasoned.placed
 
 pub returns-then-len-gt0 : goal.returns-then-len-gt0
 returns-then-len-gt0 c =
     let p = c.args.progress.now in
     let s = c.backjump.new.search in
     let all = clauses_in p.known in
-    let ordered = stands_ordered all p.settled p.search p.conflict c.requires.stands in
+    let ordered = stands_ordered all p.propagated p.search p.conflict c.requires.stands in
     let some : 0 < length p.search.starts.items = omega (arith, c.if-len-gt0.true, c.len.ensures) in
-    let held = stands_held all p.settled p.search p.conflict c.requires.stands some in
+    let held = stands_held all p.propagated p.search p.conflict c.requires.stands some in
     let size : length s.assignment.trail.items ≡ c.len-progress.result = omega (arith, c.len-progress.ensures) in
     record {
       running = record {

@@ -15,14 +15,14 @@ returns-clause-decides c =
     let new = c.begin_level.new.search in
     let begins = c.in_ok-begin_level.ensures in
     let is = c.requires.lacks in
-    let was : IsReady all p.settled p.search = subst (Stands all p.settled p.search) c.requires.none c.requires.running.stands in
-    let ready : IsReady all (length p.search.assignment.trail.items) p.search = subst (λ n. IsReady all n p.search) c.requires.settled was in
+    let was : IsReady all p.propagated p.search = subst (Stands all p.propagated p.search) c.requires.none c.requires.running.stands in
+    let ready : IsReady all (length p.search.assignment.trail.items) p.search = subst (λ n. IsReady all n p.search) c.requires.propagated was in
     let now = Chosen.level_ready all p.search new l begins ready is.0 is.1 in (
       record { known = refl; limit = refl },
       record {
         logged = c.requires.running.logged;
         variables = Chosen.same_values all p.search new l begins ready is.0 is.1 ∙ c.requires.running.variables;
-        stands = subst (Stands all p.settled new) (sym c.requires.none) (subst (λ n. IsReady all n new) (sym c.requires.settled) now);
+        stands = subst (Stands all p.propagated new) (sym c.requires.none) (subst (λ n. IsReady all n new) (sym c.requires.propagated) now);
       },
       c.requires.none,
       Chosen.fewer_unset all p.search new l begins ready is.0 is.1,

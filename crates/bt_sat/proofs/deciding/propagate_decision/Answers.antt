@@ -12,7 +12,7 @@ returns-clause-propagates c =
       keeps = record { known = propagates.known; limit = propagates.limit };
       running = propagates.running;
       choice = record {
-        settled = propagates.settled;
+        propagated = propagates.propagated;
         listed = λ none. grows_lists p q c.requires.running propagates.running c.requires.ready none size propagates.grows c.requires.listed;
       };
       fewer = propagates.fewer;

@@ -39,6 +39,6 @@ returns c =
     subst (BackjumpsFor s c.args.lits.now c.backjump.new.search) lits (record {
       same = c.in_ok-pick.ensures.same;
       variables = c.backjump.ensures.forgets.variables;
-      admits = λ all settled ready some.
-          BackjumpedFor.admits all s c.backjump.new.search c.args.lits.now picked level settled ready c.in_ok-pick.ensures at c.backjump.ensures (omega (arith, some, length-map picked (false_at T)));
+      admits = λ all propagated ready some.
+          BackjumpedFor.admits all s c.backjump.new.search c.args.lits.now picked level propagated ready c.in_ok-pick.ensures at c.backjump.ensures (omega (arith, some, length-map picked (false_at T)));
     })

@@ -16,9 +16,9 @@ admit-requires c =
     let all = clauses_in p.known in
     let s = c.backjump_for.new.search in
     let lits = c.backjump_for.new.learnt_clause.lits.items in
-    let ready : IsReady all p.settled p.search = subst (Stands all p.settled p.search) c.requires.complete.none c.requires.complete.running.stands in
+    let ready : IsReady all p.propagated p.search = subst (Stands all p.propagated p.search) c.requires.complete.none c.requires.complete.running.stands in
     let some = Taken.some_lits p.known.formula c.args.lits.now c.args.weights.now c.requires.next.valid in
-    subst (CanAdmit all s) (sym c.deref.ensures.value) (c.in_ok-backjump_for.ensures.admits all p.settled ready (Taken.some_same c.args.lits.now lits c.in_ok-backjump_for.ensures.same some))
+    subst (CanAdmit all s) (sym c.deref.ensures.value) (c.in_ok-backjump_for.ensures.admits all p.propagated ready (Taken.some_same c.args.lits.now lits c.in_ok-backjump_for.ensures.same some))
 
 pub returns-clause-takes : goal.returns-clause-takes
 returns-clause-takes c =

@@ -1,12 +1,12 @@
 use Rattle.std.proofs.Common.{◌+◌, ◌-◌, length}
 use Rattle.bt_cnf.specs.Truths.{unset}
-use Rattle.bt_watch.specs.Propagating.{GoesOn, IsSettledTo}
+use Rattle.bt_watch.specs.Propagating.{GoesOn, IsPropagatedTo}
 use Rattle.bt_watch.proofs.search.propagate.Given as goal
 
 abbrev pub invariant-loop-head : goal.invariant-loop-head
 invariant-loop-head l = record {
   goes : GoesOn l.fn.search l.search;
-  settled : IsSettledTo l.head l.search;
+  propagated : IsPropagatedTo l.head l.search;
 }
 
 abbrev pub decreases-loop-head : goal.decreases-loop-head

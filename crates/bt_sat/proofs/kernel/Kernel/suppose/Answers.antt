@@ -18,7 +18,7 @@ returns-in-Ok-clause-given g c =
     let assumes : AssumesBy c.self.inside.progress waiting new left found =
     subst (λ cs. AssumesBy c.self.inside.progress waiting new (map f cs) found) (sym items)
     (subst (λ cs. AssumesBy c.self.inside.progress (map f cs) new (map f c.supposed.new.choosers) found) c.deref_mut.ensures.value c.in-Ok.ensures.assumes) in
-    let may = subst (λ (s : SolverParts). MayGoOn s.standing) (sym c.self.view_is) c.requires in
+    let may = subst (λ (s : SolverParts). MayGoOn s.status) (sym c.self.view_is) c.requires in
     subst (λ s. Assumes s waiting (parts_of new c.stage_supposed-self-inside.result) left found) c.self.view_is
     (subst (λ stage. Assumes (parts_of c.self.inside.progress c.self.inside.stage) waiting (parts_of new stage) left found) (sym c.stage_supposed-self-inside.ensures)
     (Ended.assumes c.self.inside.progress new c.self.inside.stage waiting left found may assumes))

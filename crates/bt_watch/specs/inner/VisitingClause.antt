@@ -4,7 +4,7 @@ use Rattle.std.specs.List.{All}
 use Rattle.bt_cnf.specs.declared.literal.Lit.{Lit}
 use Rattle.bt_cnf.specs.Truths.{IsTrueIn, IsFalseIn}
 use Rattle.bt_watch.specs.declared.watched.Visit.{Visit}
-use Rattle.bt_watch.specs.declared.watched.Visit.TheVariants.{Strays, Stays, Moves, Forces, Fails}
+use Rattle.bt_watch.specs.declared.watched.Visit.TheVariants.{Stale, Satisfied, NewWatch, UnitLit, Conflict}
 use Rattle.bt_watch.specs.Watched.{first, second}
 
 -- the same literals in another order, and the same two are watched
@@ -13,9 +13,9 @@ pub record KeepsPair (old new : List Lit) : Type 0 where
   pub pair : ((first new ≡ first old) × (second new ≡ second old)) ⊎ ((first new ≡ second old) × (second new ≡ first old))
 
 -- the same literals in another order, and the one of the two that isn't this literal stands first
-pub record LeavesOne (gone : Lit) (old new : List Lit) : Type 0 where
+pub record LeavesOne (false_lit : Lit) (old new : List Lit) : Type 0 where
   pub permuted : IsPermutation old new
-  pub pair : ((first new ≡ first old) × (second old ≡ gone)) ⊎ ((first new ≡ second old) × (first old ≡ gone))
+  pub pair : ((first new ≡ first old) × (second old ≡ false_lit)) ⊎ ((first new ≡ second old) × (first old ≡ false_lit))
 
 -- all literals but one are false, and that one is unset
 pub record Leaves (values : List (Option Bool)) (clause : List Lit) (l : Lit) : Type 0 where
@@ -31,9 +31,9 @@ pub record WatchesNow (values : List (Option Bool)) (clause : List Lit) (l : Lit
   pub differs : l ≢ first clause
 
 -- what the clause does where this literal has become false
-abbrev pub Attends : List (Option Bool) → Lit → List Lit → List Lit → Visit → Type 0
-Attends values gone old new Strays = KeepsPair old new × (first new ≢ gone) × (second new ≢ gone)
-Attends values gone old new (Stays other) = KeepsPair old new × (second new ≡ gone) × (first new ≡ other) × IsTrueIn values other
-Attends values gone old new (Moves l other) = LeavesOne gone old new × (first new ≡ other) × WatchesNow values new l
-Attends values gone old new (Forces l) = KeepsPair old new × (second new ≡ gone) × Leaves values new l
-Attends values gone old new Fails = KeepsPair old new × All (IsFalseIn values) new
+abbrev pub VisitsClause : List (Option Bool) → Lit → List Lit → List Lit → Visit → Type 0
+VisitsClause values false_lit old new Stale = KeepsPair old new × (first new ≢ false_lit) × (second new ≢ false_lit)
+VisitsClause values false_lit old new (Satisfied other) = KeepsPair old new × (second new ≡ false_lit) × (first new ≡ other) × IsTrueIn values other
+VisitsClause values false_lit old new (NewWatch l other) = LeavesOne false_lit old new × (first new ≡ other) × WatchesNow values new l
+VisitsClause values false_lit old new (UnitLit l) = KeepsPair old new × (second new ≡ false_lit) × Leaves values new l
+VisitsClause values false_lit old new Conflict = KeepsPair old new × All (IsFalseIn values) new

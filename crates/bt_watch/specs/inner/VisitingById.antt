@@ -2,11 +2,11 @@
 use Rattle.std.specs.Prelude.{◌≡◌, ℕ, Bool, List, Option, slice_set}
 use Rattle.bt_cnf.specs.declared.literal.Lit.{Lit}
 use Rattle.bt_watch.specs.declared.watched.Visit.{Visit}
-use Rattle.bt_watch.specs.inner.Attending.{Attends}
+use Rattle.bt_watch.specs.inner.VisitingClause.{VisitsClause}
 use Rattle.bt_watch.specs.Keeping.{kept_at}
 
 -- the clause with this number is visited, and every other one stays
-pub record AttendsIn (values : List (Option Bool)) (gone : Lit) (id : ℕ) (old new : List (List Lit)) (visit : Visit) : Type 0 where
+pub record VisitsById (values : List (Option Bool)) (false_lit : Lit) (id : ℕ) (old new : List (List Lit)) (visit : Visit) : Type 0 where
   pub clause : List Lit
   pub one : new ≡ slice_set old id clause
-  pub attends : Attends values gone (kept_at old id) clause visit
+  pub visits : VisitsClause values false_lit (kept_at old id) clause visit

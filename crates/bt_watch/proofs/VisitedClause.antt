@@ -8,21 +8,21 @@ use Rattle.std.proofs.lemmas.List.Sorted.{IsPermutation-swap, IsPermutation-tran
 use Rattle.bt_cnf.specs.declared.literal.Lit.{Lit}
 use Rattle.bt_cnf.specs.Truths.{IsFalseIn}
 use Rattle.bt_watch.specs.declared.watched.Visit.{Visit}
-use Rattle.bt_watch.specs.declared.watched.Visit.TheVariants.{Strays, Stays, Moves, Forces, Fails}
+use Rattle.bt_watch.specs.declared.watched.Visit.TheVariants.{Stale, Satisfied, NewWatch, UnitLit, Conflict}
 use Rattle.bt_watch.specs.Watched.{no_lit, first, second}
-use Rattle.bt_watch.specs.inner.Attending.{KeepsPair, LeavesOne, Attends}
+use Rattle.bt_watch.specs.inner.VisitingClause.{KeepsPair, LeavesOne, VisitsClause}
 use Rattle.bt_watch.specs.inner.Visits.{BringsSecond, Visits}
 use Rattle.bt_cnf.proofs.Lists.{lit_or}
 
 -- the clause with the literal in the second place, where it was watched
-pub record Brought (gone : Lit) (old new : List Lit) : Type 0 where
+pub record Brought (false_lit : Lit) (old new : List Lit) : Type 0 where
   pub kept : KeepsPair old new
-  pub not_first : first new ≡ gone → second new ≡ gone
+  pub not_first : first new ≡ false_lit → second new ≡ false_lit
   pub size : length new ≡ length old
 
-pub brought : (gone : Lit) (old new : List Lit) → 2 ≤ length old → length new ≡ length old → BringsSecond gone old new → Brought gone old new
-brought gone old new two size brings =
-    elim (lit_or (first old) gone) [
+pub brought : (false_lit : Lit) (old new : List Lit) → 2 ≤ length old → length new ≡ length old → BringsSecond false_lit old new → Brought false_lit old new
+brought false_lit old new two size brings =
+    elim (lit_or (first old) false_lit) [
       | inl same ↦
           let swapped : new ≡ swap old 0 1 = brings.first (λ d. get_or_default old 0 d no_lit (omega arith) ∙ same) in
           let by : Swapped (λ i. get_or old i no_lit) (λ i. get_or new i no_lit) 0 1 = swapped_from_swap old new 0 1 no_lit (omega arith) (omega arith) swapped in
@@ -49,8 +49,8 @@ all_places P lits at_first at_second behind (suc (suc k)) d below = behind (suc 
 kept_same : (old mid new : List Lit) → KeepsPair old mid → new ≡ mid → KeepsPair old new
 kept_same old mid new kept is = subst (KeepsPair old) (sym is) kept
 
-left_one : (gone : Lit) (old mid new : List Lit) → KeepsPair old mid → IsPermutation mid new → first new ≡ first mid → second mid ≡ gone → LeavesOne gone old new
-left_one gone old mid new kept moved same is = record {
+left_one : (false_lit : Lit) (old mid new : List Lit) → KeepsPair old mid → IsPermutation mid new → first new ≡ first mid → second mid ≡ false_lit → LeavesOne false_lit old new
+left_one false_lit old mid new kept moved same is = record {
   permuted = IsPermutation-trans old mid new kept.permuted moved;
   pair = elim kept.pair [
     | inl pair ↦ inl (same ∙ pair.0, sym pair.1 ∙ is)
@@ -58,17 +58,17 @@ left_one gone old mid new kept moved same is = record {
   ];
 }
 
-pub attended : (values : List (Option Bool)) (gone : Lit) (old mid new : List Lit) (visit : Visit) → 2 ≤ length mid → Brought gone old mid → second mid ≡ gone → IsFalseIn values gone
-    → Visits values mid new visit → Attends values gone old new visit
-attended values gone old mid new Strays two at is false_gone visits = absurd visits
-attended values gone old mid new (Stays other) two at is false_gone visits =
+pub visited_clause : (values : List (Option Bool)) (false_lit : Lit) (old mid new : List Lit) (visit : Visit) → 2 ≤ length mid → Brought false_lit old mid → second mid ≡ false_lit → IsFalseIn values false_lit
+    → Visits values mid new visit → VisitsClause values false_lit old new visit
+visited_clause values false_lit old mid new Stale two at is falsity visits = absurd visits
+visited_clause values false_lit old mid new (Satisfied other) two at is falsity visits =
     (kept_same old mid new at.kept visits.0, ap second visits.0 ∙ is, ap first visits.0 ∙ visits.1 no_lit, visits.2)
-attended values gone old mid new (Moves l other) two at is false_gone visits =
+visited_clause values false_lit old mid new (NewWatch l other) two at is falsity visits =
     let moved = visits.1 in
     let by : Swapped (λ i. get_or mid i no_lit) (λ i. get_or new i no_lit) 1 moved.place =
     swapped_from_swap mid new 1 moved.place no_lit (omega arith) moved.within moved.swapped in
     let same : first new ≡ first mid = by.2 0 (λ e. absurd (omega arith)) (λ e. absurd (omega (arith, moved.behind))) in (
-      left_one gone old mid new at.kept (IsPermutation-swap mid new 1 moved.place (omega arith) moved.within moved.swapped) same is,
+      left_one false_lit old mid new at.kept (IsPermutation-swap mid new 1 moved.place (omega arith) moved.within moved.swapped) same is,
       same ∙ visits.0 no_lit,
       record {
         stands = by.0 ∙ moved.stood no_lit;
@@ -76,7 +76,7 @@ attended values gone old mid new (Moves l other) two at is false_gone visits =
         differs = λ e. moved.differs (e ∙ same ∙ visits.0 no_lit);
       },
     )
-attended values gone old mid new (Forces l) two at is false_gone visits =
+visited_clause values false_lit old mid new (UnitLit l) two at is falsity visits =
     let still = visits.1 in (
       kept_same old mid new at.kept still.same,
       ap second still.same ∙ is,
@@ -84,16 +84,16 @@ attended values gone old mid new (Forces l) two at is false_gone visits =
         stands = ap first still.same ∙ visits.0 no_lit;
         others =
             subst (All (λ m. (m ≡ l) ⊎ IsFalseIn values m)) (sym still.same)
-            (all_places (λ m. (m ≡ l) ⊎ IsFalseIn values m) mid (inl (visits.0 no_lit)) (inr (subst (IsFalseIn values) (sym is) false_gone)) still.falses);
+            (all_places (λ m. (m ≡ l) ⊎ IsFalseIn values m) mid (inl (visits.0 no_lit)) (inr (subst (IsFalseIn values) (sym is) falsity)) still.falses);
         not_true = visits.2;
         not_false = visits.3;
       },
     )
-attended values gone old mid new Fails two at is false_gone visits =
+visited_clause values false_lit old mid new Conflict two at is falsity visits =
     let still = visits.2 in
     let false_first : IsFalseIn values (first mid) = subst (IsFalseIn values) (sym (visits.1 no_lit)) visits.3 in (
       kept_same old mid new at.kept still.same,
       subst (All (IsFalseIn values)) (sym still.same)
-          (all_places (IsFalseIn values) mid false_first (subst (IsFalseIn values) (sym is) false_gone)
+          (all_places (IsFalseIn values) mid false_first (subst (IsFalseIn values) (sym is) falsity)
           (λ k d from below. elim (still.falses k d from below) [ inl e ↦ subst (IsFalseIn values) (sym e) visits.3 | inr f ↦ f ])),
     )

@@ -5,7 +5,7 @@ use Rattle.std.specs.List.{All}
 use Rattle.std.proofs.lemmas.List.Elements.{All-contains}
 use Rattle.bt_cnf.specs.declared.literal.Lit.{Lit}
 use Rattle.bt_cnf.specs.Units.{opposite, HasNoBothSigns, IsUnit}
-use Rattle.bt_watch.specs.Propagation.{IsFalseClause, IsSettled}
+use Rattle.bt_watch.specs.Propagation.{IsFalseClause, IsFullyPropagated}
 use Rattle.bt_watch.specs.inner.Watching.{HasTrue, IsWatched}
 use Rattle.bt_cnf.proofs.Lists.{all_more}
 
@@ -32,8 +32,8 @@ watched_not_unit falses clause signs w l unit =
     ]
 
 -- where each clause is watched well, propagation has come to its end
-pub watched_is_settled : (clauses : List (List Lit)) (falses : List Lit) → HasNoBothSigns falses → All (IsWatched falses) clauses → IsSettled clauses falses
-watched_is_settled clauses falses signs all = record {
+pub watched_is_propagated : (clauses : List (List Lit)) (falses : List Lit) → HasNoBothSigns falses → All (IsWatched falses) clauses → IsFullyPropagated clauses falses
+watched_is_propagated clauses falses signs all = record {
   no_false = all_more (IsWatched falses) (λ c. IsFalseClause falses c → ⊥) clauses (λ c w. watched_not_false falses c signs w) all;
   no_unit = all_more (IsWatched falses) (λ c. (l : Lit) → IsUnit falses c l → ⊥) clauses (λ c w. watched_not_unit falses c signs w) all;
 }

@@ -1,12 +1,12 @@
--- Settling the clauses on the list of a literal that is false.
+-- Propagating by the clauses on the list of a literal that is false.
 use Rattle.std.specs.Prelude.{◌≡◌, ◌+◌, ◌<◌, ◌≤◌, ℕ, Bool, Option, Some, None, List, length, Contains}
 use Rattle.std.specs.List.{AllWithin, HoldsAt}
 use Rattle.bt_cnf.specs.declared.literal.Lit.{Lit}
 use Rattle.bt_cnf.specs.Truths.{IsTrueIn}
 use Rattle.bt_watch.specs.declared.clause_pool.Watch.{Watch}
 use Rattle.bt_watch.specs.declared.search.Search.{Search}
-use Rattle.bt_watch.specs.declared.search.Attended.{Attended}
-use Rattle.bt_watch.specs.declared.search.Attended.TheVariants.{Stays, Leaves, Fails}
+use Rattle.bt_watch.specs.declared.search.Visited.{Visited}
+use Rattle.bt_watch.specs.declared.search.Visited.TheVariants.{Stays, Leaves, Conflict}
 use Rattle.bt_watch.specs.declared.search.Next.{Next}
 use Rattle.bt_watch.specs.declared.search.Next.TheVariants.{Nothing, Done, Open}
 use Rattle.bt_watch.specs.inner.Visiting.{IsVisiting}
@@ -20,7 +20,7 @@ with_watches s l list = record { assignment = s.assignment; clauses = s.clauses;
 
 -- the search visits the list of a false literal, and came to this place
 abbrev pub Visiting : List Lit → Lit → ℕ → Search → Type 0
-Visiting part gone place s = IsVisiting part gone place (root_of s) s.assignment.values s.assignment.trail.items s.clauses s.watchers
+Visiting part false_lit place s = IsVisiting part false_lit place (root_of s) s.assignment.values s.assignment.trail.items s.clauses s.watchers
 
 -- the blocking literals of the clauses of a list are true from one place of it up to another, which it has
 pub record ComesTo (values : List (Option Bool)) (list : List Watch) (from place : ℕ) : Type 0 where
@@ -37,17 +37,17 @@ Finds values root list from (Done place) = ComesTo values list from place
 Finds values root list from (Open place) = ComesTo values list from place
 
 -- what a visit of the clause at a place makes of the search
-abbrev pub Advances : Lit → ℕ → Search → Search → Attended → Type 0
-Advances gone place old new Stays =
-    GoesOn old new × (length (watches_of new.watchers gone) ≡ length (watches_of old.watchers gone))
-    × ((part : List Lit) → Visiting part gone place old → Visiting part gone (place + 1) new)
-Advances gone place old new Leaves =
-    GoesOn old new × (length (watches_of new.watchers gone) + 1 ≡ length (watches_of old.watchers gone))
-    × ((part : List Lit) → Visiting part gone place old → Visiting part gone place new)
-Advances gone place old new (Fails id) = GoesOn old new × FailsAt new id × (IsWhole old → IsWhole new)
+abbrev pub Advances : Lit → ℕ → Search → Search → Visited → Type 0
+Advances false_lit place old new Stays =
+    GoesOn old new × (length (watches_of new.watchers false_lit) ≡ length (watches_of old.watchers false_lit))
+    × ((part : List Lit) → Visiting part false_lit place old → Visiting part false_lit (place + 1) new)
+Advances false_lit place old new Leaves =
+    GoesOn old new × (length (watches_of new.watchers false_lit) + 1 ≡ length (watches_of old.watchers false_lit))
+    × ((part : List Lit) → Visiting part false_lit place old → Visiting part false_lit place new)
+Advances false_lit place old new (Conflict id) = GoesOn old new × FailsAt new id × (IsWhole old → IsWhole new)
 
 -- all clauses on the literal's list were visited, or one was found whose literals are all false
-abbrev pub Settles : Lit → Search → Search → Option ℕ → Type 0
-Settles gone old new None = GoesOn old new
-    × ((part : List Lit) → Visiting part gone 0 old → (place : ℕ) × (length (watches_of new.watchers gone) ≤ place) × Visiting part gone place new)
-Settles gone old new (Some id) = GoesOn old new × FailsAt new id × (IsWhole old → IsWhole new)
+abbrev pub PropagatesLit : Lit → Search → Search → Option ℕ → Type 0
+PropagatesLit false_lit old new None = GoesOn old new
+    × ((part : List Lit) → Visiting part false_lit 0 old → (place : ℕ) × (length (watches_of new.watchers false_lit) ≤ place) × Visiting part false_lit place new)
+PropagatesLit false_lit old new (Some id) = GoesOn old new × FailsAt new id × (IsWhole old → IsWhole new)
