@@ -1,4 +1,5 @@
 pub mod Rules
+pub mod Counters
 pub mod Spots
 pub mod Facts
 pub mod Near

@@ -3,6 +3,7 @@
 
 mod adding;
 mod cells;
+mod counter;
 mod draft;
 mod fact;
 mod facts;
@@ -13,6 +14,7 @@ pub use adding::{
     add_one_where,
 };
 pub use cells::{border_of, cells_of};
+pub use counter::{add_all_held, add_counter};
 pub use draft::{Draft, Drafted, RuleFact};
 pub use fact::{Class, Content, Fact, Half, Line, Shape};
 pub use facts::{

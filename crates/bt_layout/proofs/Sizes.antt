@@ -40,7 +40,8 @@ use Rattle.bt_rules.specs.Carrying.{carried_rules, taken_rule, kept_in_rules, on
 use Rattle.bt_demands.specs.Classes.{classes_of, input_classes, occurs, ends_out, is_through, same_class, classes_into, splitters_of, shared_into}
 use Rattle.bt_facts.specs.Facts.{holds}
 use Rattle.bt_rules.specs.Contents.{contents, content_rules, shape_rules, mate_rules, class_rules}
-use Rattle.bt_demands.specs.Counting.{halves_of, has_room, last_cell_rule, one_fewer_rules, held_rules, all_held_rules, count_rules}
+use Rattle.bt_demands.specs.Counting.{halves_of, has_room, count_rules}
+use Rattle.bt_facts.specs.Counters.{last_cell_rule, one_fewer_rules, held_rules, all_held_rules}
 use Rattle.bt_rules.specs.Going.{going_rules, inner_rules, fed_belt, fed_entrance, begin_rules, once_rules, handing_rules}
 use Rattle.bt_facts.specs.Facts.{goes_into}
 use Rattle.bt_demands.specs.Pinning.{is_edge_of, end_shapes, turned_rules, pin_rules, clashes, clash_rules, end_classes, not_begun, begun_rules, stop_rules, apart_rules, pins_other, unpinned_rules, side_end_rules, ends_named, demand_rules, block_rule}

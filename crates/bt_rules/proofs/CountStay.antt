@@ -27,7 +27,8 @@ use Rattle.bt_model.proofs.Sorted.{one_place}
 use Rattle.bt_facts.specs.declared.fact.Fact.{Fact}
 use Rattle.bt_facts.specs.declared.fact.Fact.TheVariants.{HalfOn, Held}
 use Rattle.bt_demands.specs.Classes.{leads_out, is_through}
-use Rattle.bt_demands.specs.Counting.{halves_of, ends_apart, has_room, among_less, last_cell_rule, one_fewer_rules, held_rules, counter_rules, all_held_rules, count_rules}
+use Rattle.bt_demands.specs.Counting.{halves_of, ends_apart, has_room, count_rules}
+use Rattle.bt_facts.specs.Counters.{among_less, last_cell_rule, one_fewer_rules, held_rules, counter_rules, all_held_rules}
 use Rattle.bt_facts.specs.Spots.{cells_of, border_of}
 use Rattle.bt_rules.proofs.Classed.{the_edge, edge_in, one_edge, input_lies, from_target, target_out, output_target}
 use Rattle.bt_facts.proofs.Decided.{Decided, contains_at}

@@ -33,7 +33,8 @@ use Rattle.bt_demands.specs.Classes.{same_class, class_of, goes_to, ends_out, is
 use Rattle.bt_facts.specs.Facts.{holds}
 use Rattle.bt_rules.specs.Contents.{contents, content_rules, half_kinds, belt_kinds, shape_rules, mate_rule, mate_rules, class_rules}
 use Rattle.bt_facts.specs.Rules.{equals_one}
-use Rattle.bt_demands.specs.Counting.{halves_of, ends_apart, has_room, among_less, one_fewer_rules, held_rules, counter_rules, all_held_rules, count_rules}
+use Rattle.bt_demands.specs.Counting.{halves_of, ends_apart, has_room, count_rules}
+use Rattle.bt_facts.specs.Counters.{among_less, one_fewer_rules, held_rules, counter_rules, all_held_rules}
 use Rattle.bt_rules.specs.Going.{runners, givers, inner_rules, going_rules, begins_there, fed_belt, fed_entrance, begin_rules, once_rules, handing_rules}
 use Rattle.bt_facts.specs.Facts.{goes_into}
 use Rattle.bt_rules.specs.Laws.{RulesAreWithin}

@@ -1,0 +1,115 @@
+//! Rules that count: a sequential counter over cells, each of which holds a half or none.
+ghost use Rattle.std.specs.Prelude.{◌≡◌, ◌++◌, ◌∷◌, [], ◌<◌, ◌≤◌, ◌+◌, length, OnOk, IfOk};
+ghost use Rattle.std.specs.List.{flat_map, range_with_len};
+ghost use Rattle.bt_facts.specs.Counters as counters;
+
+use crate::draft::Draft;
+use crate::fact::Fact;
+use bt_parts::Cell;
+use std::alloc::{AllocError, Global};
+
+/// That more than so many halves stand among the cells before the last one, of which one fewer may hold none; or no
+/// fact, where none may.
+fn among_less(alloc: Global, spare: usize, half: usize) -> Result<Vec<Fact>, AllocError>
+    ensures { IfOk result (λ facts. facts.items ≡ counters.among_less spare half) }
+{
+    let mut facts = Vec::new(alloc);
+    if 0 < spare {
+        facts.push(Fact::Held(spare - 1, half))?;
+    }
+    Ok(facts)
+}
+
+/// Adds that as many of the cells before the last one hold halves, or it holds one.
+fn add_last_cell(
+    alloc: Global,
+    draft: &mut Draft,
+    cells: &[Cell],
+    spare: usize,
+    half: usize,
+) -> Result<(), AllocError>
+    requires { spare + half < length cells.now }
+    ensures { OnOk result (draft.new ≡ draft.old ++ counters.last_cell_rule cells.now spare half ∷ []) }
+{
+    let mut facts = among_less(alloc, spare, half)?;
+    facts.push(Fact::HalfOn(cells[spare + half]))?;
+    draft.add(&[Fact::Held(spare, half)], &facts)?;
+    Ok(())
+}
+
+/// Adds that as many of the cells before the last one hold halves, or one fewer.
+fn add_one_fewer(
+    alloc: Global,
+    draft: &mut Draft,
+    spare: usize,
+    half: usize,
+) -> Result<(), AllocError>
+    ensures { OnOk result (draft.new ≡ draft.old ++ counters.one_fewer_rules spare half) }
+{
+    if 0 < half {
+        let mut facts = among_less(alloc, spare, half)?;
+        facts.push(Fact::Held(spare, half - 1))?;
+        draft.add(&[Fact::Held(spare, half)], &facts)?;
+    }
+    Ok(())
+}
+
+/// Adds the rules of so many cells that may hold none, and of the half of this number.
+fn add_held(
+    alloc: Global,
+    draft: &mut Draft,
+    cells: &[Cell],
+    spare: usize,
+    half: usize,
+) -> Result<(), AllocError>
+    requires { spare + half < length cells.now }
+    ensures { OnOk result (draft.new ≡ draft.old ++ counters.held_rules cells.now spare half) }
+{
+    add_last_cell(alloc, draft, cells, spare, half)?;
+    add_one_fewer(alloc, draft, spare, half)
+}
+
+/// Adds the rules of so many cells that may hold none, and of each half.
+fn add_each_held(
+    alloc: Global,
+    draft: &mut Draft,
+    cells: &[Cell],
+    spare: usize,
+    halves: usize,
+) -> Result<(), AllocError>
+    requires { spare + halves ≤ length cells.now }
+    ensures { OnOk result (draft.new ≡ draft.old
+        ++ flat_map (counters.held_rules cells.now spare) (range_with_len 0 halves)) }
+{
+    for half in 0..halves {
+        add_held(alloc, draft, cells, spare, half)?;
+    }
+    Ok(())
+}
+
+/// Adds the rules of the counter.
+pub fn add_counter(
+    alloc: Global,
+    draft: &mut Draft,
+    cells: &[Cell],
+    halves: usize,
+) -> Result<(), AllocError>
+    requires { halves ≤ length cells.now }
+    ensures { OnOk result (draft.new ≡ draft.old ++ counters.counter_rules cells.now halves) }
+{
+    for spare in 0..cells.len() - halves + 1 {
+        add_each_held(alloc, draft, cells, spare, halves)?;
+    }
+    Ok(())
+}
+
+/// Adds that so many halves are among so many cells.
+pub fn add_all_held(draft: &mut Draft, cells: usize, halves: usize) -> Result<(), AllocError>
+    requires { halves ≤ cells }
+    ensures { OnOk result (draft.new ≡ draft.old ++ counters.all_held_rules cells halves) }
+{
+    if 0 < halves {
+        draft.add(&[], &[Fact::Held(cells - halves, halves - 1)])?;
+    }
+    Ok(())
+}
