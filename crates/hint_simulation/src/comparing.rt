@@ -1,8 +1,7 @@
 //! Looking for simulations in which two networks behave otherwise.
 use crate::case::{Case, Choice};
-use crate::finding::Found;
 use crate::rank::LEAST_FAILURE;
-use crate::simulation::{Simulated, simulate};
+use crate::simulation::{Found, Simulated, simulate};
 use crate::tries::{MOST_TRIES, Tries};
 use bt_flow::{Property, Role};
 use bt_net::Net;

@@ -4,8 +4,8 @@ ghost use Rattle.bt_flow.specs.States.{Fits};
 ghost use Rattle.hint_simulation.specs.inner.Finding.{IsFound};
 
 use crate::belt::{UNIT, in_units};
-use crate::finding::Found;
 use crate::preference::Preference;
+use crate::simulation::Found;
 use crate::splitter::{Splitter, splitters_of};
 use bt_flow::{Port, State};
 use bt_frac::Frac;

@@ -8,7 +8,7 @@ ghost use Rattle.hint_simulation.specs.inner.Finding.{IsFound};
 use crate::case::{Case, Choice};
 use crate::exact::state_of;
 use crate::rank::{Rank, rank_of};
-use crate::simulation::{Simulated, simulate};
+use crate::simulation::{Found, simulate};
 use crate::tries::{MOST_TRIES, Tries};
 use bt_flow::{Judgement, Property, State, breaks};
 use bt_net::Net;
@@ -20,13 +20,6 @@ const MORE_WORK: u64 = 1 << 21;
 
 /// The most simulations that may show no state before nothing more is tried.
 const MOST_FAILURES: u32 = 8;
-
-/// A simulation, and its loads and rooms.
-#[derive(Drop)]
-pub struct Found {
-    pub case: Case,
-    pub simulated: Simulated,
-}
 
 /// Of the states that simulations show and that break a property one that convinces most, or none. The first that
 /// is found is followed by as many tries as take little time.

@@ -1,7 +1,7 @@
 //! How much a simulation convinces that a network lacks a property.
 use crate::belt::UNIT;
 use crate::case::Case;
-use crate::finding::Found;
+use crate::simulation::Found;
 use bt_flow::Property;
 use bt_net::{Edge, Net, Start, Target};
 

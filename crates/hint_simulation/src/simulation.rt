@@ -4,6 +4,7 @@ ghost use Rattle.std.specs.List.{AllZip};
 ghost use Rattle.hint_simulation.specs.Simulations.{IsSimulated, IsWithinCap};
 
 use crate::belt::{BLOCK, Belt};
+use crate::case::Case;
 use crate::splitter::{Splitter, splitters_of};
 use bt_net::{Edge, Net, Start, Target};
 use std::alloc::{AllocError, Global};
@@ -22,6 +23,13 @@ pub struct Simulated {
     pub steps: u32,
     /// Whether nothing moved in the last steps.
     pub is_still: bool,
+}
+
+/// A simulation, and its loads and rooms.
+#[derive(Drop)]
+pub struct Found {
+    pub case: Case,
+    pub simulated: Simulated,
 }
 
 /// Simulates a network whose inputs are given these loads and whose outputs take these rooms, in parts of

@@ -1,6 +1,6 @@
 -- What is found: a simulation under loads and rooms.
 use Rattle.bt_net.specs.Network.{Network}
-use Rattle.hint_simulation.specs.declared.finding.Found.{Found}
+use Rattle.hint_simulation.specs.declared.simulation.Found.{Found}
 use Rattle.hint_simulation.specs.Simulations.{IsSimulated, IsCase}
 
 -- a simulation of the network, with its loads and rooms
