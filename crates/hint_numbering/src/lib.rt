@@ -1,14 +1,17 @@
-//! Requests with numbers by the structure of their networks, and where a request wants its ends.
+//! Requests with numbers by the structure of their networks, how far splitters are from the ends, and where a request wants
+//! these.
 //!
-//! Nothing is claimed of either. What they depend on is the structure of a network, never the numbers of its splitters and
+//! Nothing is claimed of any. What they depend on is the structure of a network, never the numbers of its splitters and
 //! edges.
 #![tactic(auto)]
 
+mod distances;
 mod naming;
 mod network;
 mod numbering;
 mod wanted;
 
+pub use distances::{distance_at, from_inputs, to_outputs};
 pub use naming::{Named, name_by_structure, open_edge};
 pub use network::{from, joined, leaving, to};
 pub use numbering::{Numbered, are_in_pairs, edge_to_open, number_by_structure};

@@ -1,7 +1,7 @@
 //! Networks with loops: which edges lead back, and the levels of splitters.
-use crate::levels::{LAST_LEVEL, to_outputs};
+use crate::levels::LAST_LEVEL;
 use bt_net::Edge;
-use hint_numbering::{from, to};
+use hint_numbering::{from, to, to_outputs};
 use std::alloc::{AllocError, Global};
 
 /// The number at a splitter, or 0 where it has none.
