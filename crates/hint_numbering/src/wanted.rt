@@ -99,7 +99,7 @@ pub fn is_blocked(request: &Request, cell: Cell) -> bool {
 }
 
 /// A number of where an end is to stand: the same for ends of which the same is wanted.
-pub fn color(wanted: Wanted) -> u64 {
+pub fn colour(wanted: Wanted) -> u64 {
     match wanted {
         Wanted::Anywhere => 1,
         Wanted::On(cell, dir) => {
