@@ -1,6 +1,5 @@
 //! Whether halves and ends have room, and the rules that all halves are among the cells.
-ghost use Rattle.std.specs.Prelude.{◌≡◌, ◌++◌, ◌∷◌, [], ◌<◌, ◌≤◌, ◌+◌, ◌-◌, ◌*◌, length, not, true, IfOk, OnOk};
-ghost use Rattle.std.specs.List.{flat_map, range_with_len};
+ghost use Rattle.std.specs.Prelude.{◌≡◌, ◌++◌, ◌≤◌, not, true, IfOk, OnOk};
 ghost use Rattle.bt_demands.specs.Classes.{is_through};
 ghost use Rattle.bt_demands.specs.Counting as counting;
 ghost use Rattle.bt_facts.specs.Spots as spots;

@@ -186,7 +186,8 @@ fn rectangle(
     narrow(alloc, wish, kind, inputs, outputs)
 }
 
-/// The same, where what is equal at the outputs alone, or at the inputs too where they are fewer, is wished for.
+/// The balancer of these ends, where what is equal at the outputs alone, or at the inputs too where they are fewer, is
+/// wished for.
 fn narrow(
     alloc: Global,
     wish: Wish,

@@ -7,7 +7,7 @@ use std::alloc::{AllocError, Global};
 /// How far the lines of a splitter lie apart, stage by stage.
 const APART: [usize; 6] = [1, 2, 4, 8, 16, 32];
 
-/// The same backward.
+/// How far the lines of a splitter lie apart in a butterfly that goes on backward.
 const BACKWARD: [usize; 6] = [32, 16, 8, 4, 2, 1];
 
 /// The butterfly of this many lines, which are a power of two, 64 at most.

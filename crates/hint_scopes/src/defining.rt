@@ -35,7 +35,7 @@ impl Comparison {
         named(self.var.saturating_add(1), true)
     }
 
-    /// Adds its rows.
+    /// Lists the rows that say what it compares: a scope that speaks of it takes these.
     pub fn add_rows(self, rows: &mut Vec<usize>) -> Result<(), AllocError> {
         add_rows(rows, self.row, OF_COMPARISON)
     }
@@ -79,7 +79,7 @@ impl Counted {
         named(self.form.saturating_add(2), true)
     }
 
-    /// Adds its rows.
+    /// Lists the rows that say what it is in its two cases: a scope that speaks of it takes these.
     pub fn add_rows(self, rows: &mut Vec<usize>) -> Result<(), AllocError> {
         add_rows(rows, self.row, OF_CASES)
     }
@@ -123,7 +123,7 @@ impl Chosen {
         named(self.second.saturating_add(2), true)
     }
 
-    /// Adds its rows.
+    /// Lists the rows that say which form it is in which case: a scope that speaks of it takes these.
     pub fn add_rows(self, rows: &mut Vec<usize>) -> Result<(), AllocError> {
         add_rows(rows, self.row, OF_CASES)
     }

@@ -114,7 +114,7 @@ impl Board {
         Ok(board)
     }
 
-    /// The same in another rectangle.
+    /// The board in another rectangle, whose cells hold what they held, where they were in it.
     pub fn within(&self, alloc: Global, rect: Rect) -> Result<Board, AllocError> {
         let mut board = Board::new(alloc, rect)?;
         for place in 0..count(rect) {

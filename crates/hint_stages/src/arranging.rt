@@ -273,7 +273,7 @@ fn places(alloc: Global, row: &[usize], count: usize) -> Result<Vec<usize>, Allo
     Ok(labels)
 }
 
-/// The rows of a butterfly along the edges.
+/// The rows of a butterfly that is followed along its edges, from the splitter of this number in its first row on.
 fn rows_onward(
     alloc: Global,
     wiring: &Wiring,

@@ -93,7 +93,7 @@ fn drawing_of(lines: u32) -> Option<Drawing> {
     }
 }
 
-/// What stands on a cell of a drawing, whose rows begin at row 1.
+/// What stands on a cell of a drawing, whose rows are counted from 1.
 fn piece_at(drawing: Drawing, cell: Cell) -> Option<(Kind, Dir)> {
     let row = usize::try_from(cell.y.wrapping_sub(1)).ok()?;
     let column = usize::try_from(cell.x).ok()?;
