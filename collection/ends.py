@@ -73,7 +73,7 @@ def ends_of(parts, taken, pairs):
                 return Ends(MANY, (), (), stand, could)
             found += them
     groups = plan.grouped([it for it in found if plan.is_led_out(it)])
-    if groups is None or plan.flow.visited > MOST_VISITED:
+    if groups is None or plan.tiles.visited > MOST_VISITED:
         return Ends(MANY, (), (), stand, could)
     status = NONE if not groups else ONE if len(groups) == 1 else SEVERAL
     return Ends(status, tuple(groups), (), stand, could)
@@ -164,6 +164,48 @@ class Flow:
         return True
 
 
+class Tiles(Flow):
+    """The free tiles of a design as a graph, from its source to beyond the border: none is come by twice."""
+
+    def __init__(self, taken, box):
+        super().__init__()
+        self.taken, self.box = taken, box
+        self.source, self.sink = self.node(), self.node()
+        self.into = {}
+        """The node of each tile that is reached."""
+
+    def is_inside(self, cell):
+        """Whether a tile is in the design's box."""
+        least_x, least_y, most_x, most_y = self.box
+        return least_x <= cell[0] <= most_x and least_y <= cell[1] <= most_y
+
+    def led(self, edge, cell):
+        """Is told which tile a new edge leads to."""
+
+    def lead(self, node, cell):
+        """An edge from a node to a free tile, or out of the box; whether the tile is a new one."""
+        if not self.is_inside(cell):
+            self.led(self.edge(node, self.sink, 1), cell)
+            return False
+        if cell in self.taken:
+            return False
+        is_new = cell not in self.into
+        if is_new:
+            self.into[cell] = self.node()
+            self.edge(self.into[cell], self.node(), 1)
+        self.led(self.edge(node, self.into[cell], 1), cell)
+        return is_new
+
+    def spread(self):
+        """Reaches all free tiles from those that are reached."""
+        line = list(self.into)
+        for cell in line:
+            for direction in range(4):
+                there = step(cell, direction)
+                if self.lead(self.into[cell] + 1, there):
+                    line.append(there)
+
+
 class Plan:
     """A design's splitters with their bare halves: what can be chosen, and what comes of it. A choice is two tuples:
     how many ends each splitter gets at its back, and in front."""
@@ -171,7 +213,8 @@ class Plan:
     def __init__(self, parts, taken, network, bare):
         self.parts, self.bare, self.network = parts, bare, network
         self.taken = {cell for part in parts for cell in part.cells} | set(taken)
-        self.box = box_of([cell for part in parts for cell in part.cells])
+        self.tiles = Tiles(self.taken, box_of([cell for part in parts for cell in part.cells]))
+        """The graph of the free tiles by which bare ends are led out."""
         self.count = len(network.splitters)
         number = {part: at for at, part in enumerate(network.splitters)}
         self.halves = [([], []) for _ in range(self.count)]
@@ -187,15 +230,10 @@ class Plan:
         part = self.parts[bare.part]
         cell, direction, belts = part.cells[bare.half], way_out(part, bare), 0
         is_taken = False
-        while self.is_inside(cell):
+        while self.tiles.is_inside(cell):
             cell, belts = step(cell, direction), belts + 1
             is_taken = is_taken or cell in self.taken
         return is_taken, belts
-
-    def is_inside(self, cell):
-        """Whether a cell is in the design's box."""
-        least_x, least_y, most_x, most_y = self.box
-        return least_x <= cell[0] <= most_x and least_y <= cell[1] <= most_y
 
     def read_edges(self):
         """Reads from the network which splitters lead to which, and the ends that stand at each."""
@@ -232,67 +270,48 @@ class Plan:
         return found
 
     def make_flow(self):
-        """Makes the graph of the free tiles by which bare ends are led out, and finds which can be."""
-        self.flow = Flow()
-        self.source, self.sink = self.flow.node(), self.flow.node()
-        self.into, self.starts = {}, {}
+        """Leads the bare ends into the graph of the free tiles, and finds which can be led out."""
+        self.starts = {}
         for at in range(self.count):
             for front in (0, 1):
                 if self.halves[at][front]:
-                    side = self.flow.node()
-                    self.starts[at, front] = self.flow.edge(self.source, side, 0)
+                    side = self.tiles.node()
+                    self.starts[at, front] = self.tiles.edge(self.tiles.source, side, 0)
                     for number in self.halves[at][front]:
                         it = self.bare[number]
-                        self.lead(side, outside(self.parts[it.part], it))
-        line = list(self.into)
-        for cell in line:
-            for direction in range(4):
-                if self.lead(self.into[cell] + 1, step(cell, direction)):
-                    line.append(step(cell, direction))
+                        self.tiles.lead(side, outside(self.parts[it.part], it))
+        self.tiles.spread()
         self.outer = self.flooded()
         self.free = [[sum(self.is_out(it) for it in side) for side in sides] for sides in self.halves]
         """How many bare ends each splitter has at its back and in front that can be led out alone."""
         everything = [tuple(sides[front] for sides in self.free) for front in (0, 1)]
         self.is_all_led_out = self.is_flowing(everything)
 
-    def lead(self, node, cell):
-        """An edge from a node to a free cell, or out of the box; whether the cell is a new one."""
-        if not self.is_inside(cell):
-            self.flow.edge(node, self.sink, 1)
-            return False
-        if cell in self.taken:
-            return False
-        is_new = cell not in self.into
-        if is_new:
-            self.into[cell] = self.flow.node()
-            self.flow.edge(self.into[cell], self.flow.node(), 1)
-        self.flow.edge(node, self.into[cell], 1)
-        return is_new
-
     def is_out(self, number):
         """Whether a bare end can be led out where it is alone."""
         cell = outside(self.parts[self.bare[number].part], self.bare[number])
-        return not self.is_inside(cell) or cell in self.outer
+        return not self.tiles.is_inside(cell) or cell in self.outer
 
     def flooded(self):
         """The free cells from which a way leads out of the box."""
-        line = [cell for cell in self.into if any(not self.is_inside(step(cell, it)) for it in range(4))]
+        tiles = self.tiles
+        line = [cell for cell in tiles.into if any(not tiles.is_inside(step(cell, it)) for it in range(4))]
         found = set(line)
         for cell in line:
             for direction in range(4):
                 beside = step(cell, direction)
-                if beside in self.into and beside not in found:
+                if beside in tiles.into and beside not in found:
                     found.add(beside)
                     line.append(beside)
         return found
 
     def is_flowing(self, choice):
         """Whether the ends of a choice can all be led out together."""
-        room, wanted = list(self.flow.room), 0
+        room, wanted = list(self.tiles.room), 0
         for (at, front), edge in self.starts.items():
             room[edge] = choice[front][at]
             wanted += choice[front][at]
-        return all(self.flow.is_raised(self.source, self.sink, room) for _ in range(wanted))
+        return all(self.tiles.is_raised(self.tiles.source, self.tiles.sink, room) for _ in range(wanted))
 
     def is_led_out(self, choice):
         return self.is_all_led_out or self.is_flowing(choice)

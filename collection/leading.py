@@ -4,55 +4,33 @@ which is shared. A path that a flow finds is one of the fewest turns back, and n
 from dataclasses import replace
 
 from .design import step
-from .ends import Flow, outside, way_out
+from .ends import Tiles, outside, way_out
 
 
-class Paths:
+class Paths(Tiles):
     """The free tiles of a design as a graph, and the paths from some bare ends to beyond its border."""
 
     def __init__(self, parts, taken, box, ends):
-        self.parts, self.box, self.ends = parts, box, ends
-        self.taken, self.flow = taken, Flow()
-        self.source, self.sink = self.flow.node(), self.flow.node()
-        self.into, self.cell_of = {}, {}
-        """The node of each tile, and the tile that each edge leads to."""
+        super().__init__(taken, box)
+        self.parts, self.ends, self.cell_of = parts, ends, {}
         self.starts = [self.start(it) for it in ends]
-        line = list(self.into)
-        for cell in line:
-            for direction in range(4):
-                there = step(cell, direction)
-                if self.lead(self.into[cell] + 1, there):
-                    line.append(there)
+        self.spread()
 
     def start(self, bare):
         """The node of a bare end, whose one edge leads to the tile beyond it."""
-        node = self.flow.node()
-        self.flow.edge(self.source, node, 1)
+        node = self.node()
+        self.edge(self.source, node, 1)
         self.lead(node, outside(self.parts[bare.part], bare))
         return node
 
-    def is_inside(self, cell):
-        least_x, least_y, most_x, most_y = self.box
-        return least_x <= cell[0] <= most_x and least_y <= cell[1] <= most_y
-
-    def lead(self, node, cell):
-        """An edge from a node to a free tile, or out of the box; whether the tile is a new one."""
-        if not self.is_inside(cell):
-            self.cell_of[self.flow.edge(node, self.sink, 1)] = cell
-            return False
-        if cell in self.taken:
-            return False
-        is_new = cell not in self.into
-        if is_new:
-            self.into[cell] = self.flow.node()
-            self.flow.edge(self.into[cell], self.flow.node(), 1)
-        self.cell_of[self.flow.edge(node, self.into[cell], 1)] = cell
-        return is_new
+    def led(self, edge, cell):
+        """Remembers the tile that an edge leads to."""
+        self.cell_of[edge] = cell
 
     def found(self):
         """The tiles of each end's path, from the half on; None where not all can be led out together."""
-        room = list(self.flow.room)
-        if not all(self.flow.is_raised(self.source, self.sink, room) for _ in self.ends):
+        room = list(self.room)
+        if not all(self.is_raised(self.source, self.sink, room) for _ in self.ends):
             return None
         return [self.path(node, room) for node in self.starts]
 
@@ -60,7 +38,7 @@ class Paths:
         """The tiles from a node on, along the edges on which something flows."""
         cells = []
         while True:
-            edge = next(it for it in self.flow.out[node] if it in self.cell_of and not room[it])
+            edge = next(it for it in self.out[node] if it in self.cell_of and not room[it])
             cells.append(self.cell_of[edge])
             if cells[-1] not in self.into:
                 return cells
