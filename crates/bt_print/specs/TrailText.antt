@@ -3,11 +3,11 @@ use Rattle.std.specs.Prelude.{ℕ, List, ◌∷◌, ◌++◌, codes, decimal, le
 use Rattle.std.specs.List.{flat_map}
 use Rattle.bt_text.specs.Lines.{line}
 use Rattle.bt_frac.specs.Texts.{frac_text}
-use Rattle.bt_simplex.specs.declared.tableau.Turn.{Turn}
+use Rattle.bt_pivot.specs.declared.turning.Turn.{Turn}
 use Rattle.bt_simplex.specs.declared.answers.Trail.{Trail}
 use Rattle.bt_simplex.specs.declared.answers.Wide.{Wide}
-use Rattle.bt_simplex.specs.declared.answers.WidePlace.{WidePlace}
-use Rattle.bt_simplex.specs.declared.answers.WidePlace.TheVariants.{Entry, Value, Settle, Lemma}
+use Rattle.bt_pivot.specs.declared.causes.WidePlace.{WidePlace}
+use Rattle.bt_pivot.specs.declared.causes.WidePlace.TheVariants.{Entry, Value, Settle, Lemma}
 use Rattle.bt_line.specs.declared.unfit.Operation.{Operation}
 use Rattle.bt_line.specs.declared.unfit.Operation.TheVariants.{Add, Mul, Div}
 

@@ -2,20 +2,19 @@
 use Rattle.std.proofs.Common.{◌≡◌, ℕ, ◌<◌, ◌≤◌, List, Vec, Global, length, ap, sym, ◌∙◌, refl, subst}
 use Rattle.bt_frac.specs.Ratio.{Ratio}
 use Rattle.bt_simplex.specs.Counting.{most_bases}
-use Rattle.bt_simplex.specs.SolvedForms.{Slots}
-use Rattle.bt_simplex.specs.Tableaus.{TableauParts, IsTableau}
+use Rattle.bt_pivot.specs.SolvedForms.{Slots}
+use Rattle.bt_pivot.specs.Tableaus.{TableauParts, IsTableau, with_slots}
 use Rattle.bt_simplex.specs.Turns.{IsMet, IsStuckAt, Follows}
 use Rattle.bt_simplex.specs.Runs.{LeadsTo}
 use Rattle.bt_simplex.specs.Causes.{IsCause}
 use Rattle.bt_simplex.specs.Checks.{StartsAt, IsPivots, IsWideCheck, MeetsBoundRows, RefutesBoundRows}
-use Rattle.bt_simplex.specs.declared.tableau.Turn.{Turn}
+use Rattle.bt_pivot.specs.declared.turning.Turn.{Turn}
 use Rattle.bt_simplex.specs.declared.answers.Trail.{Trail}
 use Rattle.bt_simplex.specs.declared.answers.Wide.{Wide}
 use Rattle.bt_simplex.specs.declared.answers.Check.TheVariants.{Sat, Unsat, Pivots as Limit, Wide as Unfit}
-use Rattle.bt_simplex.specs.declared.causes.Cause.{Cause}
+use Rattle.bt_pivot.specs.declared.causes.Cause.{Cause}
 use Rattle.bt_simplex.specs.declared.running.End.{End}
 use Rattle.bt_simplex.specs.declared.running.End.TheVariants.{Met, Stuck, Pivots, Wide as TooWide}
-use Rattle.bt_simplex.specs.inner.Bases.{with_slots}
 use Rattle.bt_simplex.specs.inner.Checking.{Concludes, IsWideFor}
 use Rattle.bt_simplex.specs.inner.Runs.{IsEnd, IsRun}
 use Rattle.bt_simplex.proofs.FewTurns.{few_turns}

@@ -8,17 +8,16 @@ use Rattle.bt_frac.specs.declared.delta.Delta.{Delta}
 use Rattle.bt_frac.specs.declared.row.Relation.TheVariants.{Equal}
 use Rattle.bt_lin.specs.WeightedRows.{coefficient_at}
 use Rattle.bt_simplex.specs.Laws.{NoBasisComesBack}
-use Rattle.bt_simplex.specs.Points.{bound_value, bound_row, value_or_zero, resting, standing, point_at}
-use Rattle.bt_simplex.specs.SolvedForms.{Slots, IsOutside}
-use Rattle.bt_simplex.specs.Tableaus.{TableauParts, IsTableau}
-use Rattle.bt_simplex.specs.Turns.{InBasis, Breaks, Fails, MovesTowards, MayMove, IsBlandTurn, Follows}
-use Rattle.bt_simplex.specs.declared.tableau.Turn.{Turn}
-use Rattle.bt_simplex.specs.inner.Bases.{with_slots}
-use Rattle.bt_simplex.proofs.Failing.{row_is}
+use Rattle.bt_pivot.specs.Points.{bound_value, bound_row, value_or_zero, resting, standing, point_at, Breaks, Fails}
+use Rattle.bt_pivot.specs.SolvedForms.{Slots, IsOutside, InBasis}
+use Rattle.bt_pivot.specs.Tableaus.{TableauParts, IsTableau, with_slots}
+use Rattle.bt_simplex.specs.Turns.{MovesTowards, MayMove, IsBlandTurn, Follows}
+use Rattle.bt_pivot.specs.declared.turning.Turn.{Turn}
+use Rattle.bt_pivot.proofs.Failing.{row_is}
 use Rattle.bt_line.proofs.Indicators.{decide}
 use Rattle.bt_simplex.proofs.Lexical.{IsUp, less, HasSome, still_up, rises_up, falls_up, less_than}
 use Rattle.bt_simplex.proofs.Refutations.{line_all, never_both}
-use Rattle.bt_simplex.proofs.Resting.{point_some, rest_value, rest_tiny, bound_within}
+use Rattle.bt_pivot.proofs.Resting.{point_some, rest_value, rest_tiny, bound_within}
 use Rattle.bt_simplex.proofs.Signs.{IsAbove}
 use Rattle.bt_simplex.proofs.BasisOf.{same_members}
 use Rattle.bt_simplex.proofs.Stretches.{in_or_out, not_in, enters_out, leaves_in, Made, IsMadeOf, Moves, IsMadeAt, made_at, enters_leaves, leaves_enters, differs_moves, IsGreatest, greatest}

@@ -4,10 +4,10 @@ use Rattle.std.specs.List.{All, AllPairs}
 use Rattle.std.proofs.lemmas.List.Elements.{All-cons, All-nil}
 use Rattle.std.proofs.lemmas.List.Kept.{AllPairs-cons}
 use Rattle.bt_simplex.specs.Counting.{IsAscendingOf, most_bases}
-use Rattle.bt_simplex.specs.SolvedForms.{basis_of}
-use Rattle.bt_simplex.specs.Tableaus.{TableauParts, IsTableau}
+use Rattle.bt_pivot.specs.SolvedForms.{basis_of}
+use Rattle.bt_pivot.specs.Tableaus.{TableauParts, IsTableau}
 use Rattle.bt_simplex.specs.Turns.{Follows}
-use Rattle.bt_simplex.specs.declared.tableau.Turn.{Turn}
+use Rattle.bt_pivot.specs.declared.turning.Turn.{Turn}
 use Rattle.bt_simplex.proofs.BasisOf.{basis_ascends}
 use Rattle.bt_simplex.proofs.Counting.{ascending_lists_are_few}
 use Rattle.bt_simplex.proofs.Cycling.{no_basis_comes_back}

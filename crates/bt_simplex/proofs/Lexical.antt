@@ -12,7 +12,7 @@ use Rattle.bt_frac.specs.Values.{AreValues, nothing, plus, times}
 use Rattle.bt_frac.specs.declared.delta.Delta.{Delta}
 use Rattle.bt_lin.proofs.SameNumbers.{same_trans}
 use Rattle.bt_line.specs.Lines.{Terms, HasNumber, total}
-use Rattle.bt_simplex.proofs.Failing.{less_left, less_right, less_delta_right}
+use Rattle.bt_pivot.proofs.Failing.{less_left, less_right, less_delta_right}
 use Rattle.bt_line.proofs.Indicators.{over_zero_of}
 use Rattle.bt_line.proofs.Numbers.{negated_plus, Positive, Alike, back, next, both_plus, swap_plus, pair_plus, plus_positive, times_positive, times_zero, spread, nothing_some, differ_none, none_differ, drop_zero}
 use Rattle.bt_simplex.proofs.Signs.{IsAbove, IsNotBelow, above_plus, above_times, not_below_plus, not_below_times, above_by, not_below_by, less_of, of_less, at_most_of, compared}

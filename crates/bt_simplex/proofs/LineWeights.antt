@@ -8,8 +8,8 @@ use Rattle.bt_frac.specs.Ratio.{Ratio, negated}
 use Rattle.bt_frac.specs.Values.{times}
 use Rattle.bt_lin.specs.WeightedRows.{coefficient_at}
 use Rattle.bt_line.specs.Lines.{one, Terms}
-use Rattle.bt_simplex.specs.Points.{bound_row}
-use Rattle.bt_simplex.specs.Tableaus.{TableauParts, IsTableau}
+use Rattle.bt_pivot.specs.Points.{bound_row}
+use Rattle.bt_pivot.specs.Tableaus.{TableauParts, IsTableau}
 use Rattle.bt_simplex.specs.Turns.{IsStuckAt}
 use Rattle.bt_simplex.specs.Weights.{StandsAbove, IsSign, IsWeight, AreWeights}
 use Rattle.bt_simplex.specs.inner.Lemmas.{signed, weight_of, AreLineWeights}

@@ -5,7 +5,7 @@ use Rattle.bt_frac.specs.Ratio.{Ratio}
 use Rattle.bt_frac.specs.Rows.{RowParts}
 use Rattle.bt_frac.specs.Deltas.{IsLessDelta, SameDelta}
 use Rattle.bt_frac.specs.declared.delta.Delta.{Delta}
-use Rattle.bt_simplex.specs.Points.{bound_value}
+use Rattle.bt_pivot.specs.Points.{bound_value}
 use Rattle.bt_simplex.specs.Turns.{MovesTowards}
 use Rattle.bt_line.specs.TermSigns.{IsSign}
 

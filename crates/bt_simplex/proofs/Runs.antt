@@ -1,23 +1,21 @@
 -- Bland's turns one after the other.
 use Rattle.std.proofs.Common.{◌≡◌, ℕ, ◌+◌, ◌<◌, ◌≤◌, arith, length-append, List, [], ◌∷◌, ◌++◌, length, Option, Some, None, Result, Ok, Err, IfOk, sym, ◌∙◌, refl, subst, inl, inr}
 use Rattle.std.proofs.lemmas.List.{get_or_past}
-use Rattle.bt_simplex.specs.SolvedForms.{Slots, slot_at, basis_of, IsOutside, IsSolvedForm}
-use Rattle.bt_simplex.specs.Tableaus.{TableauParts, IsTableau}
+use Rattle.bt_pivot.specs.SolvedForms.{Slots, slot_at, basis_of, IsOutside, IsSolvedForm}
+use Rattle.bt_pivot.specs.Tableaus.{TableauParts, IsTableau, with_slots}
 use Rattle.bt_simplex.specs.Turns.{CanEnter, IsBlandTurn, IsMet, IsStuckAt, IsFinal, IsTurnedBy, Follows}
-use Rattle.bt_simplex.specs.declared.tableau.Turn.{Turn}
-use Rattle.bt_simplex.specs.inner.Bases.{with_slots}
+use Rattle.bt_pivot.specs.declared.turning.Turn.{Turn}
 use Rattle.bt_lin.specs.WeightedRows.{coefficient_at}
 use Rattle.bt_frac.specs.Ratio.{Ratio}
 use Rattle.bt_frac.specs.Rows.{RowParts}
 use Rattle.std.specs.declared.alloc.AllocError.{AllocError}
 use Rattle.bt_simplex.specs.Causes.{IsStepAt, IsCause}
-use Rattle.bt_simplex.specs.declared.causes.Cause.{Cause}
-use Rattle.bt_simplex.specs.inner.UnfitTurns.{CanPart, IsUnfitTurn}
+use Rattle.bt_pivot.specs.declared.causes.Cause.{Cause}
+use Rattle.bt_pivot.specs.TurnedSlots.{CanPart, IsUnfitTurn, IsTurned}
 use Rattle.bt_line.proofs.Zeros.{named_has}
 use Rattle.bt_simplex.specs.inner.Runs.{CanTurn, IsAt, IsMade, IsEnd, IsRun}
 use Rattle.bt_simplex.specs.declared.running.End.{End}
 use Rattle.bt_simplex.specs.declared.running.End.TheVariants.{Met, Stuck, Pivots, Wide}
-use Rattle.bt_simplex.specs.inner.TurnedSlots.{IsTurned}
 use Rattle.bt_simplex.proofs.TableauTurns.{turned_tableau, turned_by}
 
 -- Bland's turn can be made

@@ -2,11 +2,10 @@
 use Rattle.std.proofs.Common.{◌≡◌, ◌≢◌, ◌⊎◌, ◌↔◌, inl, inr, ℕ, ◌<◌, ◌≤◌, arith, List, [], ◌∷◌, Option, Some, None, ap, sym, ◌∙◌, refl, subst}
 use Rattle.std.proofs.lemmas.Bool.{cases_lt}
 use Rattle.bt_line.specs.Lines.{Terms}
-use Rattle.bt_simplex.specs.SolvedForms.{Slots, slot_at, IsOutside}
-use Rattle.bt_simplex.specs.Tableaus.{TableauParts, IsTableau}
-use Rattle.bt_simplex.specs.Turns.{InBasis, IsBlandTurn, IsTurnedBy, Follows}
-use Rattle.bt_simplex.specs.declared.tableau.Turn.{Turn}
-use Rattle.bt_simplex.specs.inner.Bases.{with_slots}
+use Rattle.bt_pivot.specs.SolvedForms.{Slots, slot_at, IsOutside, InBasis}
+use Rattle.bt_pivot.specs.Tableaus.{TableauParts, IsTableau, with_slots}
+use Rattle.bt_simplex.specs.Turns.{IsBlandTurn, IsTurnedBy, Follows}
+use Rattle.bt_pivot.specs.declared.turning.Turn.{Turn}
 use Rattle.bt_line.proofs.Indicators.{decide}
 use Rattle.bt_line.proofs.Zeros.{named_has}
 

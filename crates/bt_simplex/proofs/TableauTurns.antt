@@ -2,16 +2,16 @@
 use Rattle.std.proofs.Common.{◌≡◌, ◌≢◌, ℕ, List, Option, Some, None, ap, sym, ◌∙◌, refl, subst, ◌⊎◌, inl, inr}
 use Rattle.bt_frac.specs.Rows.{RowParts}
 use Rattle.bt_line.specs.Lines.{Terms}
-use Rattle.bt_simplex.specs.SolvedForms.{Slots, slot_at, IsOutside, IsSolvedForm}
-use Rattle.bt_simplex.specs.Tableaus.{TableauParts, IsTableau}
-use Rattle.bt_simplex.specs.Turns.{InBasis, IsTurnedBy}
+use Rattle.bt_pivot.specs.SolvedForms.{Slots, slot_at, IsOutside, IsSolvedForm, InBasis}
+use Rattle.bt_pivot.specs.Tableaus.{TableauParts, IsTableau}
+use Rattle.bt_simplex.specs.Turns.{IsTurnedBy}
 use Rattle.bt_simplex.specs.inner.Runs.{CanTurn}
-use Rattle.bt_simplex.specs.declared.tableau.Turn.{Turn}
+use Rattle.bt_pivot.specs.declared.turning.Turn.{Turn}
 use Rattle.bt_line.specs.Substituting.{IsSubstituted}
-use Rattle.bt_simplex.specs.inner.TurnedSlots.{IsTurned}
+use Rattle.bt_pivot.specs.TurnedSlots.{IsTurned}
 use Rattle.bt_line.proofs.Indicators.{decide}
 use Rattle.bt_line.proofs.Zeros.{named_has}
-use Rattle.bt_simplex.proofs.Turned.{was, not_leaving, turn_solves}
+use Rattle.bt_pivot.proofs.Turned.{was, not_leaving, turn_solves}
 
 pub enters_outside : (rows : List RowParts) (columns : ℕ) (slots : Slots) (turn : Turn) → IsSolvedForm rows columns slots → CanTurn slots turn → IsOutside slots turn.enters
 enters_outside rows columns slots turn form can =

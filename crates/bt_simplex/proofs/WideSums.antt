@@ -20,12 +20,12 @@ use Rattle.bt_lin.proofs.PlaceLemmas.{wide_at, unwide_before, row_within, coeffi
 use Rattle.bt_lin.proofs.RunLemmas.{runs_reach}
 use Rattle.bt_line.specs.Unfits.{IsNone, IsUnfitStep, IsUnfitHere}
 use Rattle.bt_simplex.specs.Causes.{IsAddend, IsRowStep, IsStepAt, IsCause}
-use Rattle.bt_simplex.specs.Tableaus.{TableauParts, IsTableau}
+use Rattle.bt_pivot.specs.Tableaus.{TableauParts, IsTableau}
 use Rattle.bt_simplex.specs.Turns.{IsStuckAt}
 use Rattle.bt_simplex.specs.Weights.{weighted_rows}
 use Rattle.bt_line.specs.declared.unfit.Operation.{Operation}
 use Rattle.bt_line.specs.declared.unfit.Operation.TheVariants.{Add, Mul, Div}
-use Rattle.bt_simplex.specs.declared.causes.Cause.{Cause}
+use Rattle.bt_pivot.specs.declared.causes.Cause.{Cause}
 use Rattle.bt_line.specs.declared.unfit.Unfit.{Unfit}
 use Rattle.bt_simplex.specs.inner.Lemmas.{AreLineWeights}
 use Rattle.bt_simplex.specs.inner.Sums.{lemma_cause, IsUnfitAt, IsUnfitSum}

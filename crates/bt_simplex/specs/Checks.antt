@@ -1,5 +1,5 @@
 -- What a check of a tableau answers.
-use Rattle.std.specs.Prelude.{◌≡◌, ℕ, ◌+◌, ◌<◌, ◌≤◌, List, [], ◌∷◌, length, Bool, true, false, slice_index_or}
+use Rattle.std.specs.Prelude.{◌≡◌, ℕ, ◌+◌, ◌<◌, ◌≤◌, List, [], ◌∷◌, length, Bool, true, false, slice_index_or, Ok}
 use Rattle.std.specs.List.{All}
 use Rattle.bt_frac.specs.Ratio.{Ratio}
 use Rattle.bt_frac.specs.Columns.{AreColumnsFrom}
@@ -8,18 +8,17 @@ use Rattle.bt_frac.specs.Values.{value_in, RowHolds}
 use Rattle.bt_lin.specs.Farkas.{IsFarkas}
 use Rattle.bt_lin.specs.WeightedRows.{empty_row}
 use Rattle.bt_simplex.specs.Counting.{most_bases}
-use Rattle.bt_simplex.specs.SolvedForms.{basis_of}
-use Rattle.bt_simplex.specs.Tableaus.{TableauParts}
+use Rattle.bt_pivot.specs.SolvedForms.{basis_of}
+use Rattle.bt_pivot.specs.Tableaus.{TableauParts}
 use Rattle.bt_simplex.specs.Turns.{IsMet, IsStuckAt, Follows}
 use Rattle.bt_simplex.specs.Runs.{GoesOn, LeadsTo}
 use Rattle.bt_simplex.specs.Weights.{weighted_rows}
 use Rattle.bt_simplex.specs.Causes.{IsCause}
-use Rattle.bt_simplex.specs.declared.causes.Cause.{Cause}
+use Rattle.bt_pivot.specs.declared.causes.Cause.{Cause}
 use Rattle.bt_simplex.specs.declared.answers.Trail.{Trail}
 use Rattle.bt_simplex.specs.declared.answers.Wide.{Wide}
 use Rattle.bt_simplex.specs.declared.answers.Check.{Check}
 use Rattle.bt_simplex.specs.declared.answers.Check.TheVariants.{Sat, Unsat, Pivots, Wide as TooWide}
-use Rattle.std.specs.Prelude.{Ok}
 
 -- the row is bound
 abbrev pub IsBound : TableauParts → ℕ → Type 0

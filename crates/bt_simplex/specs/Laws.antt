@@ -3,10 +3,10 @@ use Rattle.std.specs.Prelude.{◌≡◌, ◌≢◌, ◌↔◌, ℕ, ◌≤◌, L
 use Rattle.std.specs.List.{All, AllPairs}
 use Rattle.bt_frac.specs.Rows.{RowParts, IsRow}
 use Rattle.bt_simplex.specs.Counting.{IsAscendingOf, ascending_lists}
-use Rattle.bt_simplex.specs.SolvedForms.{Slots, IsSolvedForm, basis_of}
-use Rattle.bt_simplex.specs.Tableaus.{TableauParts, IsTableau}
-use Rattle.bt_simplex.specs.Turns.{InBasis, Follows}
-use Rattle.bt_simplex.specs.declared.tableau.Turn.{Turn}
+use Rattle.bt_pivot.specs.SolvedForms.{Slots, IsSolvedForm, basis_of, InBasis}
+use Rattle.bt_pivot.specs.Tableaus.{TableauParts, IsTableau}
+use Rattle.bt_simplex.specs.Turns.{Follows}
+use Rattle.bt_pivot.specs.declared.turning.Turn.{Turn}
 
 -- rows have at most one solved form at a basis
 abbrev pub OneSolvedForm : Type 0

@@ -1,8 +1,8 @@
 -- Runs of Bland's turns from a basis on.
 use Rattle.std.specs.Prelude.{◌≡◌, ℕ, ◌≤◌, List, length}
-use Rattle.bt_simplex.specs.Tableaus.{TableauParts}
+use Rattle.bt_pivot.specs.Tableaus.{TableauParts}
 use Rattle.bt_simplex.specs.Turns.{IsFinal, Follows}
-use Rattle.bt_simplex.specs.declared.tableau.Turn.{Turn}
+use Rattle.bt_pivot.specs.declared.turning.Turn.{Turn}
 
 -- so many turns of Bland's rule, after which the basis isn't final
 pub record GoesOn (pivots : ℕ) (t : TableauParts) (turns : List Turn) : Type 0 where

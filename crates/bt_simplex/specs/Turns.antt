@@ -7,25 +7,10 @@ use Rattle.bt_frac.specs.declared.delta.Delta.{Delta}
 use Rattle.bt_frac.specs.declared.row.Relation.TheVariants.{Equal}
 use Rattle.bt_lin.specs.WeightedRows.{coefficient_at}
 use Rattle.bt_line.specs.Lines.{Terms}
-use Rattle.bt_simplex.specs.SolvedForms.{Slots, slot_at, IsSolvedForm}
-use Rattle.bt_simplex.specs.Tableaus.{TableauParts}
-use Rattle.bt_simplex.specs.Points.{bound_value, bound_row, point_at}
-use Rattle.bt_simplex.specs.declared.tableau.Turn.{Turn}
-
--- the position is in the basis
-abbrev pub InBasis : Slots → ℕ → Type 0
-InBasis slots position = (terms : Terms) × (slot_at slots position ≡ Some terms)
-
--- a bound row doesn't hold where it stands: it is below its bound value, or it is an equation and above it
-abbrev pub Breaks : RowParts → Delta → Type 0
-Breaks row point = IsLessDelta point (bound_value row) ⊎ ((row.relation ≡ Equal) × IsLessDelta (bound_value row) point)
-
--- the position is in the basis, and it is a bound row that doesn't hold at the point
-pub record Fails (t : TableauParts) (position : ℕ) : Type 0 where
-  pub basic : InBasis t.slots position
-  pub row : RowParts
-  pub is_bound : bound_row t position ≡ Some row
-  pub breaks : Breaks row (point_at t position)
+use Rattle.bt_pivot.specs.SolvedForms.{Slots, slot_at, IsSolvedForm}
+use Rattle.bt_pivot.specs.Tableaus.{TableauParts}
+use Rattle.bt_pivot.specs.Points.{bound_value, bound_row, point_at}
+use Rattle.bt_pivot.specs.declared.turning.Turn.{Turn}
 
 -- a position with this number in the row's line moves it towards its bound value where it is raised
 abbrev pub MovesTowards : RowParts → Delta → Ratio → Type 0

@@ -6,11 +6,14 @@ ghost use Rattle.bt_frac.specs.Ratio.{Ratio};
 ghost use Rattle.bt_frac.specs.Rows.{RowParts};
 ghost use Rattle.bt_simplex.specs.Causes.{IsCause};
 ghost use Rattle.bt_frac.specs.declared.delta.Delta.{Delta};
-ghost use Rattle.bt_simplex.specs.Points.{bound_value};
+ghost use Rattle.bt_pivot.specs.Points.{bound_value};
 ghost use Rattle.bt_line.specs.Lines.{signed_terms, one};
-ghost use Rattle.bt_simplex.specs.Turns.{Breaks, Fails, MovesTowards, CanEnter};
-ghost use Rattle.bt_simplex.specs.inner.Bases.{with_slots, IsBoundOrder, MayEnter, Names, Finds, IsLeastOf, IsNext};
-ghost use Rattle.bt_simplex.specs.inner.SumCache.{AreKept};
+ghost use Rattle.bt_pivot.specs.Points.{Breaks, Fails};
+ghost use Rattle.bt_simplex.specs.Turns.{MovesTowards, CanEnter};
+ghost use Rattle.bt_pivot.specs.Tableaus.{with_slots};
+ghost use Rattle.bt_pivot.specs.Points.{IsBoundOrder};
+ghost use Rattle.bt_simplex.specs.inner.Bases.{MayEnter, Names, Finds, IsLeastOf, IsNext};
+ghost use Rattle.bt_pivot.specs.Sums.{AreKept};
 ghost use Rattle.bt_line.specs.TermSigns.{IsSign, IsSignedTerm};
 
 use crate::basis::{Basis, Place};

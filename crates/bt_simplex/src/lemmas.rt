@@ -9,10 +9,10 @@ ghost use Rattle.bt_lin.specs.WeightedRows.{coefficient_at, weighted};
 ghost use Rattle.bt_simplex.specs.Causes.{IsCause};
 ghost use Rattle.bt_simplex.specs.Checks.{RefutesBoundRows};
 ghost use Rattle.bt_line.specs.Lines.{one, IsLine, IsCombination};
-ghost use Rattle.bt_simplex.specs.Points.{bound_value};
-ghost use Rattle.bt_simplex.specs.Tableaus.{IsTableau};
+ghost use Rattle.bt_pivot.specs.Points.{bound_value};
+ghost use Rattle.bt_pivot.specs.Tableaus.{IsTableau};
 ghost use Rattle.bt_simplex.specs.Turns.{IsStuckAt};
-ghost use Rattle.bt_simplex.specs.inner.Bases.{with_slots};
+ghost use Rattle.bt_pivot.specs.Tableaus.{with_slots};
 ghost use Rattle.bt_simplex.specs.inner.Lemmas.{weight_of, AreLineWeights};
 
 use crate::basis::Basis;

@@ -3,8 +3,9 @@ ghost use Rattle.std.specs.Prelude.{◌≡◌, IfOk, IfErr, Some};
 ghost use Rattle.bt_frac.specs.Ratio.{IsLowest};
 ghost use Rattle.bt_simplex.specs.Causes.{IsCause};
 ghost use Rattle.bt_line.specs.Lines.{IsLine};
-ghost use Rattle.bt_simplex.specs.Points.{bound_value, resting, standing, point_at};
-ghost use Rattle.bt_simplex.specs.inner.Bases.{with_slots, IsSamePoint, signed_point};
+ghost use Rattle.bt_pivot.specs.Points.{bound_value, resting, standing, point_at};
+ghost use Rattle.bt_pivot.specs.Tableaus.{with_slots};
+ghost use Rattle.bt_pivot.specs.Points.{IsSamePoint, signed_point};
 ghost use Rattle.bt_line.specs.Unfits.{IsUnfitHere};
 ghost use Rattle.bt_simplex.specs.inner.UnfitPoints.{AddsPart, AddsTerm, IsUnfitTerm, IsUnfitPoint, value_cause};
 

@@ -1,11 +1,11 @@
 //! Runs of Bland's turns from a basis on, to a final one or to a limit of turns.
 ghost use Rattle.std.specs.Prelude.{◌≡◌, [], IfOk, IfErr};
-ghost use Rattle.bt_simplex.specs.Tableaus.{IsTableau};
+ghost use Rattle.bt_pivot.specs.Tableaus.{IsTableau};
 ghost use Rattle.bt_simplex.specs.Turns.{IsBlandTurn};
-ghost use Rattle.bt_simplex.specs.inner.Bases.{with_slots};
-ghost use Rattle.bt_simplex.specs.inner.SumCache.{AreKept};
+ghost use Rattle.bt_pivot.specs.Tableaus.{with_slots};
+ghost use Rattle.bt_pivot.specs.Sums.{AreKept};
 ghost use Rattle.bt_simplex.specs.inner.Runs.{IsMade, IsRun};
-ghost use Rattle.bt_simplex.specs.inner.UnfitTurns.{IsUnfitTurn};
+ghost use Rattle.bt_pivot.specs.TurnedSlots.{IsUnfitTurn};
 
 use crate::basis::Basis;
 use crate::bland::{Next, blands_next};

@@ -4,10 +4,10 @@ ghost use Rattle.std.specs.Prelude.{◌≡◌, ◌<◌, ℕ, pos, ◌<ℤ◌, If
 ghost use Rattle.bt_frac.specs.Rows.{IsRow};
 ghost use Rattle.bt_simplex.specs.Causes.{IsCause, IsEpsilon};
 ghost use Rattle.bt_simplex.specs.Checks.{MeetsBoundRows};
-ghost use Rattle.bt_simplex.specs.Points.{point_at, bound_row};
-ghost use Rattle.bt_simplex.specs.Tableaus.{IsTableau};
+ghost use Rattle.bt_pivot.specs.Points.{point_at, bound_row};
+ghost use Rattle.bt_pivot.specs.Tableaus.{IsTableau};
 ghost use Rattle.bt_simplex.specs.Turns.{IsMet};
-ghost use Rattle.bt_simplex.specs.inner.Bases.{with_slots};
+ghost use Rattle.bt_pivot.specs.Tableaus.{with_slots};
 ghost use Rattle.bt_simplex.specs.inner.Settling.{IsLesser, IsFallingFrom, IsRoom, IsRoomAt, IsUnfitRoom, IsSettled};
 
 use crate::answers::WidePlace;

@@ -1,12 +1,13 @@
 //! Tableaus: rows over columns, of which some are bound, and a basis with its solved form.
 ghost use Rattle.std.specs.Prelude.{◌≡◌, ℕ, ◌<◌, IfOk, IfSome, OnErr, MatchOption, Some, None, length, true, false, IsTrue, slice_index_or};
 ghost use Rattle.bt_simplex.specs.Checks.{IsCheck, StartsAt};
-ghost use Rattle.bt_simplex.specs.inner.Bases.{with_slots};
+ghost use Rattle.bt_pivot.specs.Tableaus.{with_slots};
 ghost use Rattle.bt_simplex.specs.inner.Checking.{Concludes, IsWideFor, slots_after};
 ghost use Rattle.bt_simplex.specs.inner.Runs.{IsRun};
-ghost use Rattle.bt_simplex.specs.inner.Rests.{IsRestOf, relation_of};
-ghost use Rattle.bt_simplex.specs.Points.{bound_row};
-ghost use Rattle.bt_simplex.specs.Tableaus.{AreOverColumns, IsNew, IsBoundAs, IsTableau};
+ghost use Rattle.bt_pivot.specs.inner.Rests.{IsRestOf};
+ghost use Rattle.bt_pivot.specs.Points.{relation_of};
+ghost use Rattle.bt_pivot.specs.Points.{bound_row};
+ghost use Rattle.bt_pivot.specs.Tableaus.{AreOverColumns, IsNew, IsBoundAs, IsTableau};
 
 use crate::answers::{Check, Trail, Wide};
 use crate::basis::Basis;
@@ -47,8 +48,8 @@ pub struct Tableau {
 }
 
 impl Model for Tableau {
-    ghost use Rattle.bt_simplex.specs.Tableaus.{TableauParts, IsTableau};
-    ghost use Rattle.bt_simplex.specs.inner.Rests.{AreRests};
+    ghost use Rattle.bt_pivot.specs.Tableaus.{TableauParts, IsTableau};
+    ghost use Rattle.bt_pivot.specs.inner.Rests.{AreRests};
 
     ghost Value = { TableauParts };
 

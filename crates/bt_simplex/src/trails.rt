@@ -1,6 +1,6 @@
 //! The positions of a basis and the bound rows, as lists.
 ghost use Rattle.std.specs.Prelude.{◌≡◌, IfOk};
-ghost use Rattle.bt_simplex.specs.SolvedForms.{basis_of};
+ghost use Rattle.bt_pivot.specs.SolvedForms.{basis_of};
 ghost use Rattle.bt_simplex.specs.Checks.{bound_from};
 
 use crate::basis::Basis;

@@ -23,10 +23,10 @@ use Rattle.bt_theory.specs.declared.round.End.{End}
 use Rattle.bt_theory.specs.declared.round.End.TheVariants as end
 use Rattle.bt_cnf.specs.Formulas.{FormulaParts}
 use Rattle.bt_cnf.specs.declared.literal.Lit.{Lit}
-use Rattle.bt_simplex.specs.SolvedForms.{basis_of}
+use Rattle.bt_pivot.specs.SolvedForms.{basis_of}
 use Rattle.bt_theory.specs.Reaching.{IsReachable, IsTableauOf}
 use Rattle.bt_theory.proofs.Rounds.{conflict_among, fits_on, learnt_fit, sound_log, used_up}
-use Rattle.bt_simplex.specs.Tableaus.{TableauParts}
+use Rattle.bt_pivot.specs.Tableaus.{TableauParts}
 
 -- the search goes on with more steps
 advances : (s s' : SolverParts) (more : List Step) → GoesOnBy more s s' → AllFit s → All (Fits s.formula) more → length s'.steps ≤ s'.limit → GoesOn s s'

@@ -4,11 +4,11 @@ use Rattle.std.specs.List.{All}
 use Rattle.bt_cnf.specs.Assignments.{truth_in}
 use Rattle.bt_cnf.specs.Formulas.{FormulaParts}
 use Rattle.bt_cnf.specs.Meeting.{MeetsClause}
-use Rattle.bt_simplex.specs.SolvedForms.{IsSolvedForm, basis_of}
-use Rattle.bt_simplex.specs.Tableaus.{TableauParts}
+use Rattle.bt_pivot.specs.SolvedForms.{IsSolvedForm, basis_of}
+use Rattle.bt_pivot.specs.Tableaus.{TableauParts}
 use Rattle.bt_simplex.specs.Turns.{Follows}
 use Rattle.bt_simplex.specs.Runs.{LeadsTo}
-use Rattle.bt_simplex.specs.declared.tableau.Turn.{Turn}
+use Rattle.bt_pivot.specs.declared.turning.Turn.{Turn}
 use Rattle.bt_theory.specs.Reaching.{atom_vars, IsTableauOf, IsGuided, IsReachable, turns_on}
 
 -- a tableau of the formula at a reachable basis, with such rows bound

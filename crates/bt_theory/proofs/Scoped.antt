@@ -12,10 +12,10 @@ use Rattle.bt_frac.specs.Rows.{RowParts, IsRowOf}
 use Rattle.bt_frac.specs.declared.row.Relation.{Relation}
 use Rattle.bt_lin.specs.WeightedRows.{empty_row}
 use Rattle.bt_cnf.specs.Formulas.{FormulaParts}
-use Rattle.bt_simplex.specs.Tableaus.{TableauParts}
+use Rattle.bt_pivot.specs.Tableaus.{TableauParts}
 use Rattle.bt_simplex.specs.Turns.{Follows}
 use Rattle.bt_simplex.specs.Checks.{IsCheck}
-use Rattle.bt_simplex.specs.declared.tableau.Turn.{Turn}
+use Rattle.bt_pivot.specs.declared.turning.Turn.{Turn}
 use Rattle.bt_simplex.specs.declared.answers.Check.{Check}
 use Rattle.bt_simplex.specs.declared.answers.Check.TheVariants as check
 use Rattle.bt_theory.specs.Reaching.{atom_rows, atom_vars}

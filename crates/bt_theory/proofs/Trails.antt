@@ -3,7 +3,7 @@ use Rattle.std.proofs.Common.{ℕ, ◌<◌, subst}
 use Rattle.bt_cnf.specs.Formulas.{FormulaParts}
 use Rattle.bt_simplex.specs.Checks.{StartsAt, IsPivots, IsWideCheck}
 use Rattle.bt_simplex.specs.Counting.{most_bases}
-use Rattle.bt_simplex.specs.Tableaus.{TableauParts}
+use Rattle.bt_pivot.specs.Tableaus.{TableauParts}
 use Rattle.bt_simplex.specs.Turns.{Follows}
 use Rattle.bt_simplex.specs.declared.answers.Trail.{Trail}
 use Rattle.bt_simplex.specs.declared.answers.Wide.{Wide}

@@ -4,10 +4,10 @@ use Rattle.std.specs.List.{All}
 use Rattle.bt_frac.specs.Rows.{RowParts, columns_in, end_of}
 use Rattle.bt_cnf.specs.Formulas.{FormulaParts}
 use Rattle.bt_cnf.specs.Meeting.{MeetsClause}
-use Rattle.bt_simplex.specs.SolvedForms.{IsSolvedForm, basis_of}
-use Rattle.bt_simplex.specs.Tableaus.{TableauParts, positions_from}
+use Rattle.bt_pivot.specs.SolvedForms.{IsSolvedForm, basis_of}
+use Rattle.bt_pivot.specs.Tableaus.{TableauParts, positions_from}
 use Rattle.bt_simplex.specs.Turns.{IsBlandTurn, IsTurnedBy}
-use Rattle.bt_simplex.specs.declared.tableau.Turn.{Turn}
+use Rattle.bt_pivot.specs.declared.turning.Turn.{Turn}
 
 -- the rows of the atoms, in the order of their variables
 abbrev pub atom_rows : FormulaParts → List RowParts

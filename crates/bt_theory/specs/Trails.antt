@@ -4,8 +4,8 @@ use Rattle.bt_cnf.specs.Formulas.{FormulaParts}
 use Rattle.bt_simplex.specs.Causes.{IsCause}
 use Rattle.bt_simplex.specs.Checks.{bound_from, cause_of}
 use Rattle.bt_simplex.specs.Counting.{most_bases}
-use Rattle.bt_simplex.specs.SolvedForms.{basis_of}
-use Rattle.bt_simplex.specs.Tableaus.{TableauParts}
+use Rattle.bt_pivot.specs.SolvedForms.{basis_of}
+use Rattle.bt_pivot.specs.Tableaus.{TableauParts}
 use Rattle.bt_simplex.specs.Turns.{IsFinal, Follows}
 use Rattle.bt_simplex.specs.declared.answers.Trail.{Trail}
 use Rattle.bt_simplex.specs.declared.answers.Wide.{Wide}

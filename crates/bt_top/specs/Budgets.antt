@@ -27,8 +27,7 @@ use Rattle.bt_top.specs.Answering.{IsRightTo}
 use Rattle.bt_top.specs.Answers.{status_of}
 use Rattle.bt_top.specs.Endings.{Ends}
 use Rattle.bt_top.specs.Inputs.{IsInput}
-use Rattle.bt_designs.specs.Requested.{IsLoneRequest}
-use Rattle.bt_designs.specs.Requested.{IsSidedRequest}
+use Rattle.bt_designs.specs.Requested.{IsLoneRequest, IsSidedRequest}
 use Rattle.bt_designs.specs.TwoDesigns.{IsTwoNets}
 
 -- so many steps may be logged in deciding the formula: 3 ^ v or more, where it has v variables

@@ -8,37 +8,15 @@ use Rattle.bt_frac.specs.declared.delta.Delta.{Delta}
 use Rattle.bt_frac.specs.declared.row.Relation.TheVariants.{Equal}
 use Rattle.bt_lin.specs.WeightedRows.{coefficient_at}
 use Rattle.bt_line.specs.Lines.{Terms}
-use Rattle.bt_simplex.specs.SolvedForms.{Slots}
-use Rattle.bt_simplex.specs.Tableaus.{TableauParts}
-use Rattle.bt_simplex.specs.Points.{bound_row, bound_value, point_at}
+use Rattle.bt_pivot.specs.SolvedForms.{Slots}
+use Rattle.bt_pivot.specs.Tableaus.{TableauParts}
+use Rattle.bt_pivot.specs.Points.{bound_row, bound_value, point_at}
 use Rattle.bt_simplex.specs.Causes.{IsCause}
 use Rattle.bt_simplex.specs.Turns.{MovesTowards, IsLeast, IsBlandTurn, IsMet, IsStuckAt}
 use Rattle.bt_simplex.specs.declared.bland.Least.{Least}
 use Rattle.bt_simplex.specs.declared.bland.Least.TheVariants.{At, Nowhere, Wide as NoLeast}
 use Rattle.bt_simplex.specs.declared.bland.Next.{Next}
 use Rattle.bt_simplex.specs.declared.bland.Next.TheVariants.{Turn as Turns, Met, Stuck, Wide}
-
--- the tableau with these slots
-abbrev pub with_slots : TableauParts → Slots → TableauParts
-with_slots t slots = record t { slots = slots }
-
--- two points with positive denominators are the same
-pub record IsSamePoint (a b : Delta) : Type 0 where
-  pub left_value : 0 < a.value.under
-  pub left_tiny : 0 < a.tiny.under
-  pub right_value : 0 < b.value.under
-  pub right_tiny : 0 < b.tiny.under
-  pub same : SameDelta a b
-
--- the point, with the other sign where this is told
-abbrev pub signed_point : Bool → Delta → Delta
-signed_point false point = point
-signed_point true point = record { value = negated point.value; tiny = negated point.tiny }
-
--- the order of the bound value of a position's row, where it has one that is bound, and a point that is where it stands
-abbrev pub IsBoundOrder : TableauParts → ℕ → Ordering → Type 0
-IsBoundOrder t position order =
-    (row : RowParts) → bound_row t position ≡ Some row → (point : Delta) × IsSamePoint point (point_at t position) × IsOrderOfDeltas order (bound_value row) point
 
 -- the position may be moved: it is a column or a row that isn't bound, or a bound row that is no equation, and raising
 -- it moves the failing row towards its bound value

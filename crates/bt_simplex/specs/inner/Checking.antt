@@ -1,14 +1,13 @@
 -- The answers of a check, by the slots to which its turns lead.
 use Rattle.std.specs.Prelude.{◌≡◌, ℕ, List}
-use Rattle.bt_simplex.specs.SolvedForms.{Slots, basis_of}
-use Rattle.bt_simplex.specs.Tableaus.{TableauParts, IsTableau}
+use Rattle.bt_pivot.specs.SolvedForms.{Slots, basis_of}
+use Rattle.bt_pivot.specs.Tableaus.{TableauParts, IsTableau, with_slots}
 use Rattle.bt_simplex.specs.Checks.{StartsAt, IsCheck, cause_of}
-use Rattle.bt_simplex.specs.declared.tableau.Turn.{Turn}
+use Rattle.bt_pivot.specs.declared.turning.Turn.{Turn}
 use Rattle.bt_simplex.specs.declared.answers.Wide.{Wide}
 use Rattle.bt_simplex.specs.declared.answers.Check.{Check}
 use Rattle.bt_simplex.specs.declared.answers.Check.TheVariants.{Sat, Unsat, Pivots, Wide as TooWide}
-use Rattle.bt_simplex.specs.declared.causes.Cause.{Cause}
-use Rattle.bt_simplex.specs.inner.Bases.{with_slots}
+use Rattle.bt_pivot.specs.declared.causes.Cause.{Cause}
 
 -- the answer tells this cause, after these turns, at the basis of these slots
 pub record IsWideFor (t : TableauParts) (turns : List Turn) (slots : Slots) (cause : Cause) (wide : Wide) : Type 0 where

@@ -3,14 +3,13 @@ use Rattle.std.specs.Prelude.{◌≡◌, ℕ, ◌≤◌, List, Some, length}
 use Rattle.bt_frac.specs.Ratio.{Ratio}
 use Rattle.bt_lin.specs.WeightedRows.{coefficient_at}
 use Rattle.bt_line.specs.Lines.{Terms}
-use Rattle.bt_simplex.specs.SolvedForms.{Slots, slot_at, basis_of}
+use Rattle.bt_pivot.specs.SolvedForms.{Slots, slot_at, basis_of}
 use Rattle.bt_simplex.specs.Causes.{IsCause}
-use Rattle.bt_simplex.specs.Tableaus.{TableauParts, IsTableau}
+use Rattle.bt_pivot.specs.Tableaus.{TableauParts, IsTableau, with_slots}
 use Rattle.bt_simplex.specs.Turns.{IsMet, IsStuckAt, IsFinal, IsTurnedBy, Follows}
-use Rattle.bt_simplex.specs.declared.tableau.Turn.{Turn}
+use Rattle.bt_pivot.specs.declared.turning.Turn.{Turn}
 use Rattle.bt_simplex.specs.declared.running.End.{End}
 use Rattle.bt_simplex.specs.declared.running.End.TheVariants.{Met, Stuck, Pivots, Wide}
-use Rattle.bt_simplex.specs.inner.Bases.{with_slots}
 
 -- the line of the first position names the second, which is outside the basis
 abbrev pub CanTurn : Slots → Turn → Type 0

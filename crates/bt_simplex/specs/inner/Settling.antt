@@ -4,14 +4,14 @@ use Rattle.bt_frac.specs.Ratio.{Ratio, SameRatio, IsLowest, IsLess, IsAtMost, ne
 use Rattle.bt_frac.specs.Rows.{RowParts}
 use Rattle.bt_frac.specs.Values.{plus, times}
 use Rattle.bt_frac.specs.declared.delta.Delta.{Delta}
-use Rattle.bt_simplex.specs.Tableaus.{TableauParts}
-use Rattle.bt_simplex.specs.Points.{point_at}
+use Rattle.bt_pivot.specs.Tableaus.{TableauParts}
+use Rattle.bt_pivot.specs.Points.{point_at}
 use Rattle.bt_line.specs.Unfits.{IsNone}
 use Rattle.bt_simplex.specs.Causes.{IsFalling, IsHalfRoom, IsNumber}
 use Rattle.bt_line.specs.declared.unfit.Operation.{Operation}
 use Rattle.bt_line.specs.declared.unfit.Operation.TheVariants.{Add, Mul, Div}
-use Rattle.bt_simplex.specs.declared.answers.WidePlace.TheVariants.{Settle}
-use Rattle.bt_simplex.specs.declared.causes.Cause.{Cause}
+use Rattle.bt_pivot.specs.declared.causes.WidePlace.TheVariants.{Settle}
+use Rattle.bt_pivot.specs.declared.causes.Cause.{Cause}
 
 -- the row stands above its bound, and lower by a multiple of the infinitesimal
 pub record IsFallingFrom (row : RowParts) (point : Delta) : Type 0 where

@@ -6,9 +6,9 @@ use Rattle.bt_frac.specs.declared.delta.Delta.{Delta}
 use Rattle.bt_line.specs.Lines.{Terms}
 use Rattle.bt_line.specs.Unfits.{IsNone, IsUnfitHere}
 use Rattle.bt_simplex.specs.Causes.{IsSumStep}
-use Rattle.bt_simplex.specs.declared.answers.WidePlace.TheVariants.{Value}
+use Rattle.bt_pivot.specs.declared.causes.WidePlace.TheVariants.{Value}
 use Rattle.bt_line.specs.declared.unfit.Unfit.{Unfit}
-use Rattle.bt_simplex.specs.declared.causes.Cause.{Cause}
+use Rattle.bt_pivot.specs.declared.causes.Cause.{Cause}
 
 -- the sum with the product of a number and a part
 pub record AddsPart (sum number part next : Ratio) : Type 0 where

@@ -5,8 +5,8 @@ use Rattle.bt_frac.specs.Ratio.{IsLowest}
 use Rattle.bt_cnf.specs.Formulas.{FormulaParts}
 use Rattle.bt_log.specs.Logs.{Lemma, LogParts}
 use Rattle.bt_sat.specs.Solving.{SolverParts, log_of, KeepsModel, IsModel, IsSoundLog, IsSpent, IsLemmaOf, GoesOnBy}
-use Rattle.bt_simplex.specs.SolvedForms.{basis_of}
-use Rattle.bt_simplex.specs.Tableaus.{TableauParts, positions_from}
+use Rattle.bt_pivot.specs.SolvedForms.{basis_of}
+use Rattle.bt_pivot.specs.Tableaus.{TableauParts, positions_from}
 use Rattle.bt_theory.specs.Reaching.{atom_rows, columns_of, IsTableauOf, IsReachable}
 use Rattle.bt_theory.specs.Outcomes.{Solves, Fits, IsRefutation, IsUsedUp, IsOutcomeOver}
 use Rattle.bt_theory.specs.Trails.{TurnsOn, IsTooWide}

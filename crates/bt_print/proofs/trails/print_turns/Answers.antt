@@ -2,7 +2,7 @@ use Rattle.std.proofs.Common.{[], get_or, refl}
 use Rattle.std.proofs.lemmas.List.{get_or_default}
 use Rattle.std.proofs.lemmas.Result.{err_from_is_err_and}
 use Rattle.bt_io.proofs.Pieces.{last_failed}
-use Rattle.bt_simplex.specs.declared.tableau.Turn.{Turn}
+use Rattle.bt_pivot.specs.declared.turning.Turn.{Turn}
 use Rattle.bt_print.specs.TrailText.{turn_line}
 use Rattle.bt_print.proofs.trails.print_turns.Goals as goal
 

@@ -1,6 +1,6 @@
-use Rattle.bt_simplex.specs.inner.Bases.{with_slots}
+use Rattle.bt_pivot.specs.Tableaus.{with_slots}
 use Rattle.bt_simplex.proofs.TableauTurns.{enters_outside, leaves_apart}
-use Rattle.bt_simplex.proofs.KeptSums.{turn_kept}
+use Rattle.bt_pivot.proofs.KeptSums.{turn_kept}
 use Rattle.bt_simplex.proofs.Runs.{bland_can, can_part, leaves_within, turn_made}
 use Rattle.bt_simplex.proofs.running.make_turn.Goals as goal
 

@@ -1,11 +1,12 @@
 use Rattle.std.proofs.Common.{◌+◌, ◌≤◌, List, IfOk, IfErr, arith, length, refl, subst, sym}
 use Rattle.bt_simplex.specs.Turns.{Follows}
-use Rattle.bt_simplex.specs.declared.tableau.Turn.{Turn}
-use Rattle.bt_simplex.specs.inner.Bases.{with_slots, IsNext}
-use Rattle.bt_simplex.specs.inner.SumCache.{AreKept}
+use Rattle.bt_pivot.specs.declared.turning.Turn.{Turn}
+use Rattle.bt_pivot.specs.Tableaus.{with_slots}
+use Rattle.bt_simplex.specs.inner.Bases.{IsNext}
+use Rattle.bt_pivot.specs.Sums.{AreKept}
 use Rattle.bt_simplex.specs.inner.Runs.{IsMade}
-use Rattle.bt_simplex.specs.inner.UnfitTurns.{IsUnfitTurn}
-use Rattle.bt_simplex.proofs.KeptSums.{nothing_kept}
+use Rattle.bt_pivot.specs.TurnedSlots.{IsUnfitTurn}
+use Rattle.bt_pivot.proofs.KeptSums.{nothing_kept}
 use Rattle.bt_simplex.proofs.Runs.{at_more, more_turns, met_run, stuck_run, wide_run, pivots_run, turn_run}
 use Rattle.bt_simplex.proofs.running.turned_from.Goals as goal
 

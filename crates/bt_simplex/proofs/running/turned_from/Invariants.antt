@@ -1,6 +1,6 @@
 use Rattle.std.proofs.Common.{◌≤◌, ◌-◌, length}
-use Rattle.bt_simplex.specs.inner.Bases.{with_slots}
-use Rattle.bt_simplex.specs.inner.SumCache.{AreKept}
+use Rattle.bt_pivot.specs.Tableaus.{with_slots}
+use Rattle.bt_pivot.specs.Sums.{AreKept}
 use Rattle.bt_simplex.specs.inner.Runs.{IsAt}
 use Rattle.bt_simplex.proofs.running.turned_from.Given as goal
 

@@ -1,6 +1,6 @@
 use Rattle.std.proofs.Common.{◌+◌, ◌<◌, arith, drop, length, ◌++◌, ap, sym, ◌∙◌}
 use Rattle.std.proofs.lemmas.Bool.{iff_false}
-use Rattle.bt_simplex.specs.SolvedForms.{basis_from}
+use Rattle.bt_pivot.specs.SolvedForms.{basis_from}
 use Rattle.bt_simplex.proofs.BasisLists.{basis_some, basis_none, push_more}
 use Rattle.bt_simplex.proofs.trails.positions.Goals as goal
 use Rattle.bt_simplex.proofs.trails.positions.Goals.{then-has+in_ok-push, else-has}

@@ -1,5 +1,5 @@
 use Rattle.std.proofs.Common.{◌≡◌, ◌++◌, drop}
-use Rattle.bt_simplex.specs.SolvedForms.{basis_from, basis_of}
+use Rattle.bt_pivot.specs.SolvedForms.{basis_from, basis_of}
 use Rattle.bt_simplex.proofs.trails.positions.Given as goal
 
 abbrev pub invariant-loop-position : goal.invariant-loop-position

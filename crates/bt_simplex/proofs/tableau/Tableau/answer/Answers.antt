@@ -1,7 +1,7 @@
 use Rattle.std.proofs.Common.{ap, subst, IfErr, IfOk}
 use Rattle.bt_simplex.specs.Causes.{IsCause}
 use Rattle.bt_simplex.specs.Checks.{MeetsBoundRows, RefutesBoundRows}
-use Rattle.bt_simplex.specs.inner.Bases.{with_slots}
+use Rattle.bt_pivot.specs.Tableaus.{with_slots}
 use Rattle.bt_simplex.proofs.Checking.{met_tableau, met_met, stuck_tableau, stuck_stuck, met_concludes, stuck_concludes, pivots_concludes, met_wide, stuck_wide, turn_wide}
 use Rattle.bt_simplex.proofs.tableau.Tableau.answer.Goals as goal
 

@@ -1,7 +1,6 @@
 use Rattle.std.proofs.Common.{subst, sym}
-use Rattle.bt_simplex.specs.SolvedForms.{Slots}
-use Rattle.bt_simplex.specs.Tableaus.{IsTableau}
-use Rattle.bt_simplex.specs.inner.Bases.{with_slots}
+use Rattle.bt_pivot.specs.SolvedForms.{Slots}
+use Rattle.bt_pivot.specs.Tableaus.{IsTableau, with_slots}
 use Rattle.bt_simplex.specs.inner.Runs.{IsRun}
 use Rattle.bt_simplex.proofs.tableau.Tableau.check_in.Goals as goal
 
