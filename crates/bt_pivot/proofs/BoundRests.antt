@@ -1,14 +1,8 @@
 -- Whether a position is a bound row, told by where it rests.
-use Rattle.std.proofs.Common.{◌≡◌, ◌≢◌, ◌↔◌, ℕ, Option, Some, None, ap, sym, ◌∙◌, refl, inl, inr}
+use Rattle.std.proofs.Common.{◌≡◌, ◌≢◌, ◌↔◌, Option, Some, None, sym, ◌∙◌, refl}
 use Rattle.bt_frac.specs.Rows.{RowParts}
-use Rattle.bt_frac.specs.Ratio.{Ratio}
-use Rattle.bt_frac.specs.declared.delta.Delta.{Delta}
 use Rattle.bt_frac.specs.declared.row.Relation.{Relation}
-use Rattle.bt_frac.specs.declared.row.Relation.TheVariants.{Equal}
-use Rattle.bt_pivot.specs.Points.{bound_row, bound_value, relation_of}
-use Rattle.bt_pivot.specs.Tableaus.{TableauParts}
-use Rattle.bt_simplex.specs.Turns.{MovesTowards}
-use Rattle.bt_simplex.specs.inner.Bases.{MayEnter}
+use Rattle.bt_pivot.specs.Points.{bound_value, relation_of}
 use Rattle.bt_pivot.specs.inner.Rests.{rest_point, IsRestOf}
 use Rattle.bt_pivot.specs.declared.rests.Rest.{Rest}
 

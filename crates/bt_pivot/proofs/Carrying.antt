@@ -1,5 +1,5 @@
 -- The sums of a line that a turn changes, by those before it and those of the zero line.
-use Rattle.std.proofs.Common.{◌≡◌, ℕ, ◌*◌, ◌<◌, ◌^◌, arith, ℤ, pos, ◌+ℤ◌, ◌*ℤ◌, Option, Some, ap, sym, ◌∙◌, refl, subst}
+use Rattle.std.proofs.Common.{◌≡◌, ◌*◌, ◌<◌, ◌^◌, arith, pos, ◌+ℤ◌, ◌*ℤ◌, Option, Some, ap, sym, ◌∙◌, refl, subst}
 use Rattle.std.specs.List.{All}
 use Rattle.bt_frac.specs.Ratio.{Ratio, SameRatio}
 use Rattle.bt_frac.specs.Values.{AreValues, plus, times}

@@ -1,5 +1,5 @@
 -- The slots of a turn and the sums that are kept of them, after one more slot.
-use Rattle.std.proofs.Common.{◌≡◌, ℕ, ◌+◌, ◌<◌, arith, length, length-set, set, get_or, Option, Some, None, IfSome, inl, inr, sym, ◌∙◌, refl, subst}
+use Rattle.std.proofs.Common.{◌≡◌, ◌+◌, ◌<◌, arith, length, length-set, set, get_or, Option, Some, None, IfSome, inl, inr, sym, ◌∙◌, refl, subst}
 use Rattle.std.proofs.lemmas.List.{get_or_default, get_or-set_other, get_or-set_same, set-get_or}
 use Rattle.bt_line.specs.Lines.{Terms}
 use Rattle.bt_pivot.specs.Points.{resting, standing, IsSamePoint}

@@ -1,23 +1,20 @@
 -- The same point fails alike.
-use Rattle.std.proofs.Common.{◌≡◌, ℕ, ◌-◌, ◌<◌, ◌≤◌, arith, nat_lt, true, false, if◌then◌else◌, get_or, pos, ◌*ℤ◌, ◌<ℤ◌, ◌↔◌, length, Option, Some, None, ap, sym, ◌∙◌, subst, inl, inr}
+use Rattle.std.proofs.Common.{◌≡◌, ◌-◌, ◌<◌, ◌≤◌, arith, nat_lt, true, false, if◌then◌else◌, get_or, pos, ◌*ℤ◌, ◌<ℤ◌, ◌↔◌, length, Option, Some, None, ap, sym, ◌∙◌, subst, inl, inr}
 use Rattle.std.proofs.lemmas.Bool.Decides.{nat_tests}
 use Rattle.std.proofs.lemmas.List.{get_or_past}
 use Rattle.bt_frac.specs.Ratio.{Ratio, SameRatio, IsLess}
 use Rattle.bt_frac.specs.Rows.{RowParts}
-use Rattle.std.specs.declared.cmp.Ordering.{Ordering}
-use Rattle.bt_frac.specs.Deltas.{IsLessDelta, IsOrderOfDeltas}
+use Rattle.bt_frac.specs.Deltas.{IsLessDelta}
 use Rattle.bt_frac.specs.declared.delta.Delta.{Delta}
 use Rattle.bt_frac.specs.declared.row.Relation.TheVariants.{Above}
 use Rattle.bt_frac.proofs.Order.{mul_lt, lt_from_mul}
 use Rattle.bt_frac.proofs.Ring.{turn_last}
 use Rattle.bt_lin.proofs.SameNumbers.{same_trans, stands_same}
-use Rattle.bt_lin.specs.WeightedRows.{coefficient_at, empty_row}
+use Rattle.bt_lin.specs.WeightedRows.{empty_row}
 use Rattle.bt_line.specs.Lines.{Terms}
 use Rattle.bt_pivot.specs.SolvedForms.{slot_at, InBasis}
 use Rattle.bt_pivot.specs.Tableaus.{TableauParts}
-use Rattle.bt_pivot.specs.Points.{bound_row, bound_value, resting, standing, point_at, Breaks, Fails, IsSamePoint, IsBoundOrder}
-use Rattle.bt_simplex.specs.Turns.{MovesTowards, MayMove, CanEnter, IsLeast}
-use Rattle.bt_simplex.specs.inner.Bases.{IsLeastOf, MayEnter, Names}
+use Rattle.bt_pivot.specs.Points.{bound_row, bound_value, resting, standing, point_at, Breaks, Fails, IsSamePoint}
 use Rattle.bt_line.proofs.Numbers.{Positive}
 
 pub less_right : (a b x : Ratio) → Positive a → Positive b → SameRatio a b → IsLess x a → IsLess x b

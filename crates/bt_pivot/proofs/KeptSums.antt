@@ -1,5 +1,5 @@
 -- What is kept of the sums of classes' lines, and what a turn leaves of it.
-use Rattle.std.proofs.Common.{◌≡◌, ◌≢◌, ◌⊎◌, ℕ, ◌^◌, false, if◌then◌else◌, zero, suc, ◌+◌, ◌<◌, ◌≤◌, arith, List, length, set, get_or, replicate, Option, Some, None, Result, Ok, Err, IfOk, IfSome, inl, inr, ap, sym, ◌∙◌, refl, subst}
+use Rattle.std.proofs.Common.{◌≡◌, ◌≢◌, ◌⊎◌, ◌^◌, false, if◌then◌else◌, zero, suc, ◌+◌, ◌<◌, ◌≤◌, arith, List, length, set, get_or, replicate, Option, Some, None, Result, Ok, Err, IfOk, IfSome, inl, inr, ap, sym, ◌∙◌, refl, subst}
 use Rattle.std.proofs.lemmas.Bool.{cases_lt}
 use Rattle.std.proofs.lemmas.List.{get_or_past, get_or-set_other, get_or-set_same}
 use Rattle.bt_pivot.specs.Classes.{member_at, position_at, class_terms, is_outside, slot_by, slots_of}

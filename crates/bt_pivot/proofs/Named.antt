@@ -1,5 +1,5 @@
 -- Terms that name a position, and what a turn makes of them.
-use Rattle.std.proofs.Common.{◌≡◌, ℕ, Option, Some, None, IfSome, ◌∙◌, sym, subst}
+use Rattle.std.proofs.Common.{◌≡◌, Option, Some, None, IfSome, ◌∙◌, sym, subst}
 use Rattle.bt_frac.specs.Ratio.{Ratio}
 use Rattle.bt_lin.specs.WeightedRows.{coefficient_at}
 use Rattle.bt_line.specs.Lines.{Terms, IsLine}

@@ -1,9 +1,8 @@
 -- What short lines add up to where their positions rest.
-use Rattle.std.proofs.Common.{Ordering, Less, Equal, Greater, Bool, IsTrue, ◌↔◌, ◌<ℤ◌, inl, inr, ◌≡◌, ℕ, ◌+◌, ◌-◌, ◌<◌, ◌≤◌, ◌^◌, arith, ℤ, pos, ◌+ℤ◌, ◌*ℤ◌, [], ◌∷◌, length, take, get_or, Some, ap, sym, ◌∙◌, subst}
+use Rattle.std.proofs.Common.{Ordering, Less, Equal, Greater, Bool, IsTrue, ◌↔◌, ◌<ℤ◌, inl, inr, ◌≡◌, ◌+◌, ◌-◌, ◌<◌, ◌≤◌, ◌^◌, arith, pos, ◌+ℤ◌, ◌*ℤ◌, ◌∷◌, length, take, get_or, Some, ap, sym, ◌∙◌, subst}
 use Rattle.std.specs.List.{All}
 use Rattle.std.proofs.lemmas.Int.{ints}
 use Rattle.std.proofs.lemmas.List.{take_all}
-use Rattle.std.proofs.Math.IntN.{pos-*ℤ-pos}
 use Rattle.bt_frac.specs.Ratio.{Ratio, SameRatio, IsSum, IsLess, FitsPart}
 use Rattle.bt_frac.specs.Products.{IsProduct}
 use Rattle.bt_frac.specs.Deltas.{IsLessDelta, IsOrderOfDeltas}

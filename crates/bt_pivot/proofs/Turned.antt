@@ -1,5 +1,5 @@
 -- A turn keeps the solved form.
-use Rattle.std.proofs.Common.{◌≡◌, ◌≢◌, ℕ, ◌+◌, ◌<◌, arith, true, false, if◌then◌else◌, ◌==◌, suc, sum_by, set, get_or, length-set, List, [], ◌∷◌, length, Option, Some, None, ap, sym, ◌∙◌, refl, subst, ◌⊎◌, inl, inr}
+use Rattle.std.proofs.Common.{◌≡◌, ◌≢◌, ◌+◌, ◌<◌, arith, true, false, if◌then◌else◌, ◌==◌, suc, sum_by, set, get_or, length-set, List, ◌∷◌, length, Option, Some, None, ap, sym, ◌∙◌, refl, subst, ◌⊎◌, inl, inr}
 use Rattle.std.specs.List.{All}
 use Rattle.std.proofs.lemmas.Bool.{cases_lt}
 use Rattle.std.proofs.lemmas.Bool.Decides.{nat_tests}
@@ -19,7 +19,7 @@ use Rattle.bt_pivot.proofs.Standing.{stands_some}
 use Rattle.bt_line.proofs.Totals.{total_positive}
 use Rattle.bt_line.proofs.Indicators.{LacksPosition, decide, indicator, indicator_some, having_total, total_at, none_lacks, zero_lacks, over_zero_of, combination_lacks, number_has}
 use Rattle.bt_line.proofs.Zeros as zeros
-use Rattle.bt_line.proofs.Zeros.{one_some, zero_of, negated_some, one_term, combined_alike, plus_none, one_times, share_is, share_some, one_lowest, one_number, negated_alike, minus_one, named_has, named_or_lacks, all_from, total_along}
+use Rattle.bt_line.proofs.Zeros.{one_some, one_term, combined_alike, plus_none, one_times, one_lowest, one_number, minus_one, named_has, named_or_lacks, all_from, total_along}
 
 -- what a changed slot was before
 changed_from : (enters : ℕ) (zero : Terms) (old new : Option Terms) (terms' : Terms) → IsSubstituted enters zero old new → new ≡ Some terms'

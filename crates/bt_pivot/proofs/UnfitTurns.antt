@@ -1,9 +1,8 @@
 -- Where the lines after a turn don't fit, and where they do.
-use Rattle.std.proofs.Common.{◌≡◌, ◌≢◌, ℕ, ◌+◌, ◌*◌, ◌<◌, arith, suc, pos, neg_ℤ, ◌*ℤ◌, ℤ, true, false, if◌then◌else◌, ◌==◌, ◌&&◌, [], ◌∷◌, length, set, length-set, Option, Some, None, ap, sym, ◌∙◌, refl, subst, inl, inr}
+use Rattle.std.proofs.Common.{◌≡◌, ◌≢◌, ◌+◌, ◌*◌, ◌<◌, arith, suc, pos, neg_ℤ, ◌*ℤ◌, true, false, if◌then◌else◌, ◌==◌, ◌&&◌, ◌∷◌, length, set, length-set, Option, Some, None, ap, sym, ◌∙◌, refl, subst, inl, inr}
 use Rattle.std.proofs.lemmas.Int.{ints}
 use Rattle.std.proofs.lemmas.Bool.Decides.{nat_tests}
 use Rattle.std.proofs.lemmas.List.{get_or-set_same, get_or-set_other}
-use Rattle.std.proofs.Math.IntN.{*ℤ_comm}
 use Rattle.bt_frac.specs.Ratio.{Ratio, IsLowest, negated}
 use Rattle.bt_frac.specs.Products.{IsProduct, IsDivision}
 use Rattle.bt_frac.specs.Values.{nothing, times}
@@ -25,7 +24,7 @@ use Rattle.bt_line.specs.Substituting.{IsZeroLine, IsSubstituted}
 use Rattle.bt_line.proofs.Indicators.{decide, indicator, indicator_some, here_is, other_is, lacking_total, total_at, none_lacks, number_has, times_one}
 use Rattle.bt_line.proofs.Numbers.{Positive, nothing_some, Alike, itself, back, next, both_plus, both_times, swap_plus, swap_times, group_times, drop_zero, times_positive, times_zero, negated_times, zero_alike}
 use Rattle.bt_line.proofs.Shares.{negated_twice, negated_low}
-use Rattle.bt_line.proofs.Zeros.{one_some, one_times, one_lowest, negated_alike, share_is}
+use Rattle.bt_line.proofs.Zeros.{one_lowest, negated_alike, share_is}
 use Rattle.bt_line.proofs.Zeros as zeros
 
 -- a product with the second number negated

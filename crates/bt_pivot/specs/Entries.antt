@@ -1,25 +1,14 @@
 -- The numbers of a solved form, and those of the operations that a turn of its basis asks for.
-use Rattle.std.specs.Prelude.{◌≡◌, ◌⊎◌, ℕ, ◌<◌, ◌==◌, ◌&&◌, pos, ◌<ℤ◌, List, ◌∷◌, ◌++◌, length, Option, Some, None, if◌then◌else◌}
-use Rattle.bt_frac.specs.Ratio.{Ratio, SameRatio, IsLowest, IsLess, IsAtMost, negated}
+use Rattle.std.specs.Prelude.{◌≡◌, ◌⊎◌, ◌<◌, ◌==◌, ◌&&◌, ◌<ℤ◌, ◌∷◌, ◌++◌, Option, Some, None, if◌then◌else◌}
+use Rattle.bt_frac.specs.Ratio.{Ratio, IsLowest, negated}
 use Rattle.bt_frac.specs.Products.{IsProduct, IsDivision}
-use Rattle.bt_frac.specs.Rows.{RowParts}
-use Rattle.bt_frac.specs.Values.{nothing, plus, times, sum_of_products}
-use Rattle.bt_lin.specs.WeightedRows.{part_of, pairs_at, number_of, coefficient_at}
-use Rattle.bt_lin.specs.Farkas.{IsFirstWide}
-use Rattle.bt_lin.specs.declared.places.Place.{Place}
-use Rattle.bt_line.specs.Unfits.{IsNone}
-use Rattle.bt_line.specs.Lines.{one, Terms, total}
+use Rattle.bt_frac.specs.Values.{nothing}
+use Rattle.bt_lin.specs.WeightedRows.{coefficient_at}
+use Rattle.bt_line.specs.Lines.{one, Terms}
 use Rattle.bt_pivot.specs.SolvedForms.{Slots, slot_at}
-use Rattle.bt_pivot.specs.Tableaus.{TableauParts}
-use Rattle.bt_pivot.specs.Points.{bound_row, resting, point_at}
-use Rattle.bt_simplex.specs.Turns.{IsBlandTurn, IsMet, IsStuckAt}
-use Rattle.bt_simplex.specs.Weights.{AreWeights, weighted_rows}
 use Rattle.bt_pivot.specs.declared.turning.Turn.{Turn}
 use Rattle.bt_line.specs.declared.unfit.Operation.{Operation}
 use Rattle.bt_line.specs.declared.unfit.Operation.TheVariants.{Add, Mul, Div}
-use Rattle.bt_pivot.specs.declared.causes.WidePlace.{WidePlace}
-use Rattle.bt_pivot.specs.declared.causes.WidePlace.TheVariants.{Entry, Value, Settle, Lemma}
-use Rattle.bt_pivot.specs.declared.causes.Cause.{Cause}
 
 -- the number of a term, and 0 where there is none
 abbrev pub number_or_zero : Option Ratio → Ratio

@@ -1,5 +1,5 @@
 -- Where a position stands.
-use Rattle.std.specs.Prelude.{◌≡◌, ℕ, ◌<◌, ◌-◌, ◌^◌, ◌∷◌, [], Some, None}
+use Rattle.std.specs.Prelude.{◌≡◌, ◌<◌, ◌-◌, ◌^◌, ◌∷◌, Some, None}
 use Rattle.bt_line.specs.Lines.{one, signed_terms}
 use Rattle.bt_pivot.specs.SolvedForms.{Slots, slot_at}
 use Rattle.bt_pivot.specs.declared.basis.Place.{Place}

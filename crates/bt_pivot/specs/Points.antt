@@ -1,26 +1,17 @@
 -- Where the positions of a tableau stand at its basis, with an infinitesimal for strict bounds.
-use Rattle.std.specs.Prelude.{ℕ, ◌-◌, nat_lt, false, Option, Some, None, slice_index_or, if◌then◌else◌, ◌≡◌, ◌≢◌, ◌⊎◌, ◌<◌, Bool, true, ◌↔◌, ◌≤◌, pos, ◌<ℤ◌, List, [], ◌∷◌, ◌+◌, length, IfSome}
+use Rattle.std.specs.Prelude.{◌-◌, nat_lt, false, Option, Some, None, slice_index_or, if◌then◌else◌, ◌≡◌, ◌≢◌, ◌⊎◌, ◌<◌, Bool, true, ◌↔◌, ◌≤◌, ◌<ℤ◌, ◌∷◌, ◌+◌}
 use Rattle.bt_frac.specs.Ratio.{Ratio, negated}
 use Rattle.bt_frac.specs.Rows.{RowParts}
 use Rattle.bt_frac.specs.Values.{nothing}
 use Rattle.bt_frac.specs.declared.delta.Delta.{Delta}
 use Rattle.bt_frac.specs.declared.row.Relation.{Relation}
 use Rattle.bt_frac.specs.declared.row.Relation.TheVariants.{AtLeast, Above, Equal}
-use Rattle.bt_lin.specs.WeightedRows.{empty_row, coefficient_at}
+use Rattle.bt_lin.specs.WeightedRows.{empty_row}
 use Rattle.bt_line.specs.Lines.{one, Terms, total}
-use Rattle.bt_pivot.specs.SolvedForms.{slot_at, Slots, IsSolvedForm}
+use Rattle.bt_pivot.specs.SolvedForms.{slot_at, InBasis}
 use Rattle.bt_pivot.specs.Tableaus.{TableauParts}
 use Rattle.std.specs.declared.cmp.Ordering.{Ordering}
 use Rattle.bt_frac.specs.Deltas.{IsOrderOfDeltas, SameDelta, IsLessDelta}
-use Rattle.bt_pivot.specs.Points.{bound_row, bound_value, point_at, value_or_zero}
-use Rattle.bt_simplex.specs.Causes.{IsCause}
-use Rattle.bt_simplex.specs.Turns.{MovesTowards, IsLeast, IsBlandTurn, IsMet, IsStuckAt}
-use Rattle.bt_simplex.specs.declared.bland.Least.{Least}
-use Rattle.bt_simplex.specs.declared.bland.Least.TheVariants.{At, Nowhere, Wide as NoLeast}
-use Rattle.bt_simplex.specs.declared.bland.Next.{Next}
-use Rattle.bt_simplex.specs.declared.bland.Next.TheVariants.{Turn as Turns, Met, Stuck, Wide}
-use Rattle.bt_pivot.specs.declared.turning.Turn.{Turn}
-use Rattle.bt_pivot.specs.declared.rests.Rest.{Rest}
 
 -- how often the infinitesimal stands in a bound of this relation: once where it is strict
 abbrev pub tiny_of : Relation → Ratio

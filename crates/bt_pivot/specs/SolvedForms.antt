@@ -1,19 +1,12 @@
 -- Positions, a basis, and its solved form: what stands at each position of the basis, by what stands at those outside
 -- it.
-use Rattle.std.specs.Prelude.{◌≡◌, ℕ, ◌+◌, ◌-◌, ◌<◌, nat_lt, List, [], ◌∷◌, length, Option, Some, None, slice_index_or, if◌then◌else◌, ◌≢◌, ◌⊎◌, ◌↔◌, ◌≤◌, pos, ◌<ℤ◌}
+use Rattle.std.specs.Prelude.{◌≡◌, ◌+◌, ◌-◌, ◌<◌, nat_lt, List, ◌∷◌, length, Option, Some, None, slice_index_or, if◌then◌else◌, ◌≢◌, ◌⊎◌, ◌↔◌, ◌≤◌, ◌<ℤ◌}
 use Rattle.std.specs.List.{All}
 use Rattle.bt_frac.specs.Ratio.{Ratio, SameRatio}
 use Rattle.bt_frac.specs.Rows.{RowParts}
 use Rattle.bt_frac.specs.Values.{AreValues}
-use Rattle.bt_lin.specs.WeightedRows.{empty_row, coefficient_at}
+use Rattle.bt_lin.specs.WeightedRows.{empty_row}
 use Rattle.bt_line.specs.Lines.{Terms, IsLine, total}
-use Rattle.bt_frac.specs.Deltas.{IsLessDelta}
-use Rattle.bt_frac.specs.declared.delta.Delta.{Delta}
-use Rattle.bt_frac.specs.declared.row.Relation.TheVariants.{Equal}
-use Rattle.bt_pivot.specs.SolvedForms.{Slots, slot_at, IsSolvedForm}
-use Rattle.bt_pivot.specs.Tableaus.{TableauParts}
-use Rattle.bt_pivot.specs.Points.{bound_value, bound_row, point_at}
-use Rattle.bt_pivot.specs.declared.turning.Turn.{Turn}
 
 -- for each position its line, where the position is in the basis
 abbrev pub Slots : Type 0

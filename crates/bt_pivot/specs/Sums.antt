@@ -1,21 +1,12 @@
 -- Sums of the lines of a basis where their positions rest, and those that are kept from turn to turn.
-use Rattle.std.specs.Prelude.{◌≡◌, ◌<◌, ◌^◌, ◌⊎◌, ◌↔◌, Some, ℤ, ◌+ℤ◌, ◌*ℤ◌, Bool, IsTrue, ◌≢◌, ℕ, false, List, length, Option, None, IfSome, slice_index_or}
-use Rattle.bt_frac.specs.Ratio.{Ratio, IsLess}
-use Rattle.bt_frac.specs.Rows.{RowParts}
+use Rattle.std.specs.Prelude.{◌≡◌, ◌<◌, ◌^◌, ◌⊎◌, ◌↔◌, Some, ◌+ℤ◌, ◌*ℤ◌, ◌≢◌, List, Option, None, IfSome, slice_index_or}
 use Rattle.bt_frac.specs.declared.delta.Delta.{Delta}
-use Rattle.bt_frac.specs.declared.row.Relation.{Relation}
-use Rattle.bt_frac.specs.declared.row.Relation.TheVariants.{Equal}
-use Rattle.bt_pivot.specs.Points.{tiny_of, bound_value, resting, standing, Breaks, IsSamePoint, signed_point}
+use Rattle.bt_pivot.specs.Points.{resting, standing, IsSamePoint}
 use Rattle.bt_line.specs.Lines.{Terms}
 use Rattle.bt_pivot.specs.SolvedForms.{Slots, slot_at}
 use Rattle.bt_pivot.specs.Tableaus.{TableauParts}
 use Rattle.bt_pivot.specs.declared.short_points.Sums.{Sums}
 use Rattle.bt_pivot.specs.declared.short_points.ClassSums.{ClassSums}
-use Rattle.bt_pivot.specs.Classes.{member_at}
-use Rattle.bt_pivot.specs.declared.basis.Member.{Member}
-use Rattle.bt_line.specs.declared.short.merging.Scales.{Scales}
-use Rattle.bt_pivot.specs.inner.Carrying.{IsCarriedOf}
-use Rattle.bt_pivot.specs.Sums.{AreClassSums, delta_of}
 
 -- the sums over their denominator
 abbrev pub delta_of : Sums → Delta

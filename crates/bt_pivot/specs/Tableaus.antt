@@ -1,23 +1,8 @@
 -- A tableau: rows over columns, which of the rows are bound, and a basis with its solved form.
-use Rattle.std.specs.Prelude.{◌≡◌, ℕ, ◌+◌, ◌<◌, List, [], ◌∷◌, length, Bool, false, replicate, slice_set, ◌≢◌, ◌⊎◌, true, Option, Some, None}
+use Rattle.std.specs.Prelude.{◌≡◌, ◌+◌, ◌<◌, List, ◌∷◌, length, Bool, false, replicate, slice_set, ◌≢◌, ◌⊎◌}
 use Rattle.std.specs.List.{All}
 use Rattle.bt_frac.specs.Rows.{RowParts, IsRow}
 use Rattle.bt_pivot.specs.SolvedForms.{Slots, IsSolvedForm, basis_of}
-use Rattle.std.specs.declared.cmp.Ordering.{Ordering}
-use Rattle.bt_frac.specs.Ratio.{Ratio, negated}
-use Rattle.bt_frac.specs.Deltas.{IsOrderOfDeltas, SameDelta}
-use Rattle.bt_frac.specs.declared.delta.Delta.{Delta}
-use Rattle.bt_frac.specs.declared.row.Relation.TheVariants.{Equal}
-use Rattle.bt_lin.specs.WeightedRows.{coefficient_at}
-use Rattle.bt_line.specs.Lines.{Terms}
-use Rattle.bt_pivot.specs.Tableaus.{TableauParts}
-use Rattle.bt_pivot.specs.Points.{bound_row, bound_value, point_at}
-use Rattle.bt_simplex.specs.Causes.{IsCause}
-use Rattle.bt_simplex.specs.Turns.{MovesTowards, IsLeast, IsBlandTurn, IsMet, IsStuckAt}
-use Rattle.bt_simplex.specs.declared.bland.Least.{Least}
-use Rattle.bt_simplex.specs.declared.bland.Least.TheVariants.{At, Nowhere, Wide as NoLeast}
-use Rattle.bt_simplex.specs.declared.bland.Next.{Next}
-use Rattle.bt_simplex.specs.declared.bland.Next.TheVariants.{Turn as Turns, Met, Stuck, Wide}
 
 -- the rows and columns, for each row whether it is bound, and for each position of the basis its line
 pub record TableauParts : Type 0 where

@@ -1,16 +1,13 @@
 -- A turn of a basis, slot by slot, and why one of its operations leaves 128 bits.
-use Rattle.std.specs.Prelude.{◌≡◌, ◌≢◌, ℕ, Bool, length, Some, None, slice_set, ◌==◌, if◌then◌else◌, Option}
-use Rattle.bt_frac.specs.Ratio.{Ratio, negated}
+use Rattle.std.specs.Prelude.{◌≡◌, ◌≢◌, length, Some, None, ◌==◌, if◌then◌else◌, Option}
+use Rattle.bt_frac.specs.Ratio.{Ratio}
 use Rattle.bt_lin.specs.WeightedRows.{coefficient_at}
-use Rattle.bt_line.specs.Lines.{Terms, IsLine, signed_terms}
+use Rattle.bt_line.specs.Lines.{Terms, IsLine}
 use Rattle.bt_line.specs.Substituting.{IsZeroLine, IsSubstituted, IsEntering}
 use Rattle.bt_pivot.specs.SolvedForms.{Slots, slot_at, basis_of}
-use Rattle.bt_line.specs.Unfits.{IsNone, IsUnfit, IsUnfitZero}
+use Rattle.bt_line.specs.Unfits.{IsNone}
 use Rattle.bt_pivot.specs.Entries.{IsEntryStep}
-use Rattle.bt_line.specs.declared.unfit.Operation.{Operation}
-use Rattle.bt_line.specs.declared.unfit.Operation.TheVariants.{Add, Mul, Div}
 use Rattle.bt_pivot.specs.declared.causes.WidePlace.TheVariants.{Entry}
-use Rattle.bt_line.specs.declared.unfit.Unfit.{Unfit}
 use Rattle.bt_pivot.specs.declared.causes.Cause.{Cause}
 
 -- each slot with terms has a line

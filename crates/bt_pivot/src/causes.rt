@@ -1,5 +1,4 @@
 //! Operations whose results leave 128 bits.
-use crate::answers::WidePlace;
 use bt_frac::Frac;
 use bt_line::Operation;
 
@@ -12,4 +11,17 @@ pub struct Cause {
     pub operation: Operation,
     pub left: Frac,
     pub right: Frac,
+}
+
+/// What a check forms numbers for.
+#[derive(Clone, Copy, PartialEq, Eq)]
+pub enum WidePlace {
+    /// The lines of the basis after a turn.
+    Entry,
+    /// Where the positions of the basis stand.
+    Value,
+    /// The number that takes the place of the infinitesimal, and the values of the columns by it.
+    Settle,
+    /// The sum of the rows that no values meet.
+    Lemma,
 }

@@ -12,7 +12,7 @@ ghost use Rattle.bt_pivot.specs.Sums.{delta_of};
 ghost use Rattle.bt_line.specs.TermSigns.{IsSignedTerm};
 
 use crate::rests::Rest;
-use crate::tableau::Tableau;
+use crate::table::Table;
 use bt_frac::{Delta, Relation};
 use bt_line::{Scales, Short, number};
 use std::cmp::Ordering;
@@ -35,7 +35,7 @@ pub struct ClassSums {
 
 /// What a line adds up to where its positions rest. None where a bound isn't a small whole number or a sum
 /// leaves 64 bits.
-pub fn short_point(tableau: &Tableau, line: &Short) -> Option<Delta>
+pub fn short_point(tableau: &Table, line: &Short) -> Option<Delta>
     ensures { IfSome result
         (λ d. IsSamePoint d (standing (resting tableau.now) 0 (Some line.now))) }
 {
@@ -47,7 +47,7 @@ pub fn short_point(tableau: &Tableau, line: &Short) -> Option<Delta>
 }
 
 /// The sums of a line's terms. None as above.
-pub fn short_sums(tableau: &Tableau, line: &Short) -> Option<Sums>
+pub fn short_sums(tableau: &Table, line: &Short) -> Option<Sums>
     ensures same { IfSome result
         (λ s. IsSamePoint (delta_of s) (standing (resting tableau.now) 0 (Some line.now))) }
     ensures fits { IfSome result (λ s. s.under < 2 ^ 31) }

@@ -10,7 +10,7 @@ ghost use Rattle.bt_pivot.specs.Sums.{AreClassSums, delta_of};
 
 use crate::basis::Member;
 use crate::short_points::{ClassSums, Sums, carried, short_sums};
-use crate::tableau::Tableau;
+use crate::table::Table;
 use bt_line::{Line, Scales};
 use std::alloc::{AllocError, Global};
 
@@ -124,7 +124,7 @@ fn carried_of(sums: Option<ClassSums>, others: Option<Sums>, scales: &Scales) ->
 }
 
 /// The sums of a line, where whole numbers tell them.
-pub fn sums_of(tableau: &Tableau, line: &Line) -> Option<Sums>
+pub fn sums_of(tableau: &Table, line: &Line) -> Option<Sums>
     ensures fits { IfSome result (λ s. s.under < 2 ^ 31) }
     ensures same { IfSome result
         (λ s. IsSamePoint (delta_of s) (standing (resting tableau.now) 0 (Some line.now))) }
@@ -153,7 +153,7 @@ fn is_first(member: Member, class: usize) -> bool
 /// The sums of the line of a class, by its first position: those that are kept, or else they are formed and
 /// kept. None where whole numbers don't tell them.
 pub fn class_sums(
-    tableau: &Tableau,
+    tableau: &Table,
     kept: &mut SumCache,
     class: usize,
     first: usize,
@@ -174,7 +174,7 @@ pub fn class_sums(
 }
 
 /// The sums of the line of a class, by its first position, formed.
-fn formed(tableau: &Tableau, first: usize, line: &Line) -> Option<ClassSums>
+fn formed(tableau: &Table, first: usize, line: &Line) -> Option<ClassSums>
     ensures { IfSome result (IsFormed tableau.now first line.now) }
 {
     let sums = sums_of(tableau, line)?;

@@ -15,15 +15,21 @@ ghost use Rattle.bt_pivot.specs.Sums.{SlotsStay};
 ghost use Rattle.bt_pivot.specs.inner.UnfitTurns.{IsUnfitSlot, IsSlotZero, IsUnfitPart, IsUnfitLine, entry_cause};
 ghost use Rattle.bt_pivot.specs.TurnedSlots.{CanPart, IsUnfitTurn};
 
-use crate::answers::WidePlace;
 use crate::basis::{Basis, Member};
-use crate::causes::Cause;
+use crate::causes::{Cause, WidePlace};
 use crate::sum_cache::{SumCache, sums_of};
-use crate::tableau::Tableau;
-use crate::workspace::{Rooms, Workspace};
+use crate::table::Table;
+use crate::workspace::Rooms;
 use bt_frac::Frac;
 use bt_line::{Change, Line, Operation, Room, Unfit, combined, zero_line};
 use std::alloc::{AllocError, Global};
+
+/// One position leaves the basis, and another enters it.
+#[derive(Clone, Copy, PartialEq, Eq)]
+pub struct Turn {
+    pub leaves: usize,
+    pub enters: usize,
+}
 
 /// Puts what the entering position stands for in place of it in the line of a slot, by small whole numbers. A
 /// room is taken for the new terms, and that of the old ones is left.
@@ -87,7 +93,7 @@ fn entry_cause(row: usize, unfit: Unfit) -> Cause
 /// Puts what the entering position stands for in place of it, in each line, and carries the sums of those
 /// that change, or forgets them; or tells a product or a sum that doesn't fit.
 fn substitute(
-    tableau: &Tableau,
+    tableau: &Table,
     alloc: Global,
     rooms: &mut Rooms,
     slots: &mut [Option<Line>],
@@ -221,7 +227,7 @@ fn long_zero(
 /// with the sums of those that change carried or forgotten; or tells a product or a sum that doesn't fit, and
 /// the same classes then have lines as before.
 fn substitute_others(
-    tableau: &Tableau,
+    tableau: &Table,
     alloc: Global,
     rooms: &mut Rooms,
     lines: &mut [Option<Line>],
@@ -291,7 +297,7 @@ fn at_first(firsts: &[usize], cause: Cause) -> Cause
 /// A turn of the basis: one position leaves it, and one that its line names enters. Or the operation
 /// whose result doesn't fit; the same positions are then in the basis, but not with its lines.
 pub fn turn(
-    tableau: &Tableau,
+    tableau: &Table,
     alloc: Global,
     rooms: &mut Rooms,
     basis: &mut Basis,
@@ -323,7 +329,7 @@ pub fn turn(
 
 /// The same turn by the line that is 0 wherever the line of the leaving position holds.
 fn turn_by(
-    tableau: &Tableau,
+    tableau: &Table,
     alloc: Global,
     rooms: &mut Rooms,
     basis: &mut Basis,

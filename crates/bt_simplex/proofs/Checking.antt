@@ -1,5 +1,5 @@
 -- What a check answers, by where its run ends.
-use Rattle.std.proofs.Common.{◌≡◌, ℕ, ◌<◌, ◌≤◌, List, Vec, Global, length, ap, sym, ◌∙◌, refl, subst}
+use Rattle.std.proofs.Common.{◌≡◌, ◌<◌, ◌≤◌, List, Vec, Global, length, ap, sym, ◌∙◌, refl, subst}
 use Rattle.bt_frac.specs.Ratio.{Ratio}
 use Rattle.bt_simplex.specs.Counting.{most_bases}
 use Rattle.bt_pivot.specs.SolvedForms.{Slots}

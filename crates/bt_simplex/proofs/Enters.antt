@@ -1,27 +1,21 @@
 -- What can enter is told by the failing line and its row.
-use Rattle.std.proofs.Common.{◌≡◌, ℕ, ◌-◌, ◌<◌, ◌≤◌, arith, nat_lt, true, false, if◌then◌else◌, get_or, pos, ◌*ℤ◌, ◌<ℤ◌, ◌↔◌, length, Option, Some, None, ap, sym, ◌∙◌, subst, inl, inr, ◌≢◌, refl}
-use Rattle.std.proofs.lemmas.Bool.Decides.{nat_tests}
-use Rattle.std.proofs.lemmas.List.{get_or_past}
-use Rattle.bt_frac.specs.Ratio.{Ratio, SameRatio, IsLess}
+use Rattle.std.proofs.Common.{◌≡◌, ◌-◌, ◌<◌, ◌≤◌, arith, if◌then◌else◌, ◌*ℤ◌, ◌<ℤ◌, ◌↔◌, Option, Some, None, ap, sym, ◌∙◌, subst, inl, inr, ◌≢◌}
+use Rattle.bt_frac.specs.Ratio.{Ratio}
 use Rattle.bt_frac.specs.Rows.{RowParts}
 use Rattle.std.specs.declared.cmp.Ordering.{Ordering}
-use Rattle.bt_frac.specs.Deltas.{IsLessDelta, IsOrderOfDeltas}
+use Rattle.bt_frac.specs.Deltas.{IsOrderOfDeltas}
 use Rattle.bt_frac.specs.declared.delta.Delta.{Delta}
-use Rattle.bt_frac.specs.declared.row.Relation.TheVariants.{Above, Equal}
-use Rattle.bt_frac.proofs.Order.{mul_lt, lt_from_mul}
-use Rattle.bt_frac.proofs.Ring.{turn_last}
-use Rattle.bt_lin.proofs.SameNumbers.{same_trans, stands_same}
-use Rattle.bt_lin.specs.WeightedRows.{coefficient_at, empty_row}
+use Rattle.bt_frac.specs.declared.row.Relation.TheVariants.{Equal}
+use Rattle.bt_lin.specs.WeightedRows.{coefficient_at}
 use Rattle.bt_line.specs.Lines.{Terms}
-use Rattle.bt_pivot.specs.SolvedForms.{slot_at, InBasis}
+use Rattle.bt_pivot.specs.SolvedForms.{slot_at}
 use Rattle.bt_pivot.specs.Tableaus.{TableauParts}
-use Rattle.bt_pivot.specs.Points.{bound_row, bound_value, resting, standing, point_at, Breaks, Fails, IsSamePoint, IsBoundOrder, relation_of}
+use Rattle.bt_pivot.specs.Points.{bound_row, bound_value, resting, standing, point_at, Fails, IsSamePoint, IsBoundOrder, relation_of}
 use Rattle.bt_simplex.specs.Turns.{MovesTowards, MayMove, CanEnter, IsLeast}
 use Rattle.bt_simplex.specs.inner.Bases.{IsLeastOf, MayEnter, Names}
-use Rattle.bt_line.proofs.Numbers.{Positive}
 use Rattle.bt_frac.specs.declared.row.Relation.{Relation}
-use Rattle.bt_pivot.specs.inner.Rests.{rest_point, IsRestOf}
-use Rattle.bt_pivot.specs.declared.rests.Rest.{Rest}
+use Rattle.bt_pivot.proofs.Failing.{same_back, row_is, point_is, less_delta_right, less_delta_left}
+use Rattle.bt_pivot.proofs.BoundRests.{row_of}
 
 moves_by : (row : RowParts) (a b : Delta) (number : Ratio) → IsSamePoint a b → MovesTowards row a number → MovesTowards row b number
 moves_by row a b number s (inl (less, up)) = inl (less_delta_left a b (bound_value row) s less, up)

@@ -1,9 +1,8 @@
 -- Sums of products that stand at 0 or above it, by value and then by the infinitesimal.
-use Rattle.std.proofs.Common.{◌≡◌, ◌⊎◌, inl, inr, ℕ, zero, suc, ◌*◌, arith, ℤ, pos, negsuc, neg_ℤ, ◌<ℤ◌, ◌≤ℤ◌, ◌+ℤ◌, ◌*ℤ◌, [], ◌∷◌, ap, sym, ◌∙◌, refl, subst}
+use Rattle.std.proofs.Common.{◌≡◌, ◌⊎◌, inl, inr, zero, suc, ◌*◌, arith, pos, negsuc, neg_ℤ, ◌<ℤ◌, ◌≤ℤ◌, ◌+ℤ◌, ◌*ℤ◌, ◌∷◌, ap, sym, ◌∙◌, refl, subst}
 use Rattle.std.specs.List.{All}
 use Rattle.std.proofs.lemmas.Int.{ints}
 use Rattle.std.proofs.lemmas.List.Elements.{All-head, All-tail}
-use Rattle.std.proofs.Math.IntN.{zero-*ℤ}
 use Rattle.bt_frac.proofs.Order.{mul_lt, lt_from_mul}
 use Rattle.bt_frac.proofs.Ring.{neg_mul, mul_neg, turn_last}
 use Rattle.bt_frac.specs.Deltas.{IsLessDelta, SameDelta}

@@ -1,8 +1,7 @@
 -- Settled values meet every bound row.
-use Rattle.std.proofs.Common.{◌≡◌, ◌⊎◌, ℕ, ◌+◌, ◌-◌, ◌<◌, ◌*◌, arith, pos, negsuc, neg_ℤ, ◌<ℤ◌, ◌≤ℤ◌, ◌*ℤ◌, ℤ, nat_lt, true, false, if◌then◌else◌, get_or, List, [], ◌∷◌, ◌++◌, below_more, length, Option, Some, None, ap, sym, ◌∙◌, refl, subst, inl, inr}
+use Rattle.std.proofs.Common.{◌≡◌, ◌⊎◌, ◌+◌, ◌-◌, ◌<◌, ◌*◌, arith, pos, negsuc, neg_ℤ, ◌<ℤ◌, ◌≤ℤ◌, ◌*ℤ◌, nat_lt, true, false, if◌then◌else◌, get_or, List, ◌∷◌, ◌++◌, below_more, length, Option, Some, None, ap, sym, ◌∙◌, refl, subst, inl, inr}
 use Rattle.std.specs.List.{All}
 use Rattle.std.proofs.lemmas.Int.{ints}
-use Rattle.std.proofs.Math.IntN.{zero-*ℤ, *ℤ_comm, pos-*ℤ-pos}
 use Rattle.bt_frac.proofs.Ring.{mul_neg}
 use Rattle.std.proofs.lemmas.Bool.{cases_lt}
 use Rattle.std.proofs.lemmas.Bool.Decides.{nat_tests}

@@ -1,5 +1,5 @@
 -- Where a number of a sign moves a row.
-use Rattle.std.proofs.Common.{◌≡◌, arith, ℤ, pos, ◌<ℤ◌, ◌↔◌, Ordering, Less, Equal, Greater, sym, refl, subst, inl, inr}
+use Rattle.std.proofs.Common.{◌≡◌, arith, pos, ◌<ℤ◌, ◌↔◌, Ordering, Less, Equal, Greater, sym, refl, subst, inl, inr}
 use Rattle.std.proofs.lemmas.Int.{ints}
 use Rattle.bt_frac.specs.Ratio.{Ratio}
 use Rattle.bt_frac.specs.Rows.{RowParts}

@@ -1,22 +1,13 @@
 -- What a line adds up to, term by term, and the term at which that doesn't fit.
-use Rattle.std.proofs.Common.{◌≡◌, ℕ, ◌+◌, ◌-◌, ◌<◌, arith, Bool, true, false, if◌then◌else◌, nat_lt, zero, suc, get_or, take, drop, take-append-drop, List, [], ◌∷◌, ◌++◌, length, Option, Some, None, inl, inr, ap, sym, ◌∙◌, refl, subst}
-use Rattle.std.specs.List.{All}
-use Rattle.std.proofs.lemmas.List.{take_more, get_or_past}
-use Rattle.std.proofs.lemmas.List.Elements.{All-head, All-tail, All-take}
-use Rattle.bt_frac.specs.Ratio.{Ratio, SameRatio, IsLowest, IsSum}
-use Rattle.bt_frac.specs.Products.{IsProduct}
-use Rattle.bt_frac.specs.Rows.{RowParts, IsRow}
-use Rattle.bt_frac.specs.Values.{AreValues, nothing, plus, times}
+use Rattle.std.proofs.Common.{◌≡◌, ◌+◌, ◌-◌, ◌<◌, if◌then◌else◌, get_or, take, drop, take-append-drop, ◌∷◌, ◌++◌, length, Some, inl, inr, ap, sym, ◌∙◌, refl, subst}
+use Rattle.bt_frac.specs.Ratio.{Ratio, SameRatio, IsLowest}
+use Rattle.bt_frac.specs.Values.{times}
 use Rattle.bt_frac.specs.declared.delta.Delta.{Delta}
-use Rattle.bt_frac.specs.declared.row.Relation.{Relation}
-use Rattle.bt_frac.specs.declared.row.Relation.TheVariants.{AtLeast, Above, Equal}
-use Rattle.bt_lin.specs.WeightedRows.{empty_row, coefficient_at}
-use Rattle.bt_line.specs.Lines.{Terms, HasNumber, IsLine, total}
+use Rattle.bt_lin.specs.WeightedRows.{coefficient_at}
+use Rattle.bt_line.specs.Lines.{Terms, IsLine, total}
 use Rattle.bt_pivot.specs.Tableaus.{TableauParts, IsTableau}
 use Rattle.bt_pivot.specs.SolvedForms.{slot_at}
-use Rattle.std.proofs.lemmas.Bool.{cases_lt}
-use Rattle.std.proofs.lemmas.Bool.Decides.{nat_tests}
-use Rattle.bt_pivot.specs.Points.{bound_row, tiny_of, value_or_zero, resting, standing, point_at, IsSamePoint}
+use Rattle.bt_pivot.specs.Points.{resting, standing, IsSamePoint}
 use Rattle.bt_line.specs.Unfits.{IsNone, IsUnfitStep, IsUnfitHere}
 use Rattle.bt_simplex.specs.Causes.{IsSumStep, IsStepAt, IsCause}
 use Rattle.bt_line.specs.declared.unfit.Operation.{Operation}
@@ -25,8 +16,8 @@ use Rattle.bt_line.specs.declared.unfit.Unfit.{Unfit}
 use Rattle.bt_pivot.specs.declared.causes.Cause.{Cause}
 use Rattle.bt_simplex.specs.inner.UnfitPoints.{AddsTerm, IsUnfitTerm, IsUnfitPoint, value_cause}
 use Rattle.bt_line.proofs.NamedTerms.{item_named, drop_here}
-use Rattle.bt_line.proofs.Numbers.{Positive, nothing_some, Alike, alike, itself, back, next, both_plus, swap_plus, group_plus, plus_positive, times_positive}
-use Rattle.bt_line.proofs.Totals.{total_positive}
+use Rattle.bt_line.proofs.Numbers.{Positive, alike}
+use Rattle.bt_pivot.proofs.Resting.{rest_value, rest_tiny}
 
 -- the same of both parts of a point
 pub point_more : (t : TableauParts) → IsTableau t → (terms : Terms) → IsLine terms → (i : ℕ) (x : ℕ × Ratio) (sum after : Delta) → i < length terms → x ≡ get_or terms i x

@@ -1,5 +1,5 @@
 -- A turn of a tableau, of which only the slots change.
-use Rattle.std.proofs.Common.{◌≡◌, ◌≢◌, ℕ, List, Option, Some, None, ap, sym, ◌∙◌, refl, subst, ◌⊎◌, inl, inr}
+use Rattle.std.proofs.Common.{◌≡◌, ◌≢◌, List, Option, Some, None, ap, sym, ◌∙◌, refl, subst, ◌⊎◌, inl, inr}
 use Rattle.bt_frac.specs.Rows.{RowParts}
 use Rattle.bt_line.specs.Lines.{Terms}
 use Rattle.bt_pivot.specs.SolvedForms.{Slots, slot_at, IsOutside, IsSolvedForm, InBasis}

@@ -1,16 +1,15 @@
 -- Why a number that a check asks for leaves 128 bits: an operation, its two numbers, and what they are of the solved
 -- form.
-use Rattle.std.specs.Prelude.{◌≡◌, ◌⊎◌, ℕ, ◌<◌, ◌==◌, ◌&&◌, pos, ◌<ℤ◌, List, ◌∷◌, ◌++◌, length, Option, Some, None, if◌then◌else◌}
+use Rattle.std.specs.Prelude.{◌≡◌, ◌⊎◌, ◌<◌, ◌==◌, ◌&&◌, pos, ◌<ℤ◌, List, ◌∷◌, ◌++◌, length, Some, if◌then◌else◌}
 use Rattle.bt_frac.specs.Ratio.{Ratio, SameRatio, IsLowest, IsLess, IsAtMost, negated}
-use Rattle.bt_frac.specs.Products.{IsProduct, IsDivision}
 use Rattle.bt_frac.specs.Rows.{RowParts}
-use Rattle.bt_frac.specs.Values.{nothing, plus, times, sum_of_products}
+use Rattle.bt_frac.specs.Values.{plus, times, sum_of_products}
 use Rattle.bt_lin.specs.WeightedRows.{part_of, pairs_at, number_of, coefficient_at}
 use Rattle.bt_lin.specs.Farkas.{IsFirstWide}
 use Rattle.bt_lin.specs.declared.places.Place.{Place}
 use Rattle.bt_line.specs.Unfits.{IsNone}
 use Rattle.bt_line.specs.Lines.{one, Terms, total}
-use Rattle.bt_pivot.specs.SolvedForms.{Slots, slot_at}
+use Rattle.bt_pivot.specs.SolvedForms.{slot_at}
 use Rattle.bt_pivot.specs.Tableaus.{TableauParts}
 use Rattle.bt_pivot.specs.Points.{bound_row, resting, point_at}
 use Rattle.bt_simplex.specs.Turns.{IsBlandTurn, IsMet, IsStuckAt}
@@ -21,6 +20,7 @@ use Rattle.bt_line.specs.declared.unfit.Operation.TheVariants.{Add, Mul, Div}
 use Rattle.bt_pivot.specs.declared.causes.WidePlace.{WidePlace}
 use Rattle.bt_pivot.specs.declared.causes.WidePlace.TheVariants.{Entry, Value, Settle, Lemma}
 use Rattle.bt_pivot.specs.declared.causes.Cause.{Cause}
+use Rattle.bt_pivot.specs.Entries.{IsEntryStep}
 
 -- the fraction is this number, in lowest terms
 abbrev pub IsNumber : Ratio → Ratio → Type 0

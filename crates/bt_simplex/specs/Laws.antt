@@ -1,5 +1,5 @@
 -- What rows and a basis settle, and how many turns there can be.
-use Rattle.std.specs.Prelude.{◌≡◌, ◌≢◌, ◌↔◌, ℕ, ◌≤◌, List, ◌∷◌, length}
+use Rattle.std.specs.Prelude.{◌≡◌, ◌≢◌, ◌↔◌, ◌≤◌, List, ◌∷◌, length}
 use Rattle.std.specs.List.{All, AllPairs}
 use Rattle.bt_frac.specs.Rows.{RowParts, IsRow}
 use Rattle.bt_simplex.specs.Counting.{IsAscendingOf, ascending_lists}

@@ -1,5 +1,5 @@
 -- Runs of Bland's turns from a basis on.
-use Rattle.std.specs.Prelude.{◌≡◌, ℕ, ◌≤◌, List, length}
+use Rattle.std.specs.Prelude.{◌≡◌, ◌≤◌, List, length}
 use Rattle.bt_pivot.specs.Tableaus.{TableauParts}
 use Rattle.bt_simplex.specs.Turns.{IsFinal, Follows}
 use Rattle.bt_pivot.specs.declared.turning.Turn.{Turn}

@@ -1,5 +1,5 @@
 -- Turns of a basis by Bland's rule: the least position that fails leaves, and the least that can enter does.
-use Rattle.std.specs.Prelude.{◌≡◌, ◌≢◌, ◌⊎◌, ◌↔◌, ℕ, ◌≤◌, pos, ◌<ℤ◌, List, [], ◌∷◌, Some, None}
+use Rattle.std.specs.Prelude.{◌≡◌, ◌≢◌, ◌⊎◌, ◌↔◌, ◌≤◌, pos, ◌<ℤ◌, List, ◌∷◌, Some, None}
 use Rattle.bt_frac.specs.Ratio.{Ratio}
 use Rattle.bt_frac.specs.Rows.{RowParts}
 use Rattle.bt_frac.specs.Deltas.{IsLessDelta}
@@ -7,9 +7,9 @@ use Rattle.bt_frac.specs.declared.delta.Delta.{Delta}
 use Rattle.bt_frac.specs.declared.row.Relation.TheVariants.{Equal}
 use Rattle.bt_lin.specs.WeightedRows.{coefficient_at}
 use Rattle.bt_line.specs.Lines.{Terms}
-use Rattle.bt_pivot.specs.SolvedForms.{Slots, slot_at, IsSolvedForm}
+use Rattle.bt_pivot.specs.SolvedForms.{slot_at, IsSolvedForm, InBasis}
 use Rattle.bt_pivot.specs.Tableaus.{TableauParts}
-use Rattle.bt_pivot.specs.Points.{bound_value, bound_row, point_at}
+use Rattle.bt_pivot.specs.Points.{bound_value, bound_row, point_at, Fails}
 use Rattle.bt_pivot.specs.declared.turning.Turn.{Turn}
 
 -- a position with this number in the row's line moves it towards its bound value where it is raised

@@ -1,5 +1,5 @@
 -- The weights of a basis at which a position fails and none can enter for it.
-use Rattle.std.specs.Prelude.{◌≡◌, ◌≢◌, ◌⊎◌, ◌↔◌, ℕ, ◌+◌, List, map, Some, None}
+use Rattle.std.specs.Prelude.{◌≡◌, ◌≢◌, ◌⊎◌, ◌↔◌, ◌+◌, List, map, Some, None}
 use Rattle.bt_frac.specs.Ratio.{Ratio, negated}
 use Rattle.bt_frac.specs.Columns.{AreColumnsFrom}
 use Rattle.bt_frac.specs.Rows.{RowParts, columns_of}

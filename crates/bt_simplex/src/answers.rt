@@ -1,7 +1,7 @@
 //! What a check of a tableau answers.
-use crate::tableau::Turn;
 use bt_frac::Frac;
 use bt_line::Operation;
+use bt_pivot::{Turn, WidePlace};
 
 /// What a check found.
 #[derive(Drop)]
@@ -46,17 +46,4 @@ pub struct Wide {
     pub left: Frac,
     /// Its second number.
     pub right: Frac,
-}
-
-/// What a check forms numbers for.
-#[derive(Clone, Copy, PartialEq, Eq)]
-pub enum WidePlace {
-    /// The lines of the basis after a turn.
-    Entry,
-    /// Where the positions of the basis stand.
-    Value,
-    /// The number that takes the place of the infinitesimal, and the values of the columns by it.
-    Settle,
-    /// The sum of the rows that no values meet.
-    Lemma,
 }

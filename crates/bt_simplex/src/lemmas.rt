@@ -15,14 +15,12 @@ ghost use Rattle.bt_simplex.specs.Turns.{IsStuckAt};
 ghost use Rattle.bt_pivot.specs.Tableaus.{with_slots};
 ghost use Rattle.bt_simplex.specs.inner.Lemmas.{weight_of, AreLineWeights};
 
-use crate::basis::Basis;
-use crate::causes::Cause;
 use crate::points::{bound_value, line_point};
 use crate::sums::sum_cause;
-use crate::tableau::Tableau;
 use bt_frac::{Delta, Frac, Row};
 use bt_lin::{SumFault, Weigher, WideAt};
 use bt_line::{Line, Term, combined};
+use bt_pivot::{Basis, Cause, Table};
 use std::alloc::{AllocError, Global};
 use std::cmp::Ordering;
 
@@ -74,7 +72,7 @@ fn weights_of(
 /// The weights of the failing row and of the rows of its line, where none of these can enter; or why
 /// where it stands doesn't fit.
 fn stuck_weights(
-    tableau: &Tableau,
+    tableau: &Table,
     alloc: Global,
     basis: &Basis,
     position: usize,
@@ -138,7 +136,7 @@ fn weighed(
 /// Bound rows and weights that `farkas` accepts, where a position fails and none can enter for it; or
 /// why such a number doesn't fit.
 pub fn lemma(
-    tableau: &Tableau,
+    tableau: &Table,
     alloc: Global,
     basis: &Basis,
     position: usize,

@@ -3,27 +3,19 @@
 #![tactic(auto)]
 
 mod answers;
-mod basis;
 mod bland;
-mod causes;
 mod law;
 mod lemmas;
 mod points;
-mod rests;
 mod running;
 mod settling;
-mod short_points;
-mod starting;
-mod sum_cache;
 mod sums;
 mod tableau;
 mod trails;
-mod turning;
-mod workspace;
 
-pub use answers::{Check, Trail, Wide, WidePlace};
+pub use answers::{Check, Trail, Wide};
 pub use bt_line::Operation;
+pub use bt_pivot::{Turn, WidePlace, are_over};
 pub use law::{ascending_lists_are_few, no_basis_comes_back, one_solved_form};
-pub use starting::are_over;
 pub use std::alloc::AllocError as Memory;
-pub use tableau::{Tableau, Turn};
+pub use tableau::Tableau;

@@ -7,13 +7,8 @@ ghost use Rattle.bt_pivot.specs.Sums.{AreKept};
 ghost use Rattle.bt_simplex.specs.inner.Runs.{IsMade, IsRun};
 ghost use Rattle.bt_pivot.specs.TurnedSlots.{IsUnfitTurn};
 
-use crate::basis::Basis;
 use crate::bland::{Next, blands_next};
-use crate::causes::Cause;
-use crate::sum_cache::SumCache;
-use crate::tableau::{Tableau, Turn};
-use crate::turning::turn;
-use crate::workspace::{Rooms, Workspace};
+use bt_pivot::{Basis, Cause, Rooms, SumCache, Table, Turn, Workspace, turn};
 use std::alloc::{AllocError, Global};
 
 /// Where a run of turns ends.
@@ -31,7 +26,7 @@ pub enum End {
 
 /// Makes Bland's turn; or tells an operation whose result doesn't fit.
 fn make_turn(
-    tableau: &Tableau,
+    tableau: &Table,
     alloc: Global,
     basis: &mut Basis,
     rooms: &mut Rooms,
@@ -52,7 +47,7 @@ fn make_turn(
 /// Makes Bland's turns from the memory's basis on, at most so many, and adds them to the list. The basis that they
 /// lead to has the lines of the solved form, but where the run ends in the midst of a turn.
 pub fn turned_from(
-    tableau: &Tableau,
+    tableau: &Table,
     alloc: Global,
     work: &mut Workspace,
     turns: &mut Vec<Turn>,

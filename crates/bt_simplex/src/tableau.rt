@@ -10,25 +10,14 @@ ghost use Rattle.bt_pivot.specs.Points.{bound_row};
 ghost use Rattle.bt_pivot.specs.Tableaus.{AreOverColumns, IsNew, IsBoundAs, IsTableau};
 
 use crate::answers::{Check, Trail, Wide};
-use crate::basis::Basis;
-use crate::causes::Cause;
 use crate::lemmas::lemma;
-use crate::rests::{Rest, all_free};
 use crate::running::{End, turned_from};
 use crate::settling::settled;
-use crate::starting::{all_known, copied, first_basis, unbound};
 use crate::trails::{bound_rows, positions};
-use crate::workspace::Workspace;
-use bt_frac::{Relation, Row};
+use bt_frac::Row;
+use bt_pivot::{Basis, Cause, Table, Turn, Workspace};
 use std::alloc::{AllocError, Global};
 use std::marker::Model;
-
-/// One position leaves the basis, and another enters it.
-#[derive(Clone, Copy, PartialEq, Eq)]
-pub struct Turn {
-    pub leaves: usize,
-    pub enters: usize,
-}
 
 /// Rows over columns, of which some are bound, and a basis of positions with its solved form: the line of
 /// each position of the basis gives what stands there by what stands outside the basis.
@@ -37,40 +26,17 @@ pub struct Turn {
 /// the rows.
 #[derive(Drop)]
 pub struct Tableau {
-    rows: Vec<Row>,
-    columns: usize,
-    bound: Vec<bool>,
-    /// For each position where it rests; None where that isn't told by small whole numbers.
-    rests: Vec<Option<Rest>>,
-    basis: Basis,
+    table: Table,
     /// The memory of the basis before the last one, for the next check.
     spare: Workspace,
 }
 
 impl Model for Tableau {
-    ghost use Rattle.bt_pivot.specs.Tableaus.{TableauParts, IsTableau};
-    ghost use Rattle.bt_pivot.specs.inner.Rests.{AreRests};
+    ghost use Rattle.bt_pivot.specs.Tableaus.{TableauParts};
 
     ghost Value = { TableauParts };
 
-    ghost view = { λ t. record {
-      rows = t.rows.items;
-      columns = t.columns;
-      bound = t.bound.items;
-      slots = t.basis;
-    } };
-
-    ghost invariant = { λ t. IsTableau (record {
-      rows = t.rows.items;
-      columns = t.columns;
-      bound = t.bound.items;
-      slots = t.basis;
-    }) × AreRests (record {
-      rows = t.rows.items;
-      columns = t.columns;
-      bound = t.bound.items;
-      slots = t.basis;
-    }) t.rests.items };
+    ghost view = { λ t. t.table };
 }
 
 impl Tableau {
@@ -79,16 +45,8 @@ impl Tableau {
         requires { AreOverColumns columns rows.now }
         ensures { IfOk result (IsNew rows.now columns) }
     {
-        all_known(rows);
-        let bound = unbound(alloc, rows.len())?;
-        let basis = first_basis(alloc, rows, columns)?;
-        let rests = all_free(alloc, basis.len())?;
         Ok(Tableau {
-            rows: copied(alloc, rows)?,
-            columns,
-            bound,
-            rests,
-            basis,
+            table: Table::new(alloc, rows, columns)?,
             spare: Workspace::none(alloc),
         })
     }
@@ -98,9 +56,7 @@ impl Tableau {
         requires { row < length self.old.rows }
         ensures { IsBoundAs true row self.old self.new }
     {
-        self.bound[row] = true;
-        let rest = Rest::at_bound(&self.rows[row]);
-        self.rests[self.columns + row] = rest;
+        self.table.set_bound(row);
     }
 
     /// Requires the row no longer. The basis stays.
@@ -108,8 +64,7 @@ impl Tableau {
         requires { row < length self.old.rows }
         ensures { IsBoundAs false row self.old self.new }
     {
-        self.bound[row] = false;
-        self.rests[self.columns + row] = Some(Rest::free());
+        self.table.clear_bound(row);
     }
 
     /// Makes Bland's turns from the basis on, at most `pivots`, to a final one, and answers with values
@@ -135,7 +90,7 @@ impl Tableau {
         ensures same { self.new ≡ self.old }
     {
         let spare = std::mem::replace(&mut self.spare, Workspace::none(alloc));
-        spare.copy_of(alloc, &self.basis)
+        spare.copy_of(alloc, self.table.basis())
     }
 
     /// The same check on a copy of the basis, to which the turns are made.
@@ -150,7 +105,7 @@ impl Tableau {
     {
         self.all_known();
         let mut turns = Vec::new(alloc);
-        let end = turned_from(self, alloc, work, &mut turns, pivots)?;
+        let end = turned_from(&self.table, alloc, work, &mut turns, pivots)?;
         self.answer(alloc, turns, &work.basis, end)
     }
 
@@ -168,11 +123,11 @@ impl Tableau {
             → IfOk result (Concludes pivots self.now basis.now) }
     {
         match end {
-            End::Met => match settled(self, alloc, basis)? {
+            End::Met => match settled(&self.table, alloc, basis)? {
                 Ok(values) => Ok(Check::Sat(values)),
                 Err(cause) => Ok(Check::Wide(self.wide(alloc, turns, basis, cause)?)),
             },
-            End::Stuck(position) => match lemma(self, alloc, basis, position)? {
+            End::Stuck(position) => match lemma(&self.table, alloc, basis, position)? {
                 Ok(weights) => Ok(Check::Unsat(weights)),
                 Err(cause) => Ok(Check::Wide(self.wide(alloc, turns, basis, cause)?)),
             },
@@ -199,7 +154,7 @@ impl Tableau {
         ensures { self.new ≡ with_slots self.old work.basis }
     {
         let Workspace { basis, rooms, kept } = work;
-        let before = std::mem::replace(&mut self.basis, basis);
+        let before = self.table.replace_basis(basis);
         self.spare = Workspace {
             basis: before,
             rooms,
@@ -212,8 +167,8 @@ impl Tableau {
         ensures { IfOk result (λ trail. StartsAt self.now trail × (trail.turns ≡ turns)) }
     {
         Ok(Trail {
-            start: positions(alloc, &self.basis)?,
-            bound: bound_rows(alloc, &self.bound)?,
+            start: positions(alloc, self.table.basis())?,
+            bound: bound_rows(alloc, self.table.bound())?,
             turns,
         })
     }
@@ -244,14 +199,14 @@ impl Tableau {
     pub fn rows(&self) -> &[Row]
         ensures { result.now ≡ self.now.rows }
     {
-        &self.rows
+        self.table.rows()
     }
 
     /// The number of columns.
     pub fn columns(&self) -> usize
         ensures { result ≡ self.now.columns }
     {
-        self.columns
+        self.table.columns()
     }
 
     /// The row of a position, where that is a row and bound.
@@ -259,48 +214,13 @@ impl Tableau {
         ensures { MatchOption result (bound_row self.now position ≡ None)
             (λ row. bound_row self.now position ≡ Some row.now) }
     {
-        if position < self.columns {
-            return None;
-        }
-        let row = position - self.columns;
-        if !is_bound(&self.bound, row) {
-            return None;
-        }
-        self.rows.get(row)
-    }
-
-    /// Where a position rests and whether it is a bound row, where that is told by small whole numbers.
-    pub(crate) fn whole_rest(&self, position: usize) -> Option<Rest>
-        ensures { IfSome result (IsRestOf (bound_row self.now position)) }
-    {
-        if position < self.rests.len() {
-            self.rests[position]
-        } else {
-            None
-        }
-    }
-
-    /// The relation of the row of a position, where that is a row and bound.
-    pub(crate) fn bound_relation(&self, position: usize) -> Option<Relation>
-        ensures { result ≡ relation_of (bound_row self.now position) }
-    {
-        match self.whole_rest(position) {
-            Some(rest) => rest.relation,
-            None => Some(self.bound_row(position)?.relation()),
-        }
+        self.table.bound_row(position)
     }
 
     /// Tells a proof that the tableau is one. It does nothing when it runs.
     pub fn all_known(&self)
         ensures { IsTableau self.now }
     {
-        let _ = &self.rows;
+        self.table.all_known();
     }
-}
-
-/// Whether a row is bound.
-fn is_bound(bound: &[bool], row: usize) -> bool
-    ensures { result ≡ slice_index_or bound.now row false }
-{
-    row < bound.len() && bound[row]
 }

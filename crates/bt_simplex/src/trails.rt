@@ -3,7 +3,7 @@ ghost use Rattle.std.specs.Prelude.{◌≡◌, IfOk};
 ghost use Rattle.bt_pivot.specs.SolvedForms.{basis_of};
 ghost use Rattle.bt_simplex.specs.Checks.{bound_from};
 
-use crate::basis::Basis;
+use bt_pivot::Basis;
 use std::alloc::{AllocError, Global};
 
 /// The positions of the basis, in ascending order.

@@ -1,9 +1,8 @@
 -- Where the positions of a tableau rest, as whole numbers.
-use Rattle.std.specs.Prelude.{◌≡◌, ℕ, ◌+◌, pos, List, length, Option, Some, None, IfSome, slice_index_or}
+use Rattle.std.specs.Prelude.{◌≡◌, ◌+◌, pos, List, length, Option, None, IfSome, slice_index_or}
 use Rattle.bt_frac.specs.Rows.{RowParts}
 use Rattle.bt_frac.specs.declared.delta.Delta.{Delta}
-use Rattle.bt_frac.specs.declared.row.Relation.{Relation}
-use Rattle.bt_pivot.specs.Points.{bound_row, value_or_zero}
+use Rattle.bt_pivot.specs.Points.{bound_row, value_or_zero, relation_of}
 use Rattle.bt_pivot.specs.Tableaus.{TableauParts}
 use Rattle.bt_pivot.specs.declared.rests.Rest.{Rest}
 

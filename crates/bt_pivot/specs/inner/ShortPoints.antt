@@ -1,16 +1,12 @@
 -- Sums of terms of short lines, where their positions rest.
-use Rattle.std.specs.Prelude.{◌≡◌, ◌<◌, ◌^◌, ◌⊎◌, ◌↔◌, Some, ℤ, ◌+ℤ◌, ◌*ℤ◌, Bool, IsTrue}
+use Rattle.std.specs.Prelude.{◌≡◌, ◌<◌, ◌^◌, ◌⊎◌, ◌↔◌, ◌+ℤ◌, ◌*ℤ◌, Bool, IsTrue}
 use Rattle.bt_frac.specs.Ratio.{Ratio, IsLess}
 use Rattle.bt_frac.specs.Rows.{RowParts}
 use Rattle.bt_frac.specs.declared.delta.Delta.{Delta}
 use Rattle.bt_frac.specs.declared.row.Relation.{Relation}
 use Rattle.bt_frac.specs.declared.row.Relation.TheVariants.{Equal}
-use Rattle.bt_pivot.specs.Points.{tiny_of, bound_value, resting, standing, Breaks, IsSamePoint, signed_point}
-use Rattle.bt_line.specs.Lines.{Terms}
-use Rattle.bt_pivot.specs.SolvedForms.{Slots, slot_at}
-use Rattle.bt_pivot.specs.Tableaus.{TableauParts}
+use Rattle.bt_pivot.specs.Points.{tiny_of, bound_value, Breaks, IsSamePoint, signed_point}
 use Rattle.bt_pivot.specs.declared.short_points.Sums.{Sums}
-use Rattle.bt_pivot.specs.declared.short_points.ClassSums.{ClassSums}
 
 -- the sums with the products of a whole number and where its position rests, which are whole numbers
 pub record AddsWhole (rest : Delta) (sums : Sums) (over : ℤ) (next : Sums) : Type 0 where

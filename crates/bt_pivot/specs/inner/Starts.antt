@@ -1,5 +1,5 @@
 -- The lines of the first basis.
-use Rattle.std.specs.Prelude.{ℕ, List, [], ◌∷◌, ◌++◌, replicate, map, Some, None, if◌then◌else◌, ◌==◌, unsigned_abs}
+use Rattle.std.specs.Prelude.{List, ◌∷◌, ◌++◌, replicate, map, Some, None, if◌then◌else◌, ◌==◌, unsigned_abs}
 use Rattle.bt_frac.specs.Rows.{RowParts}
 use Rattle.bt_line.specs.Lines.{Terms}
 use Rattle.bt_pivot.specs.SolvedForms.{Slots}

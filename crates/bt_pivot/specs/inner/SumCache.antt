@@ -1,5 +1,5 @@
 -- The sums of classes' lines that are kept from turn to turn.
-use Rattle.std.specs.Prelude.{◌≡◌, ◌≢◌, ◌⊎◌, ℕ, ◌<◌, ◌^◌, false, List, length, Option, Some, None, IfSome, slice_index_or}
+use Rattle.std.specs.Prelude.{◌≡◌, ◌≢◌, ◌⊎◌, ◌<◌, ◌^◌, false, List, length, Option, Some, None, IfSome, slice_index_or}
 use Rattle.bt_pivot.specs.Classes.{member_at}
 use Rattle.bt_line.specs.Lines.{Terms}
 use Rattle.bt_pivot.specs.Points.{resting, standing, IsSamePoint}
@@ -10,7 +10,7 @@ use Rattle.bt_line.specs.declared.short.merging.Scales.{Scales}
 use Rattle.bt_pivot.specs.declared.short_points.ClassSums.{ClassSums}
 use Rattle.bt_pivot.specs.declared.short_points.Sums.{Sums}
 use Rattle.bt_pivot.specs.inner.Carrying.{IsCarriedOf}
-use Rattle.bt_pivot.specs.Sums.{AreClassSums, delta_of}
+use Rattle.bt_pivot.specs.Sums.{delta_of, SumsList}
 
 -- the sums of this line of a first position
 pub record IsFormed (t : TableauParts) (first : ℕ) (terms : Terms) (sums : ClassSums) : Type 0 where

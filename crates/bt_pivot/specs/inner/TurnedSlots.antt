@@ -1,9 +1,7 @@
 -- A turn of a basis, slot by slot.
-use Rattle.std.specs.Prelude.{◌≡◌, ◌≢◌, ℕ, Bool, length, Some, None, slice_set, ◌==◌, if◌then◌else◌}
-use Rattle.bt_frac.specs.Ratio.{Ratio}
-use Rattle.bt_lin.specs.WeightedRows.{coefficient_at}
-use Rattle.bt_line.specs.Lines.{Terms, IsLine, signed_terms}
-use Rattle.bt_line.specs.Substituting.{IsZeroLine, IsSubstituted, IsEntering}
+use Rattle.std.specs.Prelude.{◌≡◌, ◌≢◌, Bool, length, Some, slice_set, ◌==◌, if◌then◌else◌}
+use Rattle.bt_line.specs.Lines.{Terms, signed_terms}
+use Rattle.bt_line.specs.Substituting.{IsSubstituted, IsEntering}
 use Rattle.bt_pivot.specs.SolvedForms.{Slots, slot_at}
 
 -- in every slot the line lacks the position, or its number there times the zero line is added to it

@@ -1,11 +1,10 @@
 -- Operations of a turn whose results leave 128 bits.
-use Rattle.std.specs.Prelude.{◌≡◌, ◌≢◌, ℕ, length, Option, Some, None}
+use Rattle.std.specs.Prelude.{◌≡◌, ◌≢◌, length, Option, Some, None}
 use Rattle.bt_frac.specs.Ratio.{Ratio, negated}
 use Rattle.bt_lin.specs.WeightedRows.{coefficient_at}
 use Rattle.bt_line.specs.Lines.{Terms, IsLine}
-use Rattle.bt_pivot.specs.SolvedForms.{Slots, slot_at, basis_of}
-use Rattle.bt_line.specs.Unfits.{IsNone, IsUnfit, IsUnfitZero}
-use Rattle.bt_pivot.specs.Entries.{IsEntryStep}
+use Rattle.bt_pivot.specs.SolvedForms.{Slots, slot_at}
+use Rattle.bt_line.specs.Unfits.{IsUnfit, IsUnfitZero}
 use Rattle.bt_line.specs.declared.unfit.Operation.{Operation}
 use Rattle.bt_line.specs.declared.unfit.Operation.TheVariants.{Add, Mul, Div}
 use Rattle.bt_pivot.specs.declared.causes.WidePlace.TheVariants.{Entry}

@@ -1,5 +1,5 @@
 -- The answers of a check, by the slots to which its turns lead.
-use Rattle.std.specs.Prelude.{◌≡◌, ℕ, List}
+use Rattle.std.specs.Prelude.{◌≡◌, List}
 use Rattle.bt_pivot.specs.SolvedForms.{Slots, basis_of}
 use Rattle.bt_pivot.specs.Tableaus.{TableauParts, IsTableau, with_slots}
 use Rattle.bt_simplex.specs.Checks.{StartsAt, IsCheck, cause_of}

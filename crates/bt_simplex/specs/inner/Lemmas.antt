@@ -1,5 +1,5 @@
 -- Weights as they are read off the failing position's line.
-use Rattle.std.specs.Prelude.{◌≡◌, ◌↔◌, ℕ, ◌-◌, List, [], ◌∷◌, map, Bool, IsTrue, Some, if◌then◌else◌}
+use Rattle.std.specs.Prelude.{◌≡◌, ◌↔◌, ◌-◌, List, ◌∷◌, map, Bool, IsTrue, Some, if◌then◌else◌}
 use Rattle.bt_frac.specs.Ratio.{Ratio, negated}
 use Rattle.bt_line.specs.Lines.{one, Terms, IsLine, IsCombination}
 use Rattle.bt_pivot.specs.SolvedForms.{slot_at}

@@ -1,5 +1,5 @@
 -- Runs of Bland's turns from a basis on.
-use Rattle.std.specs.Prelude.{◌≡◌, ℕ, ◌≤◌, List, Some, length}
+use Rattle.std.specs.Prelude.{◌≡◌, ◌≤◌, List, Some, length}
 use Rattle.bt_frac.specs.Ratio.{Ratio}
 use Rattle.bt_lin.specs.WeightedRows.{coefficient_at}
 use Rattle.bt_line.specs.Lines.{Terms}

@@ -1,5 +1,5 @@
 -- Operations of sums of weighted rows whose results leave 128 bits.
-use Rattle.std.specs.Prelude.{◌≡◌, ℕ, List}
+use Rattle.std.specs.Prelude.{◌≡◌, List}
 use Rattle.bt_frac.specs.Ratio.{Ratio}
 use Rattle.bt_frac.specs.Rows.{RowParts}
 use Rattle.bt_lin.specs.WeightedRows.{number_of}

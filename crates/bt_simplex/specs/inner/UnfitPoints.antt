@@ -1,5 +1,5 @@
 -- Points, part by part, and operations of them whose results leave 128 bits.
-use Rattle.std.specs.Prelude.{◌≡◌, ◌⊎◌, ℕ, Some}
+use Rattle.std.specs.Prelude.{◌≡◌, ◌⊎◌, Some}
 use Rattle.bt_frac.specs.Ratio.{Ratio, IsLowest, IsSum, CanAdd}
 use Rattle.bt_frac.specs.Products.{IsProduct}
 use Rattle.bt_frac.specs.declared.delta.Delta.{Delta}

@@ -1,4 +1,4 @@
-use Rattle.std.proofs.Common.{◌≡◌, ℤ, pos, ◌*ℤ◌, Less, Equal, Greater, ap, refl, rules, sym, ◌∙◌, subst, FitsSigned, w64}
+use Rattle.std.proofs.Common.{◌≡◌, pos, ◌*ℤ◌, Less, Equal, Greater, ap, refl, rules, sym, ◌∙◌, subst, FitsSigned, w64}
 use Rattle.std.specs.Int.{w32}
 use Rattle.bt_frac.proofs.Ring.{products}
 use Rattle.std.proofs.lemmas.Cmp.{int_ranked}

@@ -1,4 +1,4 @@
-use Rattle.std.proofs.Common.{ℤ, pos, ◌≡◌, ◌*ℤ◌, ◌<ℤ◌, Less, Equal, Greater, ap, rules, sym, ◌∙◌, subst, FitsSigned, w64}
+use Rattle.std.proofs.Common.{pos, ◌≡◌, ◌*ℤ◌, ◌<ℤ◌, Less, Equal, Greater, ap, rules, sym, ◌∙◌, subst, FitsSigned, w64}
 use Rattle.std.specs.Cmp.{int_ranks}
 use Rattle.std.specs.Int.{w32}
 use Rattle.std.specs.Ordering.{MatchOrdering}

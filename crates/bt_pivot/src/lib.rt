@@ -1,0 +1,24 @@
+//! Rows over columns with a basis and its solved form: its turns, the sums of its lines that are kept from turn to turn,
+//! and where its positions stand to their bounds.
+#![tactic(auto)]
+
+mod basis;
+mod causes;
+mod rests;
+mod short_points;
+mod starting;
+mod sum_cache;
+mod table;
+mod turning;
+mod whole;
+mod workspace;
+
+pub use basis::{Basis, Place};
+pub use causes::{Cause, WidePlace};
+pub use short_points::short_point;
+pub use starting::are_over;
+pub use sum_cache::SumCache;
+pub use table::Table;
+pub use turning::{Turn, turn};
+pub use whole::{fails_whole, whole_order};
+pub use workspace::{Rooms, Workspace};
