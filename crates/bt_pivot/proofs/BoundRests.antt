@@ -1,5 +1,5 @@
 -- Whether a position is a bound row, told by where it rests.
-use Rattle.std.proofs.Common.{◌≡◌, ◌≢◌, ◌↔◌, Option, Some, None, sym, ◌∙◌, refl}
+use Rattle.std.proofs.Common.{◌≡◌, Option, Some, None, sym, ◌∙◌, refl}
 use Rattle.bt_frac.specs.Rows.{RowParts}
 use Rattle.bt_frac.specs.declared.row.Relation.{Relation}
 use Rattle.bt_pivot.specs.Points.{bound_value, relation_of}

@@ -1,23 +1,23 @@
--- The sums of a line that a turn changes, by those before it and those of the zero line.
-use Rattle.std.proofs.Common.{◌≡◌, ◌*◌, ◌<◌, ◌^◌, arith, pos, ◌+ℤ◌, ◌*ℤ◌, Option, Some, ap, sym, ◌∙◌, refl, subst}
+-- The sums of a line that a pivot changes, by those before it and those of the zero line.
+use Rattle.std.proofs.Common.{◌≡◌, ◌*◌, ◌<◌, ◌^◌, arith, pos, ◌+ℤ◌, ◌*ℤ◌, Option, Some, ap, sym, ◌∙◌, refl, subst, ℕ, ℤ}
 use Rattle.std.specs.List.{All}
 use Rattle.bt_frac.specs.Ratio.{Ratio, SameRatio}
 use Rattle.bt_frac.specs.Values.{AreValues, plus, times}
 use Rattle.bt_frac.proofs.Over.{over_scaled}
 use Rattle.bt_frac.proofs.Ring.{turn_last}
-use Rattle.bt_line.specs.Lines.{Terms, HasNumber, IsLine, IsCombination, total}
+use Rattle.bt_linear.specs.Lines.{Terms, HasNumber, IsLine, IsCombination, total}
 use Rattle.bt_pivot.specs.Points.{resting, standing, IsSamePoint}
 use Rattle.bt_pivot.specs.Tableaus.{TableauParts, IsTableau}
 use Rattle.bt_pivot.specs.declared.short_points.Sums.{Sums}
-use Rattle.bt_line.specs.Shorts.{reduced, AreScales}
+use Rattle.bt_linear.specs.Shorts.{reduced, AreScales}
 use Rattle.bt_pivot.specs.Sums.{delta_of}
 use Rattle.bt_pivot.specs.inner.Carrying.{AreCarried}
-use Rattle.bt_line.specs.Changes.{IsScaled}
-use Rattle.bt_line.specs.declared.short.merging.Scales.{Scales}
-use Rattle.bt_line.proofs.Numbers.{Alike, alike, back, next, both_plus, both_times, plus_positive, times_positive}
+use Rattle.bt_linear.specs.Changes.{IsScaled}
+use Rattle.bt_linear.specs.declared.short.merging.Scales.{Scales}
+use Rattle.bt_linear.proofs.Numbers.{Alike, alike, back, next, both_plus, both_times, plus_positive, times_positive}
 use Rattle.bt_pivot.proofs.Resting.{rest_value, rest_tiny}
-use Rattle.bt_line.proofs.ShortWalks.{whole_over, reduced_alike, factor_lowest, added_parts}
-use Rattle.bt_line.proofs.Zeros.{combined_alike}
+use Rattle.bt_linear.proofs.ShortWalks.{whole_over, reduced_alike, factor_lowest, added_parts}
+use Rattle.bt_linear.proofs.Zeros.{combined_alike}
 
 module _ (lu : ℕ) (k : ℤ) (ru : ℕ) (m r : ℤ) (u : ℕ) (s : AreScales lu k ru m r u) where
   -- a number over a line's denominator and its factor times another
@@ -45,7 +45,7 @@ module _ (lu : ℕ) (k : ℤ) (ru : ℕ) (m r : ℤ) (u : ℕ) (s : AreScales lu
       wide : (n : ℕ) → n < 2 ^ 31 → n < 2 ^ 127
       wide n h = omega arith
 
--- the sums that are carried are those of the line after a turn
+-- the sums that are carried are those of the line after a pivot
 pub carried_point : (t : TableauParts) → IsTableau t → (zero : Terms) (slot slot' : Option Terms) (scales : Scales) (is : IsScaled zero slot slot' scales) (before other after : Sums) → AreCarried scales before other after
     → IsSamePoint (delta_of other) (standing (resting t) 0 (Some zero)) → IsSamePoint (delta_of before) (standing (resting t) 0 (Some is.terms))
     → IsSamePoint (delta_of after) (standing (resting t) 0 (Some is.terms_after))

@@ -1,25 +1,25 @@
--- The slots of classes' members, and how a turn changes them.
-use Rattle.std.proofs.Common.{◌≡◌, ◌≢◌, zero, suc, ◌+◌, ◌-◌, ◌^◌, ◌<◌, ◌≤◌, arith, Bool, true, false, if◌then◌else◌, ◌==◌, List, ◌∷◌, ◌++◌, length, set, length-set, get_or, Option, Some, None, ap, sym, ◌∙◌, refl, subst, inl, inr}
+-- The slots of classes' members, and how a pivot changes them.
+use Rattle.std.proofs.Common.{◌≡◌, ◌≢◌, zero, suc, ◌+◌, ◌-◌, ◌^◌, ◌<◌, ◌≤◌, arith, Bool, true, false, if◌then◌else◌, ◌==◌, List, ◌∷◌, ◌++◌, length, set, length-set, get_or, Option, Some, None, ap, sym, ◌∙◌, refl, subst, inl, inr, ℕ}
 use Rattle.std.proofs.lemmas.Bool.{cases_lt}
 use Rattle.std.proofs.lemmas.Bool.Decides.{nat_tests}
 use Rattle.std.proofs.lemmas.List.{get_or_default, get_or_past, get_or-set_same, get_or-set_other}
 use Rattle.std.proofs.lemmas.List.Elements.{All-cons, All-nil}
 use Rattle.bt_frac.specs.Ratio.{Ratio, negated}
 use Rattle.bt_lin.specs.WeightedRows.{coefficient_at}
-use Rattle.bt_line.specs.Lines.{one, Terms, HasNumber, signed_terms}
+use Rattle.bt_linear.specs.Lines.{one, Terms, HasNumber, signed_terms}
 use Rattle.bt_pivot.specs.Classes.{differ, member_at, position_at, class_terms, slot_by, slot_of, slots_from, slots_of, AreClasses}
 use Rattle.bt_pivot.specs.SolvedForms.{Slots, slot_at}
 use Rattle.bt_pivot.specs.declared.basis.Member.{Member}
 use Rattle.bt_pivot.specs.declared.causes.Cause.{Cause}
-use Rattle.bt_pivot.specs.TurnedSlots.{AreLines, IsTurned, IsUnfitTurn}
-use Rattle.bt_pivot.specs.inner.TurnedSlots.{AreSubstituted, with_line}
-use Rattle.bt_line.specs.Substituting.{IsSubstituted, IsEntering}
-use Rattle.bt_pivot.specs.inner.UnfitTurns.{AreAlike, IsSlotZero, IsUnfitLine, entry_cause}
-use Rattle.bt_line.proofs.NamedTerms.{number_later}
-use Rattle.bt_line.proofs.Indicators.{decide}
-use Rattle.bt_line.proofs.SignedLines.{negated_back, substituted_signed, leaving_substituted, entering_substituted, substituted_entering}
-use Rattle.bt_pivot.proofs.UnfitTurns.{basis_same, slot_unfit}
-use Rattle.bt_line.proofs.Zeros.{one_number}
+use Rattle.bt_pivot.specs.PivotedSlots.{AreLines, IsPivoted, IsUnfitPivot}
+use Rattle.bt_pivot.specs.inner.PivotedSlots.{AreSubstituted, with_line}
+use Rattle.bt_linear.specs.Substituting.{IsSubstituted, IsEntering}
+use Rattle.bt_pivot.specs.inner.UnfitPivots.{AreAlike, IsSlotZero, IsUnfitLine, entry_cause}
+use Rattle.bt_linear.proofs.NamedTerms.{number_later}
+use Rattle.bt_linear.proofs.Indicators.{decide}
+use Rattle.bt_linear.proofs.SignedLines.{negated_back, substituted_signed, leaving_substituted, entering_substituted, substituted_entering}
+use Rattle.bt_pivot.proofs.UnfitPivots.{basis_same, slot_unfit}
+use Rattle.bt_linear.proofs.Zeros.{one_number}
 
 pub signed_signed : (a b : Bool) (terms : Terms) → signed_terms a (signed_terms b terms) ≡ signed_terms (differ a b) terms
 signed_signed false b terms = refl
@@ -390,8 +390,8 @@ module _ (members : List Member) (firsts : List ℕ) (lines : Slots) (outside : 
         both_ways true false = refl
         both_ways true true = refl
 
-    pub classes_turned : IsTurned (slots_of members lines outside) leaves enters (slots_of members lines'' (set outside (member_at members leaves).class leaves))
-    classes_turned = record {
+    pub classes_pivoted : IsPivoted (slots_of members lines outside) leaves enters (slots_of members lines'' (set outside (member_at members leaves).class leaves))
+    classes_pivoted = record {
       same_length = slots_length (slot_of members lines'' outside') 0 members ∙ sym (slots_length (slot_of members lines outside) 0 members);
       terms = zero_is.terms;
       leaving = zero_is.slot_is;
@@ -418,7 +418,7 @@ module _ (members : List Member) (firsts : List ℕ) (lines : Slots) (outside : 
         count : length lines' ≡ length firsts
         count = are_changed.same_length ∙ length-set lines left None ∙ are.lines_many
 
-  -- the classes after a turn
+  -- the classes after a pivot
   pub classes_after : (lines' : Slots) (leaves : ℕ) → length lines' ≡ length firsts → leaves < length members → AreClasses members firsts lines' (set outside (member_at members leaves).class leaves)
   classes_after lines' leaves count leaves_in = record {
     lines_many = count;
@@ -443,14 +443,14 @@ module _ (members : List Member) (firsts : List ℕ) (lines : Slots) (outside : 
   pub classes_unfit : (leaves enters : ℕ) (nil : Terms) (lines' : Slots) (cause : Cause) → leaves < length members → leaves ≢ enters
       → IsSlotZero (slot_at (slots_of members lines outside) leaves) leaves enters nil → IsUnfitLine (member_at members leaves).class enters nil lines lines' cause
       → (cause' : Cause) → cause' ≡ record cause { row = position_at firsts cause.row }
-      → IsUnfitTurn (slots_of members lines outside) leaves enters (slots_of members lines' outside) cause'
+      → IsUnfitPivot (slots_of members lines outside) leaves enters (slots_of members lines' outside) cause'
   classes_unfit leaves enters nil lines' cause leaves_in apart zero_is unfit cause' is =
       let row : ℕ = position_at firsts cause.row in
       let made =
       slot_unfit (slots_of members lines outside) leaves enters zero_is.terms zero_is.number nil row unfit.terms unfit.number unfit.unfit zero_is.slot_is zero_is.named zero_is.is_zero apart zero_is.is_line zero_is.lacks
       other (first_slot cause.row unfit.terms unfit.line) unfit.named unfit.is_unfit in
       let whole : cause' ≡ entry_cause row unfit.unfit = is ∙ ap (λ (c : Cause). record c { row = row }) unfit.cause_is in
-      subst (λ (c : Cause). IsUnfitTurn (slots_of members lines outside) leaves enters (slots_of members lines' outside) c) (sym whole)
+      subst (λ (c : Cause). IsUnfitPivot (slots_of members lines outside) leaves enters (slots_of members lines' outside) c) (sym whole)
       (record {
         same_basis = basis_same 0 (slots_of members lines' outside) (slots_of members lines outside) (record {
           same_length = slots_length (slot_of members lines' outside) 0 members ∙ sym (slots_length (slot_of members lines outside) 0 members);

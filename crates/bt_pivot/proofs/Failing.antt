@@ -1,5 +1,5 @@
 -- The same point fails alike.
-use Rattle.std.proofs.Common.{◌≡◌, ◌-◌, ◌<◌, ◌≤◌, arith, nat_lt, true, false, if◌then◌else◌, get_or, pos, ◌*ℤ◌, ◌<ℤ◌, ◌↔◌, length, Option, Some, None, ap, sym, ◌∙◌, subst, inl, inr}
+use Rattle.std.proofs.Common.{◌≡◌, ◌-◌, ◌<◌, ◌≤◌, arith, nat_lt, true, false, if◌then◌else◌, get_or, pos, ◌*ℤ◌, ◌<ℤ◌, ◌↔◌, length, Option, Some, None, ap, sym, ◌∙◌, subst, inl, inr, ℕ}
 use Rattle.std.proofs.lemmas.Bool.Decides.{nat_tests}
 use Rattle.std.proofs.lemmas.List.{get_or_past}
 use Rattle.bt_frac.specs.Ratio.{Ratio, SameRatio, IsLess}
@@ -11,11 +11,11 @@ use Rattle.bt_frac.proofs.Order.{mul_lt, lt_from_mul}
 use Rattle.bt_frac.proofs.Ring.{turn_last}
 use Rattle.bt_lin.proofs.SameNumbers.{same_trans, stands_same}
 use Rattle.bt_lin.specs.WeightedRows.{empty_row}
-use Rattle.bt_line.specs.Lines.{Terms}
+use Rattle.bt_linear.specs.Lines.{Terms}
 use Rattle.bt_pivot.specs.SolvedForms.{slot_at, InBasis}
 use Rattle.bt_pivot.specs.Tableaus.{TableauParts}
 use Rattle.bt_pivot.specs.Points.{bound_row, bound_value, resting, standing, point_at, Breaks, Fails, IsSamePoint}
-use Rattle.bt_line.proofs.Numbers.{Positive}
+use Rattle.bt_linear.proofs.Numbers.{Positive}
 
 pub less_right : (a b x : Ratio) → Positive a → Positive b → SameRatio a b → IsLess x a → IsLess x b
 less_right a b x p q e h = (stands_same Above x a b p q e).0 h

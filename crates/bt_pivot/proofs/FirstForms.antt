@@ -1,5 +1,5 @@
 -- The first basis, of the rows, has their terms as its solved form.
-use Rattle.std.proofs.Common.{◌≡◌, zero, suc, ◌+◌, ◌-◌, ◌<◌, ◌≤◌, arith, Bool, true, false, if◌then◌else◌, nat_lt, List, ◌∷◌, ◌++◌, length, replicate, map, get_or, Some, None, ap, sym, ◌∙◌, refl, subst, inl, inr}
+use Rattle.std.proofs.Common.{◌≡◌, zero, suc, ◌+◌, ◌-◌, ◌<◌, ◌≤◌, arith, Bool, true, false, if◌then◌else◌, nat_lt, List, ◌∷◌, ◌++◌, length, replicate, map, get_or, Some, None, ap, sym, ◌∙◌, refl, subst, inl, inr, ℕ}
 use Rattle.std.specs.List.{All}
 use Rattle.std.proofs.lemmas.Bool.{cases_lt}
 use Rattle.std.proofs.lemmas.Bool.Decides.{nat_tests}
@@ -7,14 +7,14 @@ use Rattle.bt_frac.specs.Ratio.{Ratio, SameRatio}
 use Rattle.bt_frac.specs.Rows.{RowParts, IsRow}
 use Rattle.bt_frac.specs.Values.{AreValues}
 use Rattle.bt_lin.specs.WeightedRows.{empty_row}
-use Rattle.bt_line.specs.Lines.{Terms, IsLine, total}
+use Rattle.bt_linear.specs.Lines.{Terms, IsLine, total}
 use Rattle.bt_pivot.specs.SolvedForms.{Slots, slot_at, basis_from, basis_of, at_position, IsOutside, IsSolvedForm}
 use Rattle.bt_pivot.specs.Tableaus.{AreOverColumns, IsTableau, IsNew, positions_from}
 use Rattle.bt_pivot.specs.inner.Starts.{kept, start_slots}
 use Rattle.bt_pivot.proofs.FirstLines.{kept_line, kept_total, kept_over}
-use Rattle.bt_line.proofs.Numbers.{Alike, itself, back, next}
+use Rattle.bt_linear.proofs.Numbers.{Alike, itself, back, next}
 use Rattle.bt_pivot.proofs.Standing.{stands_some}
-use Rattle.bt_line.proofs.Zeros.{total_along}
+use Rattle.bt_linear.proofs.Zeros.{total_along}
 
 slot_low : (columns p : ℕ) (more : Slots) → p < columns → slot_at (replicate columns None ++ more) p ≡ None
 slot_low zero p more h = absurd (omega arith)

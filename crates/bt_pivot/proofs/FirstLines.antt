@@ -1,5 +1,5 @@
 -- The first basis has a solved form.
-use Rattle.std.proofs.Common.{◌≡◌, ◌≢◌, ◌+◌, arith, pos, ◌*ℤ◌, unsigned_abs, Bool, true, false, if◌then◌else◌, ◌==◌, ◌∷◌, ap, ◌∙◌, refl}
+use Rattle.std.proofs.Common.{◌≡◌, ◌≢◌, ◌+◌, arith, pos, ◌*ℤ◌, unsigned_abs, Bool, true, false, if◌then◌else◌, ◌==◌, ◌∷◌, ap, ◌∙◌, refl, ℕ, ℤ}
 use Rattle.std.specs.List.{All}
 use Rattle.std.proofs.lemmas.Int.{ints}
 use Rattle.std.proofs.lemmas.Bool.Decides.{nat_tests}
@@ -8,10 +8,10 @@ use Rattle.bt_frac.specs.Ratio.{Ratio, IsLowest}
 use Rattle.bt_frac.specs.Columns.{AreColumnsFrom}
 use Rattle.bt_frac.specs.Rows.{columns_of}
 use Rattle.bt_frac.specs.Values.{AreValues, nothing, plus, times}
-use Rattle.bt_line.specs.Lines.{Terms, HasNumber, IsLineFrom, total}
+use Rattle.bt_linear.specs.Lines.{Terms, HasNumber, IsLineFrom, total}
 use Rattle.bt_pivot.specs.inner.Starts.{kept}
-use Rattle.bt_line.proofs.Numbers.{Alike, itself, back, next, both_plus, drop_zero, times_positive, swap_times}
-use Rattle.bt_line.proofs.Walks.{starts_before}
+use Rattle.bt_linear.proofs.Numbers.{Alike, itself, back, next, both_plus, drop_zero, times_positive, swap_times}
+use Rattle.bt_linear.proofs.Walks.{starts_before}
 
 none_size : (z : ℤ) → unsigned_abs z ≡ 0 → z ≡ pos 0
 none_size z e = grind (arith, ints)

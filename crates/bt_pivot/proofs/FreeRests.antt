@@ -1,5 +1,5 @@
 -- Where positions rest while no row is bound.
-use Rattle.std.proofs.Common.{◌≡◌, ◌-◌, ◌≤◌, Bool, true, false, nat_lt, if◌then◌else◌, List, length, replicate, get_or, Option, Some, None, IfSome, ap, sym, ◌∙◌, refl, subst, inl, inr}
+use Rattle.std.proofs.Common.{◌≡◌, ◌-◌, ◌≤◌, Bool, true, false, nat_lt, if◌then◌else◌, List, length, replicate, get_or, Option, Some, None, IfSome, ap, sym, ◌∙◌, refl, subst, inl, inr, ℕ}
 use Rattle.std.proofs.lemmas.Bool.{cases_lt}
 use Rattle.std.proofs.lemmas.List.{get_or-replicate, get_or_past, length-replicate}
 use Rattle.bt_frac.specs.Rows.{RowParts}

@@ -1,20 +1,20 @@
--- What is kept of the sums of classes' lines, and what a turn leaves of it.
-use Rattle.std.proofs.Common.{◌≡◌, ◌≢◌, ◌⊎◌, ◌^◌, false, if◌then◌else◌, zero, suc, ◌+◌, ◌<◌, ◌≤◌, arith, List, length, set, get_or, replicate, Option, Some, None, Result, Ok, Err, IfOk, IfSome, inl, inr, ap, sym, ◌∙◌, refl, subst}
+-- What is kept of the sums of classes' lines, and what a pivot leaves of it.
+use Rattle.std.proofs.Common.{◌≡◌, ◌≢◌, ◌⊎◌, ◌^◌, false, if◌then◌else◌, zero, suc, ◌+◌, ◌<◌, ◌≤◌, arith, List, length, set, get_or, replicate, Option, Some, None, Result, Ok, Err, IfOk, IfSome, inl, inr, ap, sym, ◌∙◌, refl, subst, ℕ}
 use Rattle.std.proofs.lemmas.Bool.{cases_lt}
 use Rattle.std.proofs.lemmas.List.{get_or_past, get_or-set_other, get_or-set_same}
 use Rattle.bt_pivot.specs.Classes.{member_at, position_at, class_terms, is_outside, slot_by, slots_of}
 use Rattle.bt_pivot.specs.SolvedForms.{Slots, slot_at}
-use Rattle.bt_line.specs.Lines.{Terms}
+use Rattle.bt_linear.specs.Lines.{Terms}
 use Rattle.bt_pivot.specs.Tableaus.{TableauParts, IsTableau}
 use Rattle.std.specs.declared.alloc.AllocError.{AllocError}
 use Rattle.bt_pivot.specs.declared.basis.Member.{Member}
 use Rattle.bt_pivot.specs.declared.causes.Cause.{Cause}
 use Rattle.bt_pivot.specs.declared.short_points.ClassSums.{ClassSums}
-use Rattle.bt_line.specs.declared.short.merging.Scales.{Scales}
+use Rattle.bt_linear.specs.declared.short.merging.Scales.{Scales}
 use Rattle.bt_pivot.specs.declared.short_points.Sums.{Sums}
 use Rattle.bt_pivot.specs.Points.{resting, standing, IsSamePoint}
 use Rattle.bt_pivot.specs.inner.Carrying.{AreCarried, IsCarriedOf}
-use Rattle.bt_line.specs.Changes.{IsScaled}
+use Rattle.bt_linear.specs.Changes.{IsScaled}
 use Rattle.bt_pivot.specs.Sums.{AreClassSums, delta_of, SumsList, AreKept, SlotsStay}
 use Rattle.bt_pivot.specs.inner.SumCache.{Carries, Forgets, IsOwn, OwnsAt, AreOwn, AreMoved, AreFollowed, LinesStay, OthersStay}
 use Rattle.bt_pivot.proofs.Carrying.{carried_fits, carried_point}
@@ -266,9 +266,9 @@ slots_stay t members lines lines' lines'' outside left leaves kept0 kept1 kept2 
         let one = first two.0 two.1 in
         told two.0 k one.1 two.2 (at_first two.0 one.0) (then_follows t (slot_at lines class) (slot_at lines' class) (slot_at lines'' class) two.0 before k two.3 follows)
 
--- what is kept is right after a turn, where it is made
-pub turn_kept : (t : TableauParts) (slots slots' : Slots) (kept kept' : SumsList) → AreKept t slots kept → (r : Result (Result (Unit {0}) Cause) AllocError) → IfOk r (λ o. IfOk o (λ d. SlotsStay t slots slots' kept kept'))
+-- what is kept is right after a pivot, where it is made
+pub pivot_kept : (t : TableauParts) (slots slots' : Slots) (kept kept' : SumsList) → AreKept t slots kept → (r : Result (Result (Unit {0}) Cause) AllocError) → IfOk r (λ o. IfOk o (λ d. SlotsStay t slots slots' kept kept'))
     → IfOk r (λ o. IfOk o (λ d. AreKept t slots' kept'))
-turn_kept t slots slots' kept kept' are (Err e) stay = tt
-turn_kept t slots slots' kept kept' are (Ok (Err cause)) stay = tt
-turn_kept t slots slots' kept kept' are (Ok (Ok d)) stay = stay are
+pivot_kept t slots slots' kept kept' are (Err e) stay = tt
+pivot_kept t slots slots' kept kept' are (Ok (Err cause)) stay = tt
+pivot_kept t slots slots' kept kept' are (Ok (Ok d)) stay = stay are

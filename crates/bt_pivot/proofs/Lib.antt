@@ -14,5 +14,5 @@ pub mod Resting
 pub mod ShortPoints
 pub mod Standing
 pub mod Substitutions
-pub mod Turned
-pub mod UnfitTurns
+pub mod Pivoted
+pub mod UnfitPivots

@@ -1,11 +1,11 @@
--- Terms that name a position, and what a turn makes of them.
-use Rattle.std.proofs.Common.{◌≡◌, Option, Some, None, IfSome, ◌∙◌, sym, subst}
+-- Terms that name a position, and what a pivot makes of them.
+use Rattle.std.proofs.Common.{◌≡◌, Option, Some, None, IfSome, ◌∙◌, sym, subst, ℕ}
 use Rattle.bt_frac.specs.Ratio.{Ratio}
 use Rattle.bt_lin.specs.WeightedRows.{coefficient_at}
-use Rattle.bt_line.specs.Lines.{Terms, IsLine}
-use Rattle.bt_line.specs.Substituting.{IsZeroLine}
-use Rattle.bt_pivot.specs.TurnedSlots.{CanPart}
-use Rattle.bt_pivot.specs.inner.UnfitTurns.{IsSlotZero}
+use Rattle.bt_linear.specs.Lines.{Terms, IsLine}
+use Rattle.bt_linear.specs.Substituting.{IsZeroLine}
+use Rattle.bt_pivot.specs.PivotedSlots.{CanPart}
+use Rattle.bt_pivot.specs.inner.UnfitPivots.{IsSlotZero}
 
 -- the zero line of a slot
 pub slot_zero_told : (slot : Option Terms) (leaves enters : ℕ) (terms : Terms) (made : Option Terms) (zero : Terms) → CanPart slot leaves enters → slot ≡ Some terms → IsLine terms → made ≡ Some zero

@@ -1,5 +1,5 @@
 -- What lines add up to where their positions rest.
-use Rattle.std.proofs.Common.{◌≡◌, ◌+◌, ◌-◌, ◌<◌, arith, Bool, true, false, if◌then◌else◌, nat_lt, zero, suc, get_or, take, List, ◌∷◌, ◌++◌, length, Option, Some, None, inl, inr, ap, sym, ◌∙◌, refl, subst}
+use Rattle.std.proofs.Common.{◌≡◌, ◌+◌, ◌-◌, ◌<◌, arith, Bool, true, false, if◌then◌else◌, nat_lt, zero, suc, get_or, take, List, ◌∷◌, ◌++◌, length, Option, Some, None, inl, inr, ap, sym, ◌∙◌, refl, subst, ℕ}
 use Rattle.std.specs.List.{All}
 use Rattle.std.proofs.lemmas.List.{take_more, get_or_past}
 use Rattle.std.proofs.lemmas.List.Elements.{All-head, All-tail, All-take}
@@ -11,14 +11,14 @@ use Rattle.bt_frac.specs.declared.delta.Delta.{Delta}
 use Rattle.bt_frac.specs.declared.row.Relation.{Relation}
 use Rattle.bt_frac.specs.declared.row.Relation.TheVariants.{AtLeast, Above, Equal}
 use Rattle.bt_lin.specs.WeightedRows.{empty_row}
-use Rattle.bt_line.specs.Lines.{Terms, HasNumber, total}
+use Rattle.bt_linear.specs.Lines.{Terms, HasNumber, total}
 use Rattle.bt_pivot.specs.Tableaus.{TableauParts, IsTableau}
 use Rattle.bt_pivot.specs.SolvedForms.{slot_at}
 use Rattle.std.proofs.lemmas.Bool.{cases_lt}
 use Rattle.std.proofs.lemmas.Bool.Decides.{nat_tests}
 use Rattle.bt_pivot.specs.Points.{bound_row, tiny_of, value_or_zero, resting, standing, point_at, IsSamePoint}
-use Rattle.bt_line.proofs.Numbers.{Positive, nothing_some, Alike, alike, itself, back, next, both_plus, swap_plus, group_plus, plus_positive, times_positive}
-use Rattle.bt_line.proofs.Totals.{total_positive}
+use Rattle.bt_linear.proofs.Numbers.{Positive, nothing_some, Alike, alike, itself, back, next, both_plus, swap_plus, group_plus, plus_positive, times_positive}
+use Rattle.bt_linear.proofs.Totals.{total_positive}
 
 pub tiny_some : (r : Relation) → Positive (tiny_of r)
 tiny_some AtLeast = omega arith

@@ -1,5 +1,5 @@
 -- What short lines add up to where their positions rest.
-use Rattle.std.proofs.Common.{Ordering, Less, Equal, Greater, Bool, IsTrue, ◌↔◌, ◌<ℤ◌, inl, inr, ◌≡◌, ◌+◌, ◌-◌, ◌<◌, ◌≤◌, ◌^◌, arith, pos, ◌+ℤ◌, ◌*ℤ◌, ◌∷◌, length, take, get_or, Some, ap, sym, ◌∙◌, subst}
+use Rattle.std.proofs.Common.{Ordering, Less, Equal, Greater, Bool, IsTrue, ◌↔◌, ◌<ℤ◌, inl, inr, ◌≡◌, ◌+◌, ◌-◌, ◌<◌, ◌≤◌, ◌^◌, arith, pos, ◌+ℤ◌, ◌*ℤ◌, ◌∷◌, length, take, get_or, Some, ap, sym, ◌∙◌, subst, ℕ, ℤ}
 use Rattle.std.specs.List.{All}
 use Rattle.std.proofs.lemmas.Int.{ints}
 use Rattle.std.proofs.lemmas.List.{take_all}
@@ -12,18 +12,18 @@ use Rattle.bt_frac.specs.Values.{AreValues}
 use Rattle.bt_frac.specs.declared.delta.Delta.{Delta}
 use Rattle.bt_frac.specs.declared.row.Relation.TheVariants.{Equal as AnEquation}
 use Rattle.bt_frac.proofs.Ring.{products, sums}
-use Rattle.bt_line.specs.Lines.{one, Terms, HasNumber, IsLine, total, signed_terms}
+use Rattle.bt_linear.specs.Lines.{one, Terms, HasNumber, IsLine, total, signed_terms}
 use Rattle.bt_pivot.specs.Points.{bound_row, resting, standing, Breaks, Fails, IsSamePoint, signed_point}
 use Rattle.bt_pivot.specs.Tableaus.{TableauParts, IsTableau}
 use Rattle.bt_pivot.specs.declared.short_points.Sums.{Sums}
 use Rattle.bt_pivot.specs.SolvedForms.{slot_at}
-use Rattle.bt_line.specs.Shorts.{Numbers, reduced, terms_over, IsShort}
+use Rattle.bt_linear.specs.Shorts.{Numbers, reduced, terms_over, IsShort}
 use Rattle.bt_pivot.specs.inner.ShortPoints.{AddsWhole, BreaksTiny, IsBreak}
 use Rattle.bt_pivot.specs.Sums.{delta_of}
-use Rattle.bt_line.proofs.Shorts.{over_of, length_over, item_over, reduced_lowest, reduced_over}
+use Rattle.bt_linear.proofs.Shorts.{over_of, length_over, item_over, reduced_lowest, reduced_over}
 use Rattle.bt_pivot.proofs.Failing.{fails_told}
 use Rattle.bt_pivot.proofs.Places.{line_place, like_place}
-use Rattle.bt_line.proofs.Numbers.{Positive, Alike, alike, next}
+use Rattle.bt_linear.proofs.Numbers.{Positive, Alike, alike, next}
 use Rattle.bt_pivot.proofs.Resting.{part_more, rest_value, rest_tiny}
 
 -- both sums over a denominator
@@ -39,11 +39,11 @@ product_parts_ints z b o r u e = opened z b r ∙ ap (λ t. t *ℤ b *ℤ pos 1)
     one : (z : ℤ) → z *ℤ pos 1 ≡ z
     one z = omega (arith, ints)
 
-    turned : (o b u : ℤ) → o *ℤ u *ℤ b ≡ o *ℤ b *ℤ u
-    turned o b u = simp products
+    pivoted : (o b u : ℤ) → o *ℤ u *ℤ b ≡ o *ℤ b *ℤ u
+    pivoted o b u = simp products
 
     closed : (o b u : ℤ) → o *ℤ u *ℤ b *ℤ pos 1 ≡ o *ℤ b *ℤ u
-    closed o b u = one (o *ℤ u *ℤ b) ∙ turned o b u
+    closed o b u = one (o *ℤ u *ℤ b) ∙ pivoted o b u
 
 -- the product of a number over a denominator and a whole number
 product_over : (r : Ratio) (z b : ℤ) (under : ℕ) → r.over *ℤ pos under ≡ z *ℤ pos r.under → IsProduct r (over_of b 1) (over_of (z *ℤ b) under)

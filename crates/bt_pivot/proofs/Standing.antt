@@ -1,14 +1,14 @@
 -- What stands at the positions of rows.
-use Rattle.std.proofs.Common.{◌-◌, arith, Bool, true, false, if◌then◌else◌, nat_lt, zero, suc, get_or, List, ◌∷◌}
+use Rattle.std.proofs.Common.{◌-◌, arith, Bool, true, false, if◌then◌else◌, nat_lt, zero, suc, get_or, List, ◌∷◌, ℕ}
 use Rattle.std.specs.List.{All}
 use Rattle.std.proofs.lemmas.List.Elements.{All-head, All-tail}
 use Rattle.bt_frac.specs.Ratio.{Ratio, IsLowest}
 use Rattle.bt_frac.specs.Rows.{RowParts, IsRow}
 use Rattle.bt_frac.specs.Values.{AreValues, times}
 use Rattle.bt_lin.specs.WeightedRows.{empty_row}
-use Rattle.bt_line.specs.Lines.{Terms, total}
+use Rattle.bt_linear.specs.Lines.{Terms, total}
 use Rattle.bt_pivot.specs.SolvedForms.{at_position}
-use Rattle.bt_line.proofs.Numbers.{Positive, plus_positive, times_positive}
+use Rattle.bt_linear.proofs.Numbers.{Positive, plus_positive, times_positive}
 
 pub row_some : (at : ℕ → Ratio) → AreValues at → (terms : Terms) → All (λ t. IsLowest t.1) terms → Positive (total at terms)
 row_some at values [] all = omega arith

@@ -5,5 +5,5 @@ pub mod Points
 pub mod SolvedForms
 pub mod Sums
 pub mod Tableaus
-pub mod TurnedSlots
+pub mod PivotedSlots
 pub mod inner

@@ -1,5 +1,5 @@
 -- Where the positions of a tableau stand at its basis, with an infinitesimal for strict bounds.
-use Rattle.std.specs.Prelude.{◌-◌, nat_lt, false, Option, Some, None, slice_index_or, if◌then◌else◌, ◌≡◌, ◌≢◌, ◌⊎◌, ◌<◌, Bool, true, ◌↔◌, ◌≤◌, ◌<ℤ◌, ◌∷◌, ◌+◌}
+use Rattle.std.specs.Prelude.{◌-◌, nat_lt, false, Option, Some, None, slice_index_or, if◌then◌else◌, ◌≡◌, ◌⊎◌, ◌<◌, Bool, true, ℕ}
 use Rattle.bt_frac.specs.Ratio.{Ratio, negated}
 use Rattle.bt_frac.specs.Rows.{RowParts}
 use Rattle.bt_frac.specs.Values.{nothing}
@@ -7,7 +7,7 @@ use Rattle.bt_frac.specs.declared.delta.Delta.{Delta}
 use Rattle.bt_frac.specs.declared.row.Relation.{Relation}
 use Rattle.bt_frac.specs.declared.row.Relation.TheVariants.{AtLeast, Above, Equal}
 use Rattle.bt_lin.specs.WeightedRows.{empty_row}
-use Rattle.bt_line.specs.Lines.{one, Terms, total}
+use Rattle.bt_linear.specs.Lines.{one, Terms, total}
 use Rattle.bt_pivot.specs.SolvedForms.{slot_at, InBasis}
 use Rattle.bt_pivot.specs.Tableaus.{TableauParts}
 use Rattle.std.specs.declared.cmp.Ordering.{Ordering}

@@ -1,12 +1,12 @@
 -- Positions, a basis, and its solved form: what stands at each position of the basis, by what stands at those outside
 -- it.
-use Rattle.std.specs.Prelude.{◌≡◌, ◌+◌, ◌-◌, ◌<◌, nat_lt, List, ◌∷◌, length, Option, Some, None, slice_index_or, if◌then◌else◌, ◌≢◌, ◌⊎◌, ◌↔◌, ◌≤◌, ◌<ℤ◌}
+use Rattle.std.specs.Prelude.{◌≡◌, ◌+◌, ◌-◌, ◌<◌, nat_lt, List, ◌∷◌, length, Option, Some, None, slice_index_or, if◌then◌else◌, ℕ}
 use Rattle.std.specs.List.{All}
 use Rattle.bt_frac.specs.Ratio.{Ratio, SameRatio}
 use Rattle.bt_frac.specs.Rows.{RowParts}
 use Rattle.bt_frac.specs.Values.{AreValues}
 use Rattle.bt_lin.specs.WeightedRows.{empty_row}
-use Rattle.bt_line.specs.Lines.{Terms, IsLine, total}
+use Rattle.bt_linear.specs.Lines.{Terms, IsLine, total}
 
 -- for each position its line, where the position is in the basis
 abbrev pub Slots : Type 0

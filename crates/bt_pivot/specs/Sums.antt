@@ -1,8 +1,8 @@
--- Sums of the lines of a basis where their positions rest, and those that are kept from turn to turn.
-use Rattle.std.specs.Prelude.{◌≡◌, ◌<◌, ◌^◌, ◌⊎◌, ◌↔◌, Some, ◌+ℤ◌, ◌*ℤ◌, ◌≢◌, List, Option, None, IfSome, slice_index_or}
+-- Sums of the lines of a basis where their positions rest, and those that are kept from pivot to pivot.
+use Rattle.std.specs.Prelude.{◌≡◌, ◌<◌, ◌^◌, Some, List, Option, None, IfSome, slice_index_or, ℕ}
 use Rattle.bt_frac.specs.declared.delta.Delta.{Delta}
 use Rattle.bt_pivot.specs.Points.{resting, standing, IsSamePoint}
-use Rattle.bt_line.specs.Lines.{Terms}
+use Rattle.bt_linear.specs.Lines.{Terms}
 use Rattle.bt_pivot.specs.SolvedForms.{Slots, slot_at}
 use Rattle.bt_pivot.specs.Tableaus.{TableauParts}
 use Rattle.bt_pivot.specs.declared.short_points.Sums.{Sums}

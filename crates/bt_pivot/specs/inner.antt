@@ -4,5 +4,5 @@ pub mod Rests
 pub mod ShortPoints
 pub mod Starts
 pub mod SumCache
-pub mod TurnedSlots
-pub mod UnfitTurns
+pub mod PivotedSlots
+pub mod UnfitPivots

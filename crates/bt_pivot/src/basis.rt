@@ -2,14 +2,14 @@
 //! line is held, or which member is outside.
 ghost use Rattle.std.specs.Prelude.{◌≡◌, ◌<◌, ◌↔◌, ◌++◌, ◌∷◌, [], length, IfOk, IfSome, IsTrue, Some, None, true};
 ghost use Rattle.bt_frac.specs.Ratio.{negated};
-ghost use Rattle.bt_line.specs.Lines.{one, IsLine, signed_terms};
+ghost use Rattle.bt_linear.specs.Lines.{one, IsLine, signed_terms};
 ghost use Rattle.bt_pivot.specs.Classes.{differ, class_terms, position_at};
 ghost use Rattle.bt_pivot.specs.SolvedForms.{slot_at};
 ghost use Rattle.bt_pivot.specs.SolvedForms.{InBasis};
 ghost use Rattle.bt_pivot.specs.Places.{IsPlace};
 
 use bt_frac::Frac;
-use bt_line::{Line, Room, Term, lone_line};
+use bt_linear::{Line, Room, Term, lone_line};
 use std::alloc::{AllocError, Global};
 use std::marker::Model;
 
@@ -39,6 +39,13 @@ pub enum Place<'a> {
     },
     /// Outside the basis.
     Outside,
+}
+
+/// One position leaves the basis, and another enters it.
+#[derive(Clone, Copy, PartialEq, Eq)]
+pub struct Pivot {
+    pub leaves: usize,
+    pub enters: usize,
 }
 
 /// For each position its slot: the line, where it is in the basis.

@@ -1,6 +1,6 @@
 //! Operations whose results leave 128 bits.
 use bt_frac::Frac;
-use bt_line::Operation;
+use bt_linear::Operation;
 
 /// An operation on two numbers whose result leaves 128 bits, and what it was for.
 #[derive(Clone, Copy)]
@@ -16,7 +16,7 @@ pub struct Cause {
 /// What a check forms numbers for.
 #[derive(Clone, Copy, PartialEq, Eq)]
 pub enum WidePlace {
-    /// The lines of the basis after a turn.
+    /// The lines of the basis after a pivot.
     Entry,
     /// Where the positions of the basis stand.
     Value,

@@ -1,4 +1,4 @@
-//! Rows over columns with a basis and its solved form: its turns, the sums of its lines that are kept from turn to turn,
+//! Rows over columns with a basis and its solved form: its pivots, the sums of its lines that are kept from pivot to pivot,
 //! and where its positions stand to their bounds.
 #![tactic(auto)]
 
@@ -9,16 +9,16 @@ mod short_points;
 mod starting;
 mod sum_cache;
 mod table;
-mod turning;
+mod pivoting;
 mod whole;
 mod workspace;
 
-pub use basis::{Basis, Place};
+pub use basis::{Basis, Place, Pivot};
 pub use causes::{Cause, WidePlace};
 pub use short_points::short_point;
 pub use starting::are_over;
 pub use sum_cache::SumCache;
 pub use table::Table;
-pub use turning::{Turn, turn};
+pub use pivoting::pivot;
 pub use whole::{fails_whole, whole_order};
 pub use workspace::{Rooms, Workspace};

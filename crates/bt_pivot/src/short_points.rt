@@ -6,15 +6,15 @@ ghost use Rattle.bt_pivot.specs.Points.{resting, standing};
 ghost use Rattle.bt_pivot.specs.Points.{IsSamePoint, signed_point};
 ghost use Rattle.bt_pivot.specs.inner.Carrying.{AreCarried};
 ghost use Rattle.bt_pivot.specs.inner.Rests.{rest_point};
-ghost use Rattle.bt_line.specs.Shorts.{IsSmall};
+ghost use Rattle.bt_linear.specs.Shorts.{IsSmall};
 ghost use Rattle.bt_pivot.specs.inner.ShortPoints.{AddsWhole, TellsBreak, BreaksTiny};
 ghost use Rattle.bt_pivot.specs.Sums.{delta_of};
-ghost use Rattle.bt_line.specs.TermSigns.{IsSignedTerm};
+ghost use Rattle.bt_linear.specs.TermSigns.{IsSignedTerm};
 
 use crate::rests::Rest;
 use crate::table::Table;
 use bt_frac::{Delta, Relation};
-use bt_line::{Scales, Short, number};
+use bt_linear::{Scales, Short, number};
 use std::cmp::Ordering;
 
 /// The sums of terms where their positions rest, over the denominator of their line.

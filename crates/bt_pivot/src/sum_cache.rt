@@ -1,4 +1,4 @@
-//! The sums of classes' lines that are kept from turn to turn: a turn changes some of the lines only.
+//! The sums of classes' lines that are kept from pivot to pivot: a pivot changes some of the lines only.
 ghost use Rattle.std.specs.Prelude.{◌≡◌, ◌<◌, ◌^◌, IfOk, IfSome, IsTrue, None, Some, false, replicate, slice_index_or};
 ghost use Rattle.bt_pivot.specs.SolvedForms.{Slots, slot_at};
 ghost use Rattle.bt_pivot.specs.Points.{resting, standing};
@@ -11,7 +11,7 @@ ghost use Rattle.bt_pivot.specs.Sums.{AreClassSums, delta_of};
 use crate::basis::Member;
 use crate::short_points::{ClassSums, Sums, carried, short_sums};
 use crate::table::Table;
-use bt_line::{Line, Scales};
+use bt_linear::{Line, Scales};
 use std::alloc::{AllocError, Global};
 
 /// For each class the sums of its line, where these are at hand.

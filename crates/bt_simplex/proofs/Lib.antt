@@ -6,7 +6,7 @@ pub mod Cycling
 pub mod Entering
 pub mod Enters
 pub mod Epsilons
-pub mod FewTurns
+pub mod FewPivots
 pub mod Lexical
 pub mod LineWeights
 pub mod Meeting
@@ -18,6 +18,6 @@ pub mod Refutations
 pub mod Runs
 pub mod Signs
 pub mod Stretches
-pub mod TableauTurns
+pub mod TableauPivots
 pub mod TwoPoints
 pub mod WideSums

@@ -1,22 +1,22 @@
 -- Why a number that a check asks for leaves 128 bits: an operation, its two numbers, and what they are of the solved
 -- form.
-use Rattle.std.specs.Prelude.{◌≡◌, ◌⊎◌, ◌<◌, ◌==◌, ◌&&◌, pos, ◌<ℤ◌, List, ◌∷◌, ◌++◌, length, Some, if◌then◌else◌}
+use Rattle.std.specs.Prelude.{◌≡◌, ◌⊎◌, ◌<◌, pos, ◌<ℤ◌, List, ◌∷◌, ◌++◌, length, Some, ℕ}
 use Rattle.bt_frac.specs.Ratio.{Ratio, SameRatio, IsLowest, IsLess, IsAtMost, negated}
 use Rattle.bt_frac.specs.Rows.{RowParts}
 use Rattle.bt_frac.specs.Values.{plus, times, sum_of_products}
 use Rattle.bt_lin.specs.WeightedRows.{part_of, pairs_at, number_of, coefficient_at}
 use Rattle.bt_lin.specs.Farkas.{IsFirstWide}
 use Rattle.bt_lin.specs.declared.places.Place.{Place}
-use Rattle.bt_line.specs.Unfits.{IsNone}
-use Rattle.bt_line.specs.Lines.{one, Terms, total}
+use Rattle.bt_linear.specs.Unfits.{IsNone}
+use Rattle.bt_linear.specs.Lines.{one, Terms, total}
 use Rattle.bt_pivot.specs.SolvedForms.{slot_at}
 use Rattle.bt_pivot.specs.Tableaus.{TableauParts}
 use Rattle.bt_pivot.specs.Points.{bound_row, resting, point_at}
-use Rattle.bt_simplex.specs.Turns.{IsBlandTurn, IsMet, IsStuckAt}
+use Rattle.bt_simplex.specs.Pivots.{IsBlandPivot, IsMet, IsStuckAt}
 use Rattle.bt_simplex.specs.Weights.{AreWeights, weighted_rows}
-use Rattle.bt_pivot.specs.declared.turning.Turn.{Turn}
-use Rattle.bt_line.specs.declared.unfit.Operation.{Operation}
-use Rattle.bt_line.specs.declared.unfit.Operation.TheVariants.{Add, Mul, Div}
+use Rattle.bt_pivot.specs.declared.basis.Pivot.{Pivot}
+use Rattle.bt_linear.specs.declared.unfit.Operation.{Operation}
+use Rattle.bt_linear.specs.declared.unfit.Operation.TheVariants.{Add, Mul, Div}
 use Rattle.bt_pivot.specs.declared.causes.WidePlace.{WidePlace}
 use Rattle.bt_pivot.specs.declared.causes.WidePlace.TheVariants.{Entry, Value, Settle, Lemma}
 use Rattle.bt_pivot.specs.declared.causes.Cause.{Cause}
@@ -108,7 +108,7 @@ pub record IsLemmaStep (t : TableauParts) (fails row column : ℕ) (operation : 
 
 -- what an operation was for at a tableau's basis
 abbrev pub IsStepAt : TableauParts → WidePlace → ℕ → ℕ → Operation → Ratio → Ratio → Type 0
-IsStepAt t Entry row column operation left right = (turn : Turn) × IsBlandTurn t turn × IsEntryStep t.slots turn row column operation left right
+IsStepAt t Entry row column operation left right = (pivot : Pivot) × IsBlandPivot t pivot × IsEntryStep t.slots pivot row column operation left right
 IsStepAt t Value row column operation left right = IsValueStep t row column operation left right
 IsStepAt t Settle row column operation left right =
     IsMet t × (column ≡ 0) × (IsRoomStep t row operation left right ⊎ IsColumnStep t row operation left right)

@@ -3,6 +3,6 @@ pub mod Checks
 pub mod Counting
 pub mod Laws
 pub mod Runs
-pub mod Turns
+pub mod Pivots
 pub mod Weights
 pub mod inner

@@ -7,19 +7,19 @@ ghost use Rattle.bt_frac.specs.Rows.{RowParts};
 ghost use Rattle.bt_simplex.specs.Causes.{IsCause};
 ghost use Rattle.bt_frac.specs.declared.delta.Delta.{Delta};
 ghost use Rattle.bt_pivot.specs.Points.{bound_value};
-ghost use Rattle.bt_line.specs.Lines.{signed_terms, one};
+ghost use Rattle.bt_linear.specs.Lines.{signed_terms, one};
 ghost use Rattle.bt_pivot.specs.Points.{Breaks, Fails};
-ghost use Rattle.bt_simplex.specs.Turns.{MovesTowards, CanEnter};
+ghost use Rattle.bt_simplex.specs.Pivots.{MovesTowards, CanEnter};
 ghost use Rattle.bt_pivot.specs.Tableaus.{with_slots};
 ghost use Rattle.bt_pivot.specs.Points.{IsBoundOrder};
 ghost use Rattle.bt_simplex.specs.inner.Bases.{MayEnter, Names, Finds, IsLeastOf, IsNext};
 ghost use Rattle.bt_pivot.specs.Sums.{AreKept};
-ghost use Rattle.bt_line.specs.TermSigns.{IsSign, IsSignedTerm};
+ghost use Rattle.bt_linear.specs.TermSigns.{IsSign, IsSignedTerm};
 
 use crate::points::{bound_value, point};
 use bt_frac::{Delta, Relation, Row};
-use bt_line::Line;
-use bt_pivot::{Basis, Cause, Place, SumCache, Table, Turn, fails_whole, whole_order};
+use bt_linear::Line;
+use bt_pivot::{Basis, Cause, Place, SumCache, Table, Pivot, fails_whole, whole_order};
 use std::cmp::Ordering;
 
 /// The least position that has a property.
@@ -36,8 +36,8 @@ pub enum Least {
 /// What Bland's rule says of a basis.
 #[derive(Clone, Copy)]
 pub enum Next {
-    /// This turn comes next.
-    Turn(Turn),
+    /// This pivot comes next.
+    Pivot(Pivot),
     /// No position fails.
     Met,
     /// This position fails, and none can enter for it.
@@ -221,7 +221,7 @@ fn alone_entering(
     }
 }
 
-/// Bland's turn of a basis, or how the basis is final.
+/// Bland's pivot of a basis, or how the basis is final.
 pub fn blands_next(tableau: &Table, basis: &Basis, kept: &mut SumCache) -> Next
     requires { AreKept tableau.now basis.now kept.old.sums.items }
     ensures next { IsNext (with_slots tableau.now basis.now) result }
@@ -229,7 +229,7 @@ pub fn blands_next(tableau: &Table, basis: &Basis, kept: &mut SumCache) -> Next
 {
     match leaving(tableau, basis, kept) {
         Least::At(leaves) => match entering(tableau, basis, leaves, kept) {
-            Least::At(enters) => Next::Turn(Turn { leaves, enters }),
+            Least::At(enters) => Next::Pivot(Pivot { leaves, enters }),
             Least::Nowhere => Next::Stuck(leaves),
             Least::Wide(cause) => Next::Wide(cause),
         },

@@ -2,15 +2,15 @@
 ghost use Rattle.std.specs.Prelude.{◌≡◌, IfOk, IfErr, Some};
 ghost use Rattle.bt_frac.specs.Ratio.{IsLowest};
 ghost use Rattle.bt_simplex.specs.Causes.{IsCause};
-ghost use Rattle.bt_line.specs.Lines.{IsLine};
+ghost use Rattle.bt_linear.specs.Lines.{IsLine};
 ghost use Rattle.bt_pivot.specs.Points.{bound_value, resting, standing, point_at};
 ghost use Rattle.bt_pivot.specs.Tableaus.{with_slots};
 ghost use Rattle.bt_pivot.specs.Points.{IsSamePoint, signed_point};
-ghost use Rattle.bt_line.specs.Unfits.{IsUnfitHere};
+ghost use Rattle.bt_linear.specs.Unfits.{IsUnfitHere};
 ghost use Rattle.bt_simplex.specs.inner.UnfitPoints.{AddsPart, AddsTerm, IsUnfitTerm, IsUnfitPoint, value_cause};
 
 use bt_frac::{Delta, Frac, Relation, Row};
-use bt_line::{Line, Operation, Term, Unfit, is_zero};
+use bt_linear::{Line, Operation, Term, Unfit, is_zero};
 use bt_pivot::{Basis, Cause, Place, Table, WidePlace, short_point};
 
 /// The least that the sum of a row may be, with the infinitesimal where it is strict.

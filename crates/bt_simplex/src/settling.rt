@@ -6,13 +6,13 @@ ghost use Rattle.bt_simplex.specs.Causes.{IsCause, IsEpsilon};
 ghost use Rattle.bt_simplex.specs.Checks.{MeetsBoundRows};
 ghost use Rattle.bt_pivot.specs.Points.{point_at, bound_row};
 ghost use Rattle.bt_pivot.specs.Tableaus.{IsTableau};
-ghost use Rattle.bt_simplex.specs.Turns.{IsMet};
+ghost use Rattle.bt_simplex.specs.Pivots.{IsMet};
 ghost use Rattle.bt_pivot.specs.Tableaus.{with_slots};
 ghost use Rattle.bt_simplex.specs.inner.Settling.{IsLesser, IsFallingFrom, IsRoom, IsRoomAt, IsUnfitRoom, IsSettled};
 
 use crate::points::point;
 use bt_frac::{Delta, Frac, Row};
-use bt_line::Operation;
+use bt_linear::Operation;
 use bt_pivot::{Basis, Cause, Table, WidePlace};
 use std::alloc::{AllocError, Global};
 use std::cmp::Ordering;

@@ -9,7 +9,7 @@ ghost use Rattle.bt_simplex.specs.inner.Sums.{IsUnfitAt, IsUnfitSum, lemma_cause
 use crate::points::added_part;
 use bt_frac::{Frac, Row};
 use bt_lin::{Place, WideAt, part};
-use bt_line::{Term, Unfit};
+use bt_linear::{Term, Unfit};
 use bt_pivot::{Cause, WidePlace};
 
 /// The place at which the sum is wide: the column, where the row has it, and else the bound.

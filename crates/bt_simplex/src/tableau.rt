@@ -9,13 +9,13 @@ ghost use Rattle.bt_pivot.specs.Points.{relation_of};
 ghost use Rattle.bt_pivot.specs.Points.{bound_row};
 ghost use Rattle.bt_pivot.specs.Tableaus.{AreOverColumns, IsNew, IsBoundAs, IsTableau};
 
-use crate::answers::{Check, Trail, Wide};
+use crate::answers::{Check, PivotTrace, Wide};
 use crate::lemmas::lemma;
-use crate::running::{End, turned_from};
+use crate::running::{End, pivoted_from};
 use crate::settling::settled;
-use crate::trails::{bound_rows, positions};
+use crate::traces::{bound_rows, positions};
 use bt_frac::Row;
-use bt_pivot::{Basis, Cause, Table, Turn, Workspace};
+use bt_pivot::{Basis, Cause, Table, Pivot, Workspace};
 use std::alloc::{AllocError, Global};
 use std::marker::Model;
 
@@ -67,11 +67,11 @@ impl Tableau {
         self.table.clear_bound(row);
     }
 
-    /// Makes Bland's turns from the basis on, at most `pivots`, to a final one, and answers with values
+    /// Makes Bland's pivots from the basis on, at most `pivots`, to a final one, and answers with values
     /// that meet every bound row, or with bound rows and weights that show that no values do.
     ///
-    /// Bland's turn: the least position of the basis that fails its bound leaves, and the least that
-    /// can move it towards its bound enters. `Pivots` comes only after exactly `pivots` turns, at a basis
+    /// Bland's pivot: the least position of the basis that fails its bound leaves, and the least that
+    /// can move it towards its bound enters. `Pivots` comes only after exactly `pivots` pivots, at a basis
     /// that isn't final. `Wide` names an operation whose result leaves 128 bits, and its two numbers. After
     /// both of them and after a want of memory the tableau is as before.
     pub fn check(&mut self, alloc: Global, pivots: u64) -> Result<Check, AllocError>
@@ -93,7 +93,7 @@ impl Tableau {
         spare.copy_of(alloc, self.table.basis())
     }
 
-    /// The same check on a copy of the basis, to which the turns are made.
+    /// The same check on a copy of the basis, to which the pivots are made.
     fn check_in(
         &self,
         alloc: Global,
@@ -104,39 +104,39 @@ impl Tableau {
         ensures { IfOk result (Concludes pivots self.now work.new.basis) }
     {
         self.all_known();
-        let mut turns = Vec::new(alloc);
-        let end = turned_from(&self.table, alloc, work, &mut turns, pivots)?;
-        self.answer(alloc, turns, &work.basis, end)
+        let mut steps = Vec::new(alloc);
+        let end = pivoted_from(&self.table, alloc, work, &mut steps, pivots)?;
+        self.answer(alloc, steps, &work.basis, end)
     }
 
-    /// The answer where these turns lead to this basis, and end there.
+    /// The answer where these pivots lead to this basis, and end there.
     fn answer(
         &self,
         alloc: Global,
-        turns: Vec<Turn>,
+        steps: Vec<Pivot>,
         basis: &Basis,
         end: End,
     ) -> Result<Check, AllocError>
         requires tableau { IsTableau self.now }
-        requires run { (pivots : ℕ) × IsRun pivots self.now turns.items basis.now end }
-        ensures { (pivots : ℕ) → IsRun pivots self.now turns.items basis.now end
+        requires run { (pivots : ℕ) × IsRun pivots self.now steps.items basis.now end }
+        ensures { (pivots : ℕ) → IsRun pivots self.now steps.items basis.now end
             → IfOk result (Concludes pivots self.now basis.now) }
     {
         match end {
             End::Met => match settled(&self.table, alloc, basis)? {
                 Ok(values) => Ok(Check::Sat(values)),
-                Err(cause) => Ok(Check::Wide(self.wide(alloc, turns, basis, cause)?)),
+                Err(cause) => Ok(Check::Wide(self.wide(alloc, steps, basis, cause)?)),
             },
             End::Stuck(position) => match lemma(&self.table, alloc, basis, position)? {
                 Ok(weights) => Ok(Check::Unsat(weights)),
-                Err(cause) => Ok(Check::Wide(self.wide(alloc, turns, basis, cause)?)),
+                Err(cause) => Ok(Check::Wide(self.wide(alloc, steps, basis, cause)?)),
             },
-            End::Pivots => Ok(Check::Pivots(self.trail(alloc, turns)?)),
-            End::Wide(cause) => Ok(Check::Wide(self.wide(alloc, turns, basis, cause)?)),
+            End::Pivots => Ok(Check::Pivots(self.trace(alloc, steps)?)),
+            End::Wide(cause) => Ok(Check::Wide(self.wide(alloc, steps, basis, cause)?)),
         }
     }
 
-    /// Takes in the basis that the turns of a check lead to, where that is final, and keeps the other one's memory for the
+    /// Takes in the basis that the pivots of a check lead to, where that is final, and keeps the other one's memory for the
     /// next check.
     fn keep(&mut self, work: Workspace, check: &Check)
         requires { IsTableau (with_slots self.old (slots_after self.old.slots work.basis check.now)) }
@@ -162,29 +162,29 @@ impl Tableau {
         };
     }
 
-    /// The trail of these turns from the tableau's basis on.
-    fn trail(&self, alloc: Global, turns: Vec<Turn>) -> Result<Trail, AllocError>
-        ensures { IfOk result (λ trail. StartsAt self.now trail × (trail.turns ≡ turns)) }
+    /// The trace of these pivots from the tableau's basis on.
+    fn trace(&self, alloc: Global, steps: Vec<Pivot>) -> Result<PivotTrace, AllocError>
+        ensures { IfOk result (λ trace. StartsAt self.now trace × (trace.steps ≡ steps)) }
     {
-        Ok(Trail {
+        Ok(PivotTrace {
             start: positions(alloc, self.table.basis())?,
             bound: bound_rows(alloc, self.table.bound())?,
-            turns,
+            steps,
         })
     }
 
-    /// The cause, after these turns, which lead to this basis.
+    /// The cause, after these pivots, which lead to this basis.
     fn wide(
         &self,
         alloc: Global,
-        turns: Vec<Turn>,
+        steps: Vec<Pivot>,
         basis: &Basis,
         cause: Cause,
     ) -> Result<Wide, AllocError>
-        ensures { IfOk result (IsWideFor self.now turns.items basis.now cause) }
+        ensures { IfOk result (IsWideFor self.now steps.items basis.now cause) }
     {
         Ok(Wide {
-            trail: self.trail(alloc, turns)?,
+            trace: self.trace(alloc, steps)?,
             place: cause.place,
             basis: positions(alloc, basis)?,
             row: cause.row,

@@ -120,7 +120,7 @@ module _ (pivots : ℕ) (s s' : SolverParts) (model : List Bool) (conflict : Con
       subst (λ x. IsTry pivots s x (tried.Ends end.Spent)) (sym same) (record { formula = refl; limit = refl }, λ _. used_up s has.sound fits spent)
   learnt_ends end.Refuted h = absurd h
   learnt_ends (end.Sat solution) h = absurd h
-  learnt_ends (end.Pivots trail) h = absurd h
+  learnt_ends (end.Pivots trace) h = absurd h
   learnt_ends (end.Wide wide) h = absurd h
 
 -- a conflict whose literals negate atoms that are true in the model is one under it

@@ -288,5 +288,5 @@ module _ (pivots : ℕ) (b : Base) (s s' : SolverParts) (t : TableauParts) (chos
       subst (λ x. IsRound pivots b s x t (Some end.Spent)) (sym same) (ends_round pivots b s t end.Spent (used_up s of_model.has.sound ready.fits spent))
   learnt_round (Some end.Refuted) h = absurd h
   learnt_round (Some (end.Sat solution)) h = absurd h
-  learnt_round (Some (end.Pivots trail)) h = absurd h
+  learnt_round (Some (end.Pivots trace)) h = absurd h
   learnt_round (Some (end.Wide wide)) h = absurd h

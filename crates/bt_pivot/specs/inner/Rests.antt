@@ -1,5 +1,5 @@
 -- Where the positions of a tableau rest, as whole numbers.
-use Rattle.std.specs.Prelude.{◌≡◌, ◌+◌, pos, List, length, Option, None, IfSome, slice_index_or}
+use Rattle.std.specs.Prelude.{◌≡◌, ◌+◌, pos, List, length, Option, None, IfSome, slice_index_or, ℕ}
 use Rattle.bt_frac.specs.Rows.{RowParts}
 use Rattle.bt_frac.specs.declared.delta.Delta.{Delta}
 use Rattle.bt_pivot.specs.Points.{bound_row, value_or_zero, relation_of}

@@ -1,5 +1,5 @@
 -- Sums of terms of short lines, where their positions rest.
-use Rattle.std.specs.Prelude.{◌≡◌, ◌<◌, ◌^◌, ◌⊎◌, ◌↔◌, ◌+ℤ◌, ◌*ℤ◌, Bool, IsTrue}
+use Rattle.std.specs.Prelude.{◌≡◌, ◌⊎◌, ◌↔◌, ◌+ℤ◌, ◌*ℤ◌, Bool, IsTrue, ℤ}
 use Rattle.bt_frac.specs.Ratio.{Ratio, IsLess}
 use Rattle.bt_frac.specs.Rows.{RowParts}
 use Rattle.bt_frac.specs.declared.delta.Delta.{Delta}

@@ -1,19 +1,19 @@
 -- What Bland's rule says of a tableau at a basis.
-use Rattle.std.specs.Prelude.{◌≡◌, ◌≢◌, ◌⊎◌, ◌<◌, Option, Some, None}
+use Rattle.std.specs.Prelude.{◌≡◌, ◌≢◌, ◌⊎◌, Option, Some, None, ℕ}
 use Rattle.bt_frac.specs.Ratio.{Ratio}
 use Rattle.bt_frac.specs.Rows.{RowParts}
 use Rattle.bt_frac.specs.declared.delta.Delta.{Delta}
 use Rattle.bt_frac.specs.declared.row.Relation.TheVariants.{Equal}
 use Rattle.bt_lin.specs.WeightedRows.{coefficient_at}
-use Rattle.bt_line.specs.Lines.{Terms}
+use Rattle.bt_linear.specs.Lines.{Terms}
 use Rattle.bt_pivot.specs.Tableaus.{TableauParts}
 use Rattle.bt_pivot.specs.Points.{bound_row}
 use Rattle.bt_simplex.specs.Causes.{IsCause}
-use Rattle.bt_simplex.specs.Turns.{MovesTowards, IsLeast, IsBlandTurn, IsMet, IsStuckAt}
+use Rattle.bt_simplex.specs.Pivots.{MovesTowards, IsLeast, IsBlandPivot, IsMet, IsStuckAt}
 use Rattle.bt_simplex.specs.declared.bland.Least.{Least}
 use Rattle.bt_simplex.specs.declared.bland.Least.TheVariants.{At, Nowhere, Wide as NoLeast}
 use Rattle.bt_simplex.specs.declared.bland.Next.{Next}
-use Rattle.bt_simplex.specs.declared.bland.Next.TheVariants.{Turn as Turns, Met, Stuck, Wide}
+use Rattle.bt_simplex.specs.declared.bland.Next.TheVariants.{Pivot as Pivots, Met, Stuck, Wide}
 
 -- the position may be moved: it is a column or a row that isn't bound, or a bound row that is no equation, and raising
 -- it moves the failing row towards its bound value
@@ -36,9 +36,9 @@ Finds t P (At position) = IsLeast P position
 Finds t P Nowhere = (position : ℕ) → P position → ⊥
 Finds t P (NoLeast cause) = IsCause t cause
 
--- Bland's turn, or how the basis is final, or why a number of it doesn't fit
+-- Bland's pivot, or how the basis is final, or why a number of it doesn't fit
 abbrev pub IsNext : TableauParts → Next → Type 0
-IsNext t (Turns turn) = IsBlandTurn t turn
+IsNext t (Pivots pivot) = IsBlandPivot t pivot
 IsNext t Met = IsMet t
 IsNext t (Stuck position) = IsStuckAt t position
 IsNext t (Wide cause) = IsCause t cause

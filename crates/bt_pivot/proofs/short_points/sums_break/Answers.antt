@@ -1,4 +1,4 @@
-use Rattle.std.proofs.Common.{◌≡◌, pos, ◌*ℤ◌, Less, Equal, Greater, ap, refl, rules, sym, ◌∙◌, subst, FitsSigned, w64}
+use Rattle.std.proofs.Common.{◌≡◌, pos, ◌*ℤ◌, Less, Equal, Greater, ap, refl, rules, sym, ◌∙◌, subst, FitsSigned, w64, ℤ}
 use Rattle.std.specs.Int.{w32}
 use Rattle.bt_frac.proofs.Ring.{products}
 use Rattle.std.proofs.lemmas.Cmp.{int_ranked}
@@ -7,8 +7,8 @@ use Rattle.bt_pivot.specs.inner.ShortPoints.{BreaksTiny}
 use Rattle.bt_pivot.proofs.ShortPoints.{below_breaks, above_breaks, level_breaks}
 use Rattle.bt_pivot.proofs.short_points.sums_break.Goals as goal
 
-turned : (a b : ℤ) → a *ℤ b ≡ b *ℤ a
-turned a b = simp products
+pivoted : (a b : ℤ) → a *ℤ b ≡ b *ℤ a
+pivoted a b = simp products
 
 pub returns-in-Less : goal.returns-in-Less
 returns-in-Less c row same rests =
@@ -16,7 +16,7 @@ returns-in-Less c row same rests =
     let second : FitsSigned w64 c.from.result = search rules in
     let third : FitsSigned w64 c.multiple-level.result = search rules in
     let product = simp to_z-of_z at c.multiple-level.ensures in
-    let level = product ∙ ap (λ z. z *ℤ c.args.rest.value) c.from.ensures ∙ turned (pos c.args.sums.under) c.args.rest.value in
+    let level = product ∙ ap (λ z. z *ℤ c.args.rest.value) c.from.ensures ∙ pivoted (pos c.args.sums.under) c.args.rest.value in
     let order = simp to_z-of_z at c.in-Less.ensures in
     let less = int_ranked c.args.sums.value c.multiple-level.result Less order in
     let whole = ap (λ d. d.value) rests in
@@ -29,7 +29,7 @@ returns-in-Equal c row same rests =
     let third : FitsSigned w64 c.multiple-level.result = search rules in
     let fourth : FitsSigned w64 c.args.sums.tiny = search rules in
     let product = simp to_z-of_z at c.multiple-level.ensures in
-    let level = product ∙ ap (λ z. z *ℤ c.args.rest.value) c.from.ensures ∙ turned (pos c.args.sums.under) c.args.rest.value in
+    let level = product ∙ ap (λ z. z *ℤ c.args.rest.value) c.from.ensures ∙ pivoted (pos c.args.sums.under) c.args.rest.value in
     let order = simp to_z-of_z at c.in-Equal.ensures in
     let even = int_ranked c.args.sums.value c.multiple-level.result Equal order in
     let whole = ap (λ d. d.value) rests in
@@ -45,7 +45,7 @@ returns-in-Greater c row same rests =
     let second : FitsSigned w64 c.from.result = search rules in
     let third : FitsSigned w64 c.multiple-level.result = search rules in
     let product = simp to_z-of_z at c.multiple-level.ensures in
-    let level = product ∙ ap (λ z. z *ℤ c.args.rest.value) c.from.ensures ∙ turned (pos c.args.sums.under) c.args.rest.value in
+    let level = product ∙ ap (λ z. z *ℤ c.args.rest.value) c.from.ensures ∙ pivoted (pos c.args.sums.under) c.args.rest.value in
     let order = simp to_z-of_z at c.in-Greater.ensures in
     let more = int_ranked c.args.sums.value c.multiple-level.result Greater order in
     let whole = ap (λ d. d.value) rests in

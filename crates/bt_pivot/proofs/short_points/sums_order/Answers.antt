@@ -1,4 +1,4 @@
-use Rattle.std.proofs.Common.{pos, ◌≡◌, ◌*ℤ◌, ◌<ℤ◌, Less, Equal, Greater, ap, rules, sym, ◌∙◌, subst, FitsSigned, w64}
+use Rattle.std.proofs.Common.{pos, ◌≡◌, ◌*ℤ◌, ◌<ℤ◌, Less, Equal, Greater, ap, rules, sym, ◌∙◌, subst, FitsSigned, w64, ℤ}
 use Rattle.std.specs.Cmp.{int_ranks}
 use Rattle.std.specs.Int.{w32}
 use Rattle.std.specs.Ordering.{MatchOrdering}
@@ -8,8 +8,8 @@ use Rattle.std.proofs.lemmas.Int.{to_z-of_z}
 use Rattle.bt_pivot.proofs.ShortPoints.{order_less, order_more, order_tiny}
 use Rattle.bt_pivot.proofs.short_points.sums_order.Goals as goal
 
-turned : (a b : ℤ) → a *ℤ b ≡ b *ℤ a
-turned a b = simp products
+pivoted : (a b : ℤ) → a *ℤ b ≡ b *ℤ a
+pivoted a b = simp products
 
 pub returns-in-Less : goal.returns-in-Less
 returns-in-Less c =
@@ -17,7 +17,7 @@ returns-in-Less c =
     let second : FitsSigned w64 c.from.result = search rules in
     let third : FitsSigned w64 c.multiple-level.result = search rules in
     let product = simp to_z-of_z at c.multiple-level.ensures in
-    let level = product ∙ ap (λ z. z *ℤ c.args.rest.value) c.from.ensures ∙ turned (pos c.args.sums.under) c.args.rest.value in
+    let level = product ∙ ap (λ z. z *ℤ c.args.rest.value) c.from.ensures ∙ pivoted (pos c.args.sums.under) c.args.rest.value in
     let order = simp to_z-of_z at c.in-Less.ensures in
     let less = int_ranked c.multiple-level.result c.args.sums.value Less order in
     order_less c.args.rest.value c.args.rest.tiny c.args.sums c.multiple-level.result level less
@@ -28,7 +28,7 @@ returns-in-Greater c =
     let second : FitsSigned w64 c.from.result = search rules in
     let third : FitsSigned w64 c.multiple-level.result = search rules in
     let product = simp to_z-of_z at c.multiple-level.ensures in
-    let level = product ∙ ap (λ z. z *ℤ c.args.rest.value) c.from.ensures ∙ turned (pos c.args.sums.under) c.args.rest.value in
+    let level = product ∙ ap (λ z. z *ℤ c.args.rest.value) c.from.ensures ∙ pivoted (pos c.args.sums.under) c.args.rest.value in
     let order = simp to_z-of_z at c.in-Greater.ensures in
     let more = int_ranked c.multiple-level.result c.args.sums.value Greater order in
     order_more c.args.rest.value c.args.rest.tiny c.args.sums c.multiple-level.result level more
@@ -42,9 +42,9 @@ returns-in-Equal c =
     let fifth : FitsSigned w64 c.from-in-Equal.result = search rules in
     let sixth : FitsSigned w64 c.multiple-tiny.result = search rules in
     let product = simp to_z-of_z at c.multiple-level.ensures in
-    let level = product ∙ ap (λ z. z *ℤ c.args.rest.value) c.from.ensures ∙ turned (pos c.args.sums.under) c.args.rest.value in
+    let level = product ∙ ap (λ z. z *ℤ c.args.rest.value) c.from.ensures ∙ pivoted (pos c.args.sums.under) c.args.rest.value in
     let product' = simp to_z-of_z at c.multiple-tiny.ensures in
-    let tiny = product' ∙ ap (λ z. z *ℤ c.args.rest.tiny) c.from-in-Equal.ensures ∙ turned (pos c.args.sums.under) c.args.rest.tiny in
+    let tiny = product' ∙ ap (λ z. z *ℤ c.args.rest.tiny) c.from-in-Equal.ensures ∙ pivoted (pos c.args.sums.under) c.args.rest.tiny in
     let order = simp to_z-of_z at c.in-Equal.ensures in
     let even = int_ranked c.multiple-level.result c.args.sums.value Equal order in
     let order' = simp to_z-of_z at c.cmp-in-Equal.ensures in

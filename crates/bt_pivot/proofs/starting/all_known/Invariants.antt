@@ -1,4 +1,4 @@
-use Rattle.std.proofs.Common.{◌<◌, get_or}
+use Rattle.std.proofs.Common.{◌<◌, get_or, ℕ}
 use Rattle.bt_frac.specs.Rows.{RowParts, IsRow}
 use Rattle.bt_pivot.proofs.starting.all_known.Given as goal
 

@@ -1,4 +1,4 @@
-use Rattle.std.proofs.Common.{◌<◌}
+use Rattle.std.proofs.Common.{◌<◌, ℕ}
 use Rattle.bt_pivot.specs.Points.{Fails}
 use Rattle.bt_pivot.specs.Tableaus.{with_slots}
 use Rattle.bt_pivot.specs.Sums.{AreKept}

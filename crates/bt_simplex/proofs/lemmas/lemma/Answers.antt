@@ -1,4 +1,4 @@
-use Rattle.std.proofs.Common.{◌<◌, List, length, map, sym, subst, ap, ◌∙◌, IfOk, Ok, Err}
+use Rattle.std.proofs.Common.{◌<◌, List, length, map, sym, subst, ap, ◌∙◌, IfOk, Ok, Err, ℕ}
 use Rattle.std.specs.List.{All}
 use Rattle.bt_frac.specs.Ratio.{Ratio}
 use Rattle.bt_frac.specs.Rows.{RowParts}

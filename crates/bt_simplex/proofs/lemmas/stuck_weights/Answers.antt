@@ -2,7 +2,7 @@ use Rattle.std.proofs.Common.{◌≡◌, ◌≤◌, None, ◌∷◌, arith, ◌�
 use Rattle.std.specs.List.{All}
 use Rattle.bt_frac.specs.Ratio.{negated}
 use Rattle.bt_lin.specs.WeightedRows.{coefficient_at}
-use Rattle.bt_line.specs.Lines.{one, IsCombination}
+use Rattle.bt_linear.specs.Lines.{one, IsCombination}
 use Rattle.bt_pivot.specs.Tableaus.{with_slots}
 use Rattle.bt_simplex.specs.inner.Lemmas.{weight_of}
 use Rattle.bt_simplex.proofs.PointSteps.{point_cause}
