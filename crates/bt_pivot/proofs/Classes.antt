@@ -1,5 +1,5 @@
 -- The slots of classes' members, and how a pivot changes them.
-use Rattle.std.proofs.Common.{◌≡◌, ◌≢◌, zero, suc, ◌+◌, ◌-◌, ◌^◌, ◌<◌, ◌≤◌, arith, Bool, true, false, if◌then◌else◌, ◌==◌, List, ◌∷◌, ◌++◌, length, set, length-set, get_or, Option, Some, None, ap, sym, ◌∙◌, refl, subst, inl, inr, ℕ}
+use Rattle.std.proofs.Common.{◌≡◌, ◌≢◌, zero, suc, ◌+◌, ◌-◌, ◌^◌, ◌<◌, ◌≤◌, arith, Bool, true, false, if◌then◌else◌, ◌==◌, List, ◌∷◌, ◌++◌, length, set, length-set, get_or, Option, Some, None, ap, sym, ◌∙◌, refl, subst, inl, inr, ℕ, []}
 use Rattle.std.proofs.lemmas.Bool.{cases_lt}
 use Rattle.std.proofs.lemmas.Bool.Decides.{nat_tests}
 use Rattle.std.proofs.lemmas.List.{get_or_default, get_or_past, get_or-set_same, get_or-set_other}

@@ -1,5 +1,5 @@
 -- The first basis, of the rows, has their terms as its solved form.
-use Rattle.std.proofs.Common.{◌≡◌, zero, suc, ◌+◌, ◌-◌, ◌<◌, ◌≤◌, arith, Bool, true, false, if◌then◌else◌, nat_lt, List, ◌∷◌, ◌++◌, length, replicate, map, get_or, Some, None, ap, sym, ◌∙◌, refl, subst, inl, inr, ℕ}
+use Rattle.std.proofs.Common.{◌≡◌, zero, suc, ◌+◌, ◌-◌, ◌<◌, ◌≤◌, arith, Bool, true, false, if◌then◌else◌, nat_lt, List, ◌∷◌, ◌++◌, length, replicate, map, get_or, Some, None, ap, sym, ◌∙◌, refl, subst, inl, inr, ℕ, []}
 use Rattle.std.specs.List.{All}
 use Rattle.std.proofs.lemmas.Bool.{cases_lt}
 use Rattle.std.proofs.lemmas.Bool.Decides.{nat_tests}

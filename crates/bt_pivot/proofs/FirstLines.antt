@@ -1,5 +1,6 @@
 -- The first basis has a solved form.
-use Rattle.std.proofs.Common.{◌≡◌, ◌≢◌, ◌+◌, arith, pos, ◌*ℤ◌, unsigned_abs, Bool, true, false, if◌then◌else◌, ◌==◌, ◌∷◌, ap, ◌∙◌, refl, ℕ, ℤ}
+use Rattle.std.proofs.Math.IntN.{zero-*ℤ}
+use Rattle.std.proofs.Common.{◌≡◌, ◌≢◌, ◌+◌, arith, pos, ◌*ℤ◌, unsigned_abs, Bool, true, false, if◌then◌else◌, ◌==◌, ◌∷◌, ap, ◌∙◌, refl, ℕ, ℤ, []}
 use Rattle.std.specs.List.{All}
 use Rattle.std.proofs.lemmas.Int.{ints}
 use Rattle.std.proofs.lemmas.Bool.Decides.{nat_tests}

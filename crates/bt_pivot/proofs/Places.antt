@@ -1,5 +1,5 @@
 -- Where positions stand by the line of their class, and what can enter for them.
-use Rattle.std.proofs.Common.{◌≡◌, ◌-◌, ◌^◌, ◌<◌, Bool, true, false, ◌∷◌, Some, sym, subst, ℕ}
+use Rattle.std.proofs.Common.{◌≡◌, ◌-◌, ◌^◌, ◌<◌, Bool, true, false, ◌∷◌, Some, sym, subst, ℕ, []}
 use Rattle.std.specs.List.{All}
 use Rattle.bt_frac.specs.Rows.{IsRow}
 use Rattle.bt_frac.specs.Values.{AreValues}

@@ -1,5 +1,5 @@
 -- What lines add up to where their positions rest.
-use Rattle.std.proofs.Common.{◌≡◌, ◌+◌, ◌-◌, ◌<◌, arith, Bool, true, false, if◌then◌else◌, nat_lt, zero, suc, get_or, take, List, ◌∷◌, ◌++◌, length, Option, Some, None, inl, inr, ap, sym, ◌∙◌, refl, subst, ℕ}
+use Rattle.std.proofs.Common.{◌≡◌, ◌+◌, ◌-◌, ◌<◌, arith, Bool, true, false, if◌then◌else◌, nat_lt, zero, suc, get_or, take, List, ◌∷◌, ◌++◌, length, Option, Some, None, inl, inr, ap, sym, ◌∙◌, refl, subst, ℕ, []}
 use Rattle.std.specs.List.{All}
 use Rattle.std.proofs.lemmas.List.{take_more, get_or_past}
 use Rattle.std.proofs.lemmas.List.Elements.{All-head, All-tail, All-take}

@@ -1,5 +1,6 @@
 -- What short lines add up to where their positions rest.
-use Rattle.std.proofs.Common.{Ordering, Less, Equal, Greater, Bool, IsTrue, ◌↔◌, ◌<ℤ◌, inl, inr, ◌≡◌, ◌+◌, ◌-◌, ◌<◌, ◌≤◌, ◌^◌, arith, pos, ◌+ℤ◌, ◌*ℤ◌, ◌∷◌, length, take, get_or, Some, ap, sym, ◌∙◌, subst, ℕ, ℤ}
+use Rattle.std.proofs.Math.IntN.{pos-*ℤ-pos}
+use Rattle.std.proofs.Common.{Ordering, Less, Equal, Greater, Bool, IsTrue, ◌↔◌, ◌<ℤ◌, inl, inr, ◌≡◌, ◌+◌, ◌-◌, ◌<◌, ◌≤◌, ◌^◌, arith, pos, ◌+ℤ◌, ◌*ℤ◌, ◌∷◌, length, take, get_or, Some, ap, sym, ◌∙◌, subst, ℕ, ℤ, []}
 use Rattle.std.specs.List.{All}
 use Rattle.std.proofs.lemmas.Int.{ints}
 use Rattle.std.proofs.lemmas.List.{take_all}

@@ -1,5 +1,5 @@
 -- What stands at the positions of rows.
-use Rattle.std.proofs.Common.{◌-◌, arith, Bool, true, false, if◌then◌else◌, nat_lt, zero, suc, get_or, List, ◌∷◌, ℕ}
+use Rattle.std.proofs.Common.{◌-◌, arith, Bool, true, false, if◌then◌else◌, nat_lt, zero, suc, get_or, List, ◌∷◌, ℕ, []}
 use Rattle.std.specs.List.{All}
 use Rattle.std.proofs.lemmas.List.Elements.{All-head, All-tail}
 use Rattle.bt_frac.specs.Ratio.{Ratio, IsLowest}

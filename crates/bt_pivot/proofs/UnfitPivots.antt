@@ -1,5 +1,6 @@
 -- Where the lines after a pivot don't fit, and where they do.
-use Rattle.std.proofs.Common.{◌≡◌, ◌≢◌, ◌+◌, ◌*◌, ◌<◌, arith, suc, pos, neg_ℤ, ◌*ℤ◌, true, false, if◌then◌else◌, ◌==◌, ◌&&◌, ◌∷◌, length, set, length-set, Option, Some, None, ap, sym, ◌∙◌, refl, subst, inl, inr, ℕ, ℤ}
+use Rattle.std.proofs.Math.IntN.{*ℤ_comm}
+use Rattle.std.proofs.Common.{◌≡◌, ◌≢◌, ◌+◌, ◌*◌, ◌<◌, arith, suc, pos, neg_ℤ, ◌*ℤ◌, true, false, if◌then◌else◌, ◌==◌, ◌&&◌, ◌∷◌, length, set, length-set, Option, Some, None, ap, sym, ◌∙◌, refl, subst, inl, inr, ℕ, ℤ, []}
 use Rattle.std.proofs.lemmas.Int.{ints}
 use Rattle.std.proofs.lemmas.Bool.Decides.{nat_tests}
 use Rattle.std.proofs.lemmas.List.{get_or-set_same, get_or-set_other}

@@ -1,6 +1,6 @@
 -- Classes of positions whose terms are the same up to the sign: what is held once of a class gives the slots of all its
 -- members.
-use Rattle.std.specs.Prelude.{◌≡◌, ◌<◌, ◌+◌, ◌==◌, Bool, true, false, List, ◌∷◌, length, Option, Some, None, slice_index_or, if◌then◌else◌, ℕ}
+use Rattle.std.specs.Prelude.{◌≡◌, ◌<◌, ◌+◌, ◌==◌, Bool, true, false, List, ◌∷◌, length, Option, Some, None, slice_index_or, if◌then◌else◌, ℕ, []}
 use Rattle.bt_frac.specs.Ratio.{negated}
 use Rattle.bt_linear.specs.Lines.{one, Terms, signed_terms}
 use Rattle.bt_pivot.specs.SolvedForms.{Slots, slot_at}

@@ -1,6 +1,6 @@
 -- Positions, a basis, and its solved form: what stands at each position of the basis, by what stands at those outside
 -- it.
-use Rattle.std.specs.Prelude.{◌≡◌, ◌+◌, ◌-◌, ◌<◌, nat_lt, List, ◌∷◌, length, Option, Some, None, slice_index_or, if◌then◌else◌, ℕ}
+use Rattle.std.specs.Prelude.{◌≡◌, ◌+◌, ◌-◌, ◌<◌, nat_lt, List, ◌∷◌, length, Option, Some, None, slice_index_or, if◌then◌else◌, ℕ, []}
 use Rattle.std.specs.List.{All}
 use Rattle.bt_frac.specs.Ratio.{Ratio, SameRatio}
 use Rattle.bt_frac.specs.Rows.{RowParts}

@@ -1,5 +1,5 @@
 -- A tableau: rows over columns, which of the rows are bound, and a basis with its solved form.
-use Rattle.std.specs.Prelude.{◌≡◌, ◌+◌, ◌<◌, List, ◌∷◌, length, Bool, false, replicate, slice_set, ℕ}
+use Rattle.std.specs.Prelude.{◌≡◌, ◌+◌, ◌<◌, List, ◌∷◌, length, Bool, false, replicate, slice_set, ℕ, []}
 use Rattle.std.specs.List.{All}
 use Rattle.bt_frac.specs.Rows.{RowParts, IsRow}
 use Rattle.bt_pivot.specs.SolvedForms.{Slots, IsSolvedForm, basis_of}

@@ -1,5 +1,5 @@
 -- The list of a basis, position by position.
-use Rattle.std.proofs.Common.{◌≡◌, zero, suc, ◌+◌, ◌<◌, arith, drop, List, ◌∷◌, ◌++◌, length, Option, Some, None, ap, ◌∙◌, refl, ℕ}
+use Rattle.std.proofs.Common.{◌≡◌, zero, suc, ◌+◌, ◌<◌, arith, drop, List, ◌∷◌, ◌++◌, length, Option, Some, None, ap, ◌∙◌, refl, ℕ, []}
 use Rattle.bt_linear.specs.Lines.{Terms}
 use Rattle.bt_pivot.specs.SolvedForms.{Slots, slot_at, basis_from, InBasis}
 

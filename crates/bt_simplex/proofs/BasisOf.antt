@@ -1,5 +1,5 @@
 -- The list of a basis: its members, and that it ascends.
-use Rattle.std.proofs.Common.{◌≡◌, ◌⊎◌, inl, inr, zero, suc, ◌+◌, ◌≤◌, arith, List, ◌∷◌, length, Some, None, refl, subst, ℕ}
+use Rattle.std.proofs.Common.{◌≡◌, ◌⊎◌, inl, inr, zero, suc, ◌+◌, ◌≤◌, arith, List, ◌∷◌, length, Some, None, refl, subst, ℕ, []}
 use Rattle.bt_simplex.specs.Counting.{AscendsFrom}
 use Rattle.bt_pivot.specs.SolvedForms.{Slots, basis_from, basis_of, InBasis}
 

@@ -1,5 +1,5 @@
 -- The least position that terms name with a property, by a walk over a line.
-use Rattle.std.proofs.Common.{◌≡◌, ◌≢◌, ◌+◌, ◌<◌, ◌≤◌, arith, length, get_or, drop, ◌∷◌, Some, None, sym, ◌∙◌, refl, subst, inl, inr, ℕ}
+use Rattle.std.proofs.Common.{◌≡◌, ◌≢◌, ◌+◌, ◌<◌, ◌≤◌, arith, length, get_or, drop, ◌∷◌, Some, None, sym, ◌∙◌, refl, subst, inl, inr, ℕ, []}
 use Rattle.std.proofs.lemmas.List.{drop_all}
 use Rattle.bt_frac.specs.Ratio.{Ratio}
 use Rattle.bt_lin.specs.WeightedRows.{coefficient_at}

@@ -1,5 +1,5 @@
 -- The number that takes the place of the infinitesimal.
-use Rattle.std.proofs.Common.{◌≡◌, ◌≢◌, ◌⊎◌, ◌+◌, ◌<◌, ◌≤◌, arith, pos, neg_ℤ, ◌<ℤ◌, length, Some, below_more, sym, refl, subst, inl, inr, ℕ, ℤ}
+use Rattle.std.proofs.Common.{◌≡◌, ◌≢◌, ◌⊎◌, ◌+◌, ◌<◌, ◌≤◌, arith, pos, neg_ℤ, ◌<ℤ◌, length, Some, below_more, sym, refl, subst, inl, inr, ℕ, ℤ, lit<}
 use Rattle.std.proofs.Math.Nat.{one-dvd}
 use Rattle.std.proofs.lemmas.Int.{ints}
 use Rattle.bt_frac.specs.Ratio.{Ratio, SameRatio, IsLowest, IsLess, IsAtMost, IsSum, negated}

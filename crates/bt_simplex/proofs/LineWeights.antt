@@ -1,5 +1,5 @@
 -- The weights of the failing line are those of the basis.
-use Rattle.std.proofs.Common.{◌≡◌, ◌≢◌, ◌↔◌, ◌+◌, ◌-◌, ◌==◌, ◌≤◌, ◌*◌, arith, pos, ◌*ℤ◌, Bool, true, false, IsTrue, if◌then◌else◌, map, List, ◌∷◌, Some, None, ap, sym, ◌∙◌, refl, subst, inl, inr, ℕ, ℤ}
+use Rattle.std.proofs.Common.{◌≡◌, ◌≢◌, ◌↔◌, ◌+◌, ◌-◌, ◌==◌, ◌≤◌, ◌*◌, arith, pos, ◌*ℤ◌, Bool, true, false, IsTrue, if◌then◌else◌, map, List, ◌∷◌, Some, None, ap, sym, ◌∙◌, refl, subst, inl, inr, ℕ, ℤ, []}
 use Rattle.std.specs.List.{All}
 use Rattle.std.proofs.lemmas.Int.{ints}
 use Rattle.std.proofs.lemmas.Bool.Decides.{nat_tests}

@@ -1,5 +1,6 @@
 -- Settled values meet every bound row.
-use Rattle.std.proofs.Common.{◌≡◌, ◌⊎◌, ◌+◌, ◌-◌, ◌<◌, ◌*◌, arith, pos, negsuc, neg_ℤ, ◌<ℤ◌, ◌≤ℤ◌, ◌*ℤ◌, nat_lt, true, false, if◌then◌else◌, get_or, List, ◌∷◌, ◌++◌, below_more, length, Option, Some, None, ap, sym, ◌∙◌, refl, subst, inl, inr, ℕ, ℤ}
+use Rattle.std.proofs.Math.IntN.{zero-*ℤ, *ℤ_comm, pos-*ℤ-pos}
+use Rattle.std.proofs.Common.{◌≡◌, ◌⊎◌, ◌+◌, ◌-◌, ◌<◌, ◌*◌, arith, pos, negsuc, neg_ℤ, ◌<ℤ◌, ◌≤ℤ◌, ◌*ℤ◌, nat_lt, true, false, if◌then◌else◌, get_or, List, ◌∷◌, ◌++◌, below_more, length, Option, Some, None, ap, sym, ◌∙◌, refl, subst, inl, inr, ℕ, ℤ, []}
 use Rattle.std.specs.List.{All}
 use Rattle.std.proofs.lemmas.Int.{ints}
 use Rattle.bt_frac.proofs.Ring.{mul_neg}

@@ -1,5 +1,6 @@
 -- A product with 0, and what it adds to a sum.
-use Rattle.std.proofs.Common.{◌≡◌, ◌*◌, ◌/◌, ◌<◌, ◌^◌, arith, pos, None, ◌+ℤ◌, ◌*ℤ◌, ap, sym, ◌∙◌, refl, subst, ℕ, ℤ}
+use Rattle.std.proofs.Math.IntN.{*ℤ-zero}
+use Rattle.std.proofs.Common.{◌≡◌, ◌*◌, ◌/◌, ◌<◌, ◌^◌, arith, pos, None, ◌+ℤ◌, ◌*ℤ◌, ap, sym, ◌∙◌, refl, subst, ℕ, ℤ, lit<}
 use Rattle.std.proofs.lemmas.Int.{ints}
 use Rattle.bt_frac.proofs.Gcds.{coprime_one, whole_lowest}
 use Rattle.bt_frac.specs.Ratio.{Ratio, IsLowest, FitsPart, CanAdd}

@@ -1,5 +1,5 @@
 -- The weights of a basis at which a position fails and none can enter refute its bound rows.
-use Rattle.std.proofs.Common.{◌≡◌, ◌≢◌, ◌⊎◌, ◌↔◌, ◌+◌, ◌-◌, ◌<◌, ◌≤◌, arith, suc, zero, pos, negsuc, neg_ℤ, ◌<ℤ◌, ◌≤ℤ◌, ◌*ℤ◌, nat_lt, Bool, true, false, IsTrue, if◌then◌else◌, get_or, map, List, ◌∷◌, length, Option, Some, None, Ok, ap, sym, ◌∙◌, refl, subst, inl, inr, ℕ, ℤ}
+use Rattle.std.proofs.Common.{◌≡◌, ◌≢◌, ◌⊎◌, ◌↔◌, ◌+◌, ◌-◌, ◌<◌, ◌≤◌, arith, suc, zero, pos, negsuc, neg_ℤ, ◌<ℤ◌, ◌≤ℤ◌, ◌*ℤ◌, nat_lt, Bool, true, false, IsTrue, if◌then◌else◌, get_or, map, List, ◌∷◌, length, Option, Some, None, Ok, ap, sym, ◌∙◌, refl, subst, inl, inr, ℕ, ℤ, []}
 use Rattle.std.specs.List.{All, Any, cons_option}
 use Rattle.std.specs.Option.{option_map}
 use Rattle.std.proofs.lemmas.Int.{ints}

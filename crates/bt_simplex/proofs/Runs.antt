@@ -1,5 +1,5 @@
 -- Bland's pivots one after the other.
-use Rattle.std.proofs.Common.{◌≡◌, ◌+◌, ◌<◌, ◌≤◌, arith, length-append, List, ◌∷◌, ◌++◌, length, Option, Some, None, Result, Ok, Err, IfOk, sym, ◌∙◌, refl, subst, inl, inr, ℕ}
+use Rattle.std.proofs.Common.{◌≡◌, ◌+◌, ◌<◌, ◌≤◌, arith, length-append, List, ◌∷◌, ◌++◌, length, Option, Some, None, Result, Ok, Err, IfOk, sym, ◌∙◌, refl, subst, inl, inr, ℕ, []}
 use Rattle.std.proofs.lemmas.List.{get_or_past}
 use Rattle.bt_pivot.specs.SolvedForms.{Slots, slot_at, basis_of, IsOutside, IsSolvedForm}
 use Rattle.bt_pivot.specs.Tableaus.{TableauParts, IsTableau, with_slots}

@@ -1,4 +1,5 @@
 -- Signs of fractions, of their sums and of their products.
+use Rattle.std.proofs.Math.IntN.{zero-*ℤ, pos-*ℤ-pos}
 use Rattle.std.proofs.Common.{◌≡◌, ◌⊎◌, ◌*◌, ◌<◌, arith, pos, negsuc, neg_ℤ, ◌+ℤ◌, ◌*ℤ◌, ◌<ℤ◌, ◌≤ℤ◌, ap, sym, ◌∙◌, subst, inl, inr, ℕ, ℤ}
 use Rattle.std.proofs.lemmas.Int.{ints}
 use Rattle.std.specs.Ordering.{MatchOrdering, int_cmp}

@@ -1,5 +1,5 @@
 -- The pivots of a run: what enters and what leaves in it.
-use Rattle.std.proofs.Common.{◌≡◌, ◌≢◌, ◌⊎◌, ◌↔◌, inl, inr, ◌<◌, ◌≤◌, arith, List, ◌∷◌, Option, Some, None, ap, sym, ◌∙◌, refl, subst, ℕ}
+use Rattle.std.proofs.Common.{◌≡◌, ◌≢◌, ◌⊎◌, ◌↔◌, inl, inr, ◌<◌, ◌≤◌, arith, List, ◌∷◌, Option, Some, None, ap, sym, ◌∙◌, refl, subst, ℕ, []}
 use Rattle.std.proofs.lemmas.Bool.{cases_lt}
 use Rattle.bt_linear.specs.Lines.{Terms}
 use Rattle.bt_pivot.specs.SolvedForms.{Slots, slot_at, IsOutside, InBasis}

@@ -1,5 +1,5 @@
 -- Where a sum of weighted rows is wide, and by which operation.
-use Rattle.std.proofs.Common.{◌≡◌, ◌<◌, ◌+◌, arith, List, ◌∷◌, ◌++◌, length, get_or, take, drop, take-append-drop, Some, None, map, zero, suc, ◌⊎◌, inl, inr, ap, sym, ◌∙◌, refl, subst, ℕ}
+use Rattle.std.proofs.Common.{◌≡◌, ◌<◌, ◌+◌, arith, List, ◌∷◌, ◌++◌, length, get_or, take, drop, take-append-drop, Some, None, map, zero, suc, ◌⊎◌, inl, inr, ap, sym, ◌∙◌, refl, subst, ℕ, []}
 use Rattle.std.specs.List.{All}
 use Rattle.std.specs.Prelude.{Contains}
 use Rattle.std.proofs.lemmas.List.{get_or_default, length-take-le}

@@ -1,5 +1,5 @@
 -- What a check of a tableau answers.
-use Rattle.std.specs.Prelude.{◌≡◌, ◌+◌, ◌<◌, ◌≤◌, List, ◌∷◌, length, Bool, true, false, slice_index_or, Ok, ℕ}
+use Rattle.std.specs.Prelude.{◌≡◌, ◌+◌, ◌<◌, ◌≤◌, List, ◌∷◌, length, Bool, true, false, slice_index_or, Ok, ℕ, []}
 use Rattle.std.specs.List.{All}
 use Rattle.bt_frac.specs.Ratio.{Ratio}
 use Rattle.bt_frac.specs.Columns.{AreColumnsFrom}

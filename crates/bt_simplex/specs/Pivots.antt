@@ -1,5 +1,5 @@
 -- Pivots of a basis by Bland's rule: the least position that fails leaves, and the least that can enter does.
-use Rattle.std.specs.Prelude.{◌≡◌, ◌≢◌, ◌⊎◌, ◌↔◌, ◌≤◌, pos, ◌<ℤ◌, List, ◌∷◌, Some, None, ℕ}
+use Rattle.std.specs.Prelude.{◌≡◌, ◌≢◌, ◌⊎◌, ◌↔◌, ◌≤◌, pos, ◌<ℤ◌, List, ◌∷◌, Some, None, ℕ, []}
 use Rattle.bt_frac.specs.Ratio.{Ratio}
 use Rattle.bt_frac.specs.Rows.{RowParts}
 use Rattle.bt_frac.specs.Deltas.{IsLessDelta}

@@ -1,4 +1,4 @@
-use Rattle.std.proofs.Common.{FitsSigned, ◌*ℤ◌, ◌≤◌, ◌^◌, unsigned_abs, arith, rules, ap, subst, sym}
+use Rattle.std.proofs.Common.{FitsSigned, ◌*ℤ◌, ◌≤◌, ◌^◌, unsigned_abs, arith, rules, ap, subst, sym, lit<}
 use Rattle.std.specs.Int.{w64}
 use Rattle.std.proofs.lemmas.Int.{ints, to_z-of_z, fits_signed_mul}
 use Rattle.bt_pivot.proofs.short_points.multiple.Goals as goal

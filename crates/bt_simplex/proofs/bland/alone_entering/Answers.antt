@@ -1,4 +1,4 @@
-use Rattle.std.proofs.Common.{◌<◌, ◌≤◌, ◌∷◌, arith, subst, sym}
+use Rattle.std.proofs.Common.{◌<◌, ◌≤◌, ◌∷◌, arith, subst, sym, []}
 use Rattle.std.proofs.lemmas.Bool.{iff_false}
 use Rattle.bt_linear.specs.Lines.{signed_terms, one}
 use Rattle.bt_simplex.specs.inner.Bases.{MayEnter}

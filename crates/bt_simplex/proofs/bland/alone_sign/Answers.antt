@@ -1,4 +1,4 @@
-use Rattle.std.proofs.Common.{◌∷◌, Less, Greater, refl, arith, pos, ◌<ℤ◌, sym, subst}
+use Rattle.std.proofs.Common.{◌∷◌, Less, Greater, refl, arith, pos, ◌<ℤ◌, sym, subst, []}
 use Rattle.std.proofs.lemmas.Int.{ints}
 use Rattle.bt_frac.specs.Ratio.{negated}
 use Rattle.bt_linear.specs.Lines.{signed_terms, one}

@@ -1,4 +1,4 @@
-use Rattle.std.proofs.Common.{◌≡◌, ◌≤◌, None, ◌∷◌, arith, ◌∙◌, ap, map, sym, subst}
+use Rattle.std.proofs.Common.{◌≡◌, ◌≤◌, None, ◌∷◌, arith, ◌∙◌, ap, map, sym, subst, []}
 use Rattle.std.specs.List.{All}
 use Rattle.bt_frac.specs.Ratio.{negated}
 use Rattle.bt_lin.specs.WeightedRows.{coefficient_at}

@@ -1,4 +1,4 @@
-use Rattle.std.proofs.Common.{◌≡◌, ◌∙◌, ◌+◌, ◌<◌, arith, ap, sym, subst, length, length-append, List, ◌∷◌, ◌++◌, ℕ}
+use Rattle.std.proofs.Common.{◌≡◌, ◌∙◌, ◌+◌, ◌<◌, arith, ap, sym, subst, length, length-append, List, ◌∷◌, ◌++◌, ℕ, []}
 use Rattle.bt_frac.specs.Values.{value_in}
 use Rattle.bt_pivot.specs.Tableaus.{with_slots}
 use Rattle.bt_simplex.specs.inner.Settling.{IsSettled}

@@ -1,4 +1,4 @@
-use Rattle.std.proofs.Common.{◌≡◌, ◌<◌, ◌≤◌, arith, length, false, Some, None, ◌∷◌, ap, sym, ◌∙◌, subst}
+use Rattle.std.proofs.Common.{◌≡◌, ◌<◌, ◌≤◌, arith, length, false, Some, None, ◌∷◌, ap, sym, ◌∙◌, subst, []}
 use Rattle.bt_linear.specs.Lines.{one, signed_terms}
 use Rattle.bt_pivot.specs.Classes.{member_at, slots_of}
 use Rattle.bt_pivot.specs.SolvedForms.{slot_at}

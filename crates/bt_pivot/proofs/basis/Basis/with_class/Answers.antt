@@ -1,4 +1,4 @@
-use Rattle.std.proofs.Common.{◌≡◌, arith, length, ◌∷◌, ◌++◌, ap, ◌∙◌}
+use Rattle.std.proofs.Common.{◌≡◌, arith, length, ◌∷◌, ◌++◌, ap, ◌∙◌, []}
 use Rattle.bt_pivot.proofs.GrowingClasses.{own_made}
 use Rattle.bt_pivot.proofs.basis.Basis.with_class.Goals as goal
 

@@ -1,4 +1,4 @@
-use Rattle.std.proofs.Common.{◌≡◌, ◌<◌, length, ◌∷◌, ◌++◌, Some, ap, ◌∙◌, subst}
+use Rattle.std.proofs.Common.{◌≡◌, ◌<◌, length, ◌∷◌, ◌++◌, Some, ap, ◌∙◌, subst, []}
 use Rattle.bt_pivot.specs.Classes.{class_terms, position_at}
 use Rattle.bt_pivot.specs.SolvedForms.{slot_at}
 use Rattle.bt_pivot.proofs.GrowingClasses.{joined_made}
