@@ -17,7 +17,7 @@ use Rattle.bt_pivot.specs.declared.causes.Cause.{Cause}
 use Rattle.bt_simplex.specs.inner.UnfitPoints.{AddsTerm, IsUnfitTerm, IsUnfitPoint, value_cause}
 use Rattle.bt_linear.proofs.NamedTerms.{item_named, drop_here}
 use Rattle.bt_linear.proofs.Numbers.{Positive, alike}
-use Rattle.bt_pivot.proofs.Resting.{rest_value, rest_tiny}
+use Rattle.bt_pivot.proofs.Resting.{part_more, rest_value, rest_tiny}
 
 -- the same of both parts of a point
 pub point_more : (t : TableauParts) → IsTableau t → (terms : Terms) → IsLine terms → (i : ℕ) (x : ℕ × Ratio) (sum after : Delta) → i < length terms → x ≡ get_or terms i x

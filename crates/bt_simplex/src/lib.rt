@@ -4,6 +4,7 @@
 
 mod answers;
 mod bland;
+mod concluding;
 mod law;
 mod lemmas;
 mod points;

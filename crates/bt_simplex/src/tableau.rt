@@ -1,21 +1,14 @@
 //! Tableaus: rows over columns, of which some are bound, and a basis with its solved form.
-ghost use Rattle.std.specs.Prelude.{◌≡◌, ℕ, ◌<◌, IfOk, IfSome, OnErr, MatchOption, Some, None, length, true, false, IsTrue, slice_index_or};
-ghost use Rattle.bt_simplex.specs.Checks.{IsCheck, StartsAt};
-ghost use Rattle.bt_pivot.specs.Tableaus.{with_slots};
-ghost use Rattle.bt_simplex.specs.inner.Checking.{Concludes, IsWideFor, slots_after};
-ghost use Rattle.bt_simplex.specs.inner.Runs.{IsRun};
-ghost use Rattle.bt_pivot.specs.inner.Rests.{IsRestOf};
-ghost use Rattle.bt_pivot.specs.Points.{relation_of};
+ghost use Rattle.std.specs.Prelude.{◌≡◌, ◌<◌, IfOk, OnErr, MatchOption, Some, None, length, true, false};
 ghost use Rattle.bt_pivot.specs.Points.{bound_row};
-ghost use Rattle.bt_pivot.specs.Tableaus.{AreOverColumns, IsNew, IsBoundAs, IsTableau};
+ghost use Rattle.bt_pivot.specs.Tableaus.{AreOverColumns, IsNew, IsBoundAs, IsTableau, with_slots};
+ghost use Rattle.bt_simplex.specs.Checks.{IsCheck};
+ghost use Rattle.bt_simplex.specs.inner.Checking.{Concludes, slots_after};
 
-use crate::answers::{Check, PivotTrace, Wide};
-use crate::lemmas::lemma;
-use crate::running::{End, pivoted_from};
-use crate::settling::settled;
-use crate::traces::{bound_rows, positions};
+use crate::answers::Check;
+use crate::concluding::checked;
 use bt_frac::Row;
-use bt_pivot::{Basis, Cause, Table, Pivot, Workspace};
+use bt_pivot::{Table, Workspace};
 use std::alloc::{AllocError, Global};
 use std::marker::Model;
 
@@ -103,37 +96,7 @@ impl Tableau {
         requires { work.old.basis ≡ self.now.slots }
         ensures { IfOk result (Concludes pivots self.now work.new.basis) }
     {
-        self.all_known();
-        let mut steps = Vec::new(alloc);
-        let end = pivoted_from(&self.table, alloc, work, &mut steps, pivots)?;
-        self.answer(alloc, steps, &work.basis, end)
-    }
-
-    /// The answer where these pivots lead to this basis, and end there.
-    fn answer(
-        &self,
-        alloc: Global,
-        steps: Vec<Pivot>,
-        basis: &Basis,
-        end: End,
-    ) -> Result<Check, AllocError>
-        requires tableau { IsTableau self.now }
-        requires run { (pivots : ℕ) × IsRun pivots self.now steps.items basis.now end }
-        ensures { (pivots : ℕ) → IsRun pivots self.now steps.items basis.now end
-            → IfOk result (Concludes pivots self.now basis.now) }
-    {
-        match end {
-            End::Met => match settled(&self.table, alloc, basis)? {
-                Ok(values) => Ok(Check::Sat(values)),
-                Err(cause) => Ok(Check::Wide(self.wide(alloc, steps, basis, cause)?)),
-            },
-            End::Stuck(position) => match lemma(&self.table, alloc, basis, position)? {
-                Ok(weights) => Ok(Check::Unsat(weights)),
-                Err(cause) => Ok(Check::Wide(self.wide(alloc, steps, basis, cause)?)),
-            },
-            End::Pivots => Ok(Check::Pivots(self.trace(alloc, steps)?)),
-            End::Wide(cause) => Ok(Check::Wide(self.wide(alloc, steps, basis, cause)?)),
-        }
+        checked(&self.table, alloc, pivots, work)
     }
 
     /// Takes in the basis that the pivots of a check lead to, where that is final, and keeps the other one's memory for the
@@ -160,39 +123,6 @@ impl Tableau {
             rooms,
             kept,
         };
-    }
-
-    /// The trace of these pivots from the tableau's basis on.
-    fn trace(&self, alloc: Global, steps: Vec<Pivot>) -> Result<PivotTrace, AllocError>
-        ensures { IfOk result (λ trace. StartsAt self.now trace × (trace.steps ≡ steps)) }
-    {
-        Ok(PivotTrace {
-            start: positions(alloc, self.table.basis())?,
-            bound: bound_rows(alloc, self.table.bound())?,
-            steps,
-        })
-    }
-
-    /// The cause, after these pivots, which lead to this basis.
-    fn wide(
-        &self,
-        alloc: Global,
-        steps: Vec<Pivot>,
-        basis: &Basis,
-        cause: Cause,
-    ) -> Result<Wide, AllocError>
-        ensures { IfOk result (IsWideFor self.now steps.items basis.now cause) }
-    {
-        Ok(Wide {
-            trace: self.trace(alloc, steps)?,
-            place: cause.place,
-            basis: positions(alloc, basis)?,
-            row: cause.row,
-            column: cause.column,
-            operation: cause.operation,
-            left: cause.left,
-            right: cause.right,
-        })
     }
 
     /// The rows.
