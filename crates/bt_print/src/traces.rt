@@ -8,7 +8,7 @@ ghost use Rattle.bt_print.specs.TraceText.{pivots_text, wide_head, wide_end, end
 
 use bt_frac::TEXT_MAX;
 use bt_io::{Sink, WriteFault, write_all_of, write_pieces};
-use bt_simplex::{Operation, PivotTrace, Pivot, Wide, WidePlace};
+use bt_simplex::{Operation, Pivot, PivotTrace, Wide, WidePlace};
 use itoa::Buffer;
 
 /// Writes the one text of a trace whose pivots are as many as they may be: the line `pivots` with their

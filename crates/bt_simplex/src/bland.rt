@@ -19,7 +19,7 @@ ghost use Rattle.bt_linear.specs.TermSigns.{IsSign, IsSignedTerm};
 use crate::points::{bound_value, point};
 use bt_frac::{Delta, Relation, Row};
 use bt_linear::Line;
-use bt_pivot::{Basis, Cause, Place, SumCache, Table, Pivot, fails_whole, whole_order};
+use bt_pivot::{Basis, Cause, Pivot, Place, SumCache, Table, fails_whole, whole_order};
 use std::cmp::Ordering;
 
 /// The least position that has a property.
@@ -202,12 +202,7 @@ fn alone_sign(negated: bool) -> Ordering
 }
 
 /// The position, where it may be moved as the only one of a line, with the number 1, or -1 where this is told.
-fn alone_entering(
-    tableau: &Table,
-    bound: Ordering,
-    position: usize,
-    negated: bool,
-) -> Option<usize>
+fn alone_entering(tableau: &Table, bound: Ordering, position: usize, negated: bool) -> Option<usize>
     requires { position < 2 ^ 64 - 1 }
     ensures { (row : RowParts) (point : Delta) → IsOrderOfDeltas bound (bound_value row) point
         → IsLeastOf

@@ -8,7 +8,7 @@ ghost use Rattle.bt_simplex.specs.inner.Runs.{IsMade, IsRun};
 ghost use Rattle.bt_pivot.specs.PivotedSlots.{IsUnfitPivot};
 
 use crate::bland::{Next, blands_next};
-use bt_pivot::{Basis, Cause, Rooms, SumCache, Table, Pivot, Workspace, pivot};
+use bt_pivot::{Basis, Cause, Pivot, Rooms, SumCache, Table, Workspace, pivot};
 use std::alloc::{AllocError, Global};
 
 /// Where a run of pivots ends.

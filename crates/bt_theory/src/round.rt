@@ -15,7 +15,7 @@ use crate::scope::{Scope, first_conflict};
 use bt_cnf::Chooser;
 use bt_frac::Frac;
 use bt_sat::{Added, Answer, Solver};
-use bt_simplex::{Check, Tableau, PivotTrace, Wide};
+use bt_simplex::{Check, PivotTrace, Tableau, Wide};
 use std::alloc::{AllocError, Global};
 
 /// How a search ends. The log stays with the solver.

@@ -1,9 +1,9 @@
-//! Texts of trails with and without turns, worked out by hand.
+//! Texts of traces with and without pivots, worked out by hand.
 use super::fields;
 use bt_frac::Frac;
 use bt_io::MemSink;
 use bt_print::{print_pivots, print_wide};
-use bt_simplex::{Operation, Trail, Turn, Wide, WidePlace};
+use bt_simplex::{Operation, Pivot, PivotTrace, Wide, WidePlace};
 use std::alloc::{AllocError, Global};
 use std::test::Fail;
 
@@ -15,11 +15,11 @@ const WIDE: &[&str] = &[
     "lemma|mul|wide lemma 4 1\nstart 3 4 10\nbound 0\nturn 3 1\nnumbers mul 1/3 -2\nend\n",
 ];
 
-fn trail(alloc: Global, turns: &[Turn]) -> Result<Trail, AllocError> {
-    Ok(Trail {
+fn trace(alloc: Global, steps: &[Pivot]) -> Result<PivotTrace, AllocError> {
+    Ok(PivotTrace {
         start: vec![in alloc; 3, 4, 10]?,
         bound: vec![in alloc; 0]?,
-        turns: Vec::from_slice(alloc, turns)?,
+        steps: Vec::from_slice(alloc, steps)?,
     })
 }
 
@@ -40,23 +40,23 @@ fn operation_named(name: &str) -> Operation {
     }
 }
 
-/// Whether turns are printed as this text.
-fn is_printed(alloc: Global, turns: &[Turn], text: &str) -> Result<bool, AllocError> {
-    let trail = trail(alloc, turns)?;
+/// Whether steps are printed as this text.
+fn is_printed(alloc: Global, steps: &[Pivot], text: &str) -> Result<bool, AllocError> {
+    let trace = trace(alloc, steps)?;
     let mut sink = MemSink::new(alloc, 100, Vec::new(alloc), 7)?;
-    let printed = print_pivots(&trail, &mut sink).is_ok();
+    let printed = print_pivots(&trace, &mut sink).is_ok();
     Ok(printed && sink.held() == text.as_bytes())
 }
 
 /// The numbers of a place and an operation.
 fn wide(alloc: Global, place: &str, operation: &str) -> Result<Wide, AllocError> {
-    let turn = Turn {
+    let pivot = Pivot {
         leaves: 3,
         enters: 1,
     };
     let basis = vec![in alloc; 1, 4, 10]?;
     Ok(Wide {
-        trail: trail(alloc, &[turn])?,
+        trace: trace(alloc, &[pivot])?,
         place: place_named(place),
         basis,
         row: 4,
@@ -81,19 +81,19 @@ fn is_wide(alloc: Global, row: &str) -> Result<bool, AllocError> {
 }
 
 #[test]
-fn trails(rt: HostRuntime) -> Result<(), Fail> {
-    let turn = Turn {
+fn traces(rt: HostRuntime) -> Result<(), Fail> {
+    let pivot = Pivot {
         leaves: 3,
         enters: 1,
     };
-    let last = Turn {
+    let last = Pivot {
         leaves: 10,
         enters: 3,
     };
     let none = "pivots 0\nstart 3 4 10\nbound 0\nend\n";
     let two = "pivots 2\nstart 3 4 10\nbound 0\nturn 3 1\nturn 10 3\nend\n";
     assert!(rt; is_printed(rt.alloc(), &[], none)?);
-    assert!(rt; is_printed(rt.alloc(), &[turn, last], two)?);
+    assert!(rt; is_printed(rt.alloc(), &[pivot, last], two)?);
     for row in WIDE {
         assert!(rt; is_wide(rt.alloc(), row)?, "{row:?}");
     }
