@@ -12,8 +12,8 @@ const ALWAYS: usize = 108;
 /// How many rows are bound or let go before each check.
 const CHANGES: u32 = 4;
 
-/// The most turns of a check.
-const TURNS: u64 = 10_000;
+/// The most pivots of a check.
+const PIVOTS: u64 = 10_000;
 
 /// Binds a row, or lets it go where it is bound.
 fn change(tableau: &mut Tableau, row: usize) {
@@ -63,7 +63,7 @@ fn met_often(alloc: Global, tableau: &mut Tableau, rounds: u64) -> Result<usize,
     let mut seed = 1;
     for _ in 0..rounds {
         seed = change_some(tableau, seed);
-        if let Check::Sat(_) = tableau.check(alloc, TURNS)? {
+        if let Check::Sat(_) = tableau.check(alloc, PIVOTS)? {
             met = met.wrapping_add(1);
         }
     }

@@ -1,4 +1,4 @@
 pub mod Unwritten
-pub mod TrailTexts
+pub mod TraceTexts
 pub mod Atoms
 pub mod FormulaTexts

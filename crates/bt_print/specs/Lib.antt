@@ -1,5 +1,5 @@
 pub mod NetTexts
-pub mod TrailText
+pub mod TraceText
 pub mod FormulaText
 pub mod Legends
 pub mod inner

@@ -1,4 +1,4 @@
-//! The printers of texts that other programs read: a network, and that with lines of a request; the trail that a check of a
+//! The printers of texts that other programs read: a network, and that with lines of a request; the trace that a check of a
 //! tableau leaves behind where it gives no answer; and a formula, its clauses in DIMACS behind comments that tell what the
 //! variables mean.
 #![tactic(auto)]
@@ -10,9 +10,9 @@ mod formulas;
 mod line_buffer;
 mod networks;
 mod rows;
-mod trails;
+mod traces;
 
 pub use columns::Columns;
 pub use formulas::{print_flow_formula, print_place_formula};
 pub use networks::{print, print_with};
-pub use trails::{print_pivots, print_wide};
+pub use traces::{print_pivots, print_wide};

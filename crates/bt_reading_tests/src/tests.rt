@@ -4,8 +4,8 @@ mod entities;
 mod io;
 mod json;
 mod log;
+mod pivot_trace;
 mod text;
-mod trail;
 mod words;
 mod write;
 

@@ -1,8 +1,7 @@
 -- The list of a basis, position by position.
-use Rattle.std.proofs.Common.{◌≡◌, ℕ, zero, suc, ◌+◌, ◌<◌, arith, drop, List, [], ◌∷◌, ◌++◌, length, Option, Some, None, ap, ◌∙◌, refl}
-use Rattle.bt_line.specs.Lines.{Terms}
-use Rattle.bt_simplex.specs.SolvedForms.{Slots, slot_at, basis_from}
-use Rattle.bt_simplex.specs.Turns.{InBasis}
+use Rattle.std.proofs.Common.{◌≡◌, zero, suc, ◌+◌, ◌<◌, arith, drop, List, ◌∷◌, ◌++◌, length, Option, Some, None, ap, ◌∙◌, refl, ℕ, []}
+use Rattle.bt_linear.specs.Lines.{Terms}
+use Rattle.bt_pivot.specs.SolvedForms.{Slots, slot_at, basis_from, InBasis}
 
 slot_next : (slots : Slots) (p : ℕ) → p < length slots → drop p slots ≡ slot_at slots p ∷ drop (suc p) slots
 slot_next [] p h = absurd (omega arith)

@@ -1,8 +1,7 @@
 -- The list of a basis: its members, and that it ascends.
-use Rattle.std.proofs.Common.{◌≡◌, ◌⊎◌, inl, inr, ℕ, zero, suc, ◌+◌, ◌≤◌, arith, List, [], ◌∷◌, length, Some, None, refl, subst}
+use Rattle.std.proofs.Common.{◌≡◌, ◌⊎◌, inl, inr, zero, suc, ◌+◌, ◌≤◌, arith, List, ◌∷◌, length, Some, None, refl, subst, ℕ, []}
 use Rattle.bt_simplex.specs.Counting.{AscendsFrom}
-use Rattle.bt_simplex.specs.SolvedForms.{Slots, basis_from, basis_of}
-use Rattle.bt_simplex.specs.Turns.{InBasis}
+use Rattle.bt_pivot.specs.SolvedForms.{Slots, basis_from, basis_of, InBasis}
 
 -- a number is one of a list
 IsOneOf : List ℕ → ℕ → Type 0

@@ -1,31 +1,30 @@
 -- What a check answers, by where its run ends.
-use Rattle.std.proofs.Common.{◌≡◌, ℕ, ◌<◌, ◌≤◌, List, Vec, Global, length, ap, sym, ◌∙◌, refl, subst}
+use Rattle.std.proofs.Common.{◌≡◌, ◌<◌, ◌≤◌, List, Vec, Global, length, ap, sym, ◌∙◌, refl, subst, ℕ}
 use Rattle.bt_frac.specs.Ratio.{Ratio}
 use Rattle.bt_simplex.specs.Counting.{most_bases}
-use Rattle.bt_simplex.specs.SolvedForms.{Slots}
-use Rattle.bt_simplex.specs.Tableaus.{TableauParts, IsTableau}
-use Rattle.bt_simplex.specs.Turns.{IsMet, IsStuckAt, Follows}
+use Rattle.bt_pivot.specs.SolvedForms.{Slots}
+use Rattle.bt_pivot.specs.Tableaus.{TableauParts, IsTableau, with_slots}
+use Rattle.bt_simplex.specs.Pivots.{IsMet, IsStuckAt, Follows}
 use Rattle.bt_simplex.specs.Runs.{LeadsTo}
 use Rattle.bt_simplex.specs.Causes.{IsCause}
 use Rattle.bt_simplex.specs.Checks.{StartsAt, IsPivots, IsWideCheck, MeetsBoundRows, RefutesBoundRows}
-use Rattle.bt_simplex.specs.declared.tableau.Turn.{Turn}
-use Rattle.bt_simplex.specs.declared.answers.Trail.{Trail}
+use Rattle.bt_pivot.specs.declared.basis.Pivot.{Pivot}
+use Rattle.bt_simplex.specs.declared.answers.PivotTrace.{PivotTrace}
 use Rattle.bt_simplex.specs.declared.answers.Wide.{Wide}
 use Rattle.bt_simplex.specs.declared.answers.Check.TheVariants.{Sat, Unsat, Pivots as Limit, Wide as Unfit}
-use Rattle.bt_simplex.specs.declared.causes.Cause.{Cause}
+use Rattle.bt_pivot.specs.declared.causes.Cause.{Cause}
 use Rattle.bt_simplex.specs.declared.running.End.{End}
 use Rattle.bt_simplex.specs.declared.running.End.TheVariants.{Met, Stuck, Pivots, Wide as TooWide}
-use Rattle.bt_simplex.specs.inner.Bases.{with_slots}
 use Rattle.bt_simplex.specs.inner.Checking.{Concludes, IsWideFor}
 use Rattle.bt_simplex.specs.inner.Runs.{IsEnd, IsRun}
-use Rattle.bt_simplex.proofs.FewTurns.{few_turns}
+use Rattle.bt_simplex.proofs.FewPivots.{few_steps}
 
-module _ (pivots : ℕ) (t : TableauParts) (turns : List Turn) (slots : Slots) (end : End) (is : IsRun pivots t turns slots end) where
-  ends : (other : End) → end ≡ other → IsEnd pivots t is.last turns slots other
-  ends other e = subst (λ x. IsEnd pivots t is.last turns slots x) e is.ends
+module _ (pivots : ℕ) (t : TableauParts) (steps : List Pivot) (slots : Slots) (end : End) (is : IsRun pivots t steps slots end) where
+  ends : (other : End) → end ≡ other → IsEnd pivots t is.last steps slots other
+  ends other e = subst (λ x. IsEnd pivots t is.last steps slots x) e is.ends
 
   leads : is.last ≡ with_slots t slots → LeadsTo pivots t (with_slots t slots)
-  leads e = record { turns = turns; few = is.few; follows = subst (λ u. Follows t turns u) e is.follows }
+  leads e = record { steps = steps; few = is.few; follows = subst (λ u. Follows t steps u) e is.follows }
 
   pub met_tableau : end ≡ Met → IsTableau (with_slots t slots)
   met_tableau e = let h = ends Met e in subst IsTableau h.0 h.1
@@ -53,12 +52,12 @@ module _ (pivots : ℕ) (t : TableauParts) (turns : List Turn) (slots : Slots) (
     checked = (leads (ends (Stuck position) e).0, (position, stuck_stuck position e), record { ascend = refutes.ascend; bound = refutes.bound; accepted = refutes.accepted });
   }
 
-  pivots_answer : IsTableau t → end ≡ Pivots → (trail : Trail) → StartsAt t trail → trail.turns.items ≡ turns → IsPivots pivots t trail
-  pivots_answer tableau e trail starts same =
+  pivots_answer : IsTableau t → end ≡ Pivots → (trace : PivotTrace) → StartsAt t trace → trace.steps.items ≡ steps → IsPivots pivots t trace
+  pivots_answer tableau e trace starts same =
       let h = ends Pivots e in
       record {
         starts = starts;
-        few = subst (λ n. n < most_bases t.columns t.rows) h.0 (few_turns t turns is.last tableau is.follows);
+        few = subst (λ n. n < most_bases t.columns t.rows) h.0 (few_steps t steps is.last tableau is.follows);
         goes_on = record {
           many = ap length same ∙ h.0;
           last = is.last;
@@ -67,27 +66,27 @@ module _ (pivots : ℕ) (t : TableauParts) (turns : List Turn) (slots : Slots) (
         };
       }
 
-  pub pivots_concludes : (trail : Trail) → IsTableau t → end ≡ Pivots → StartsAt t trail → trail.turns.items ≡ turns → Concludes pivots t slots (Limit trail)
-  pivots_concludes trail tableau e starts same = record { tableau = tableau; checked = (refl, pivots_answer tableau e trail starts same) }
+  pub pivots_concludes : (trace : PivotTrace) → IsTableau t → end ≡ Pivots → StartsAt t trace → trace.steps.items ≡ steps → Concludes pivots t slots (Limit trace)
+  pivots_concludes trace tableau e starts same = record { tableau = tableau; checked = (refl, pivots_answer tableau e trace starts same) }
 
-  wide_concludes : (cause : Cause) (answer : Wide) → IsTableau t → IsCause is.last cause → IsWideFor t turns slots cause answer → Concludes pivots t slots (Unfit answer)
+  wide_concludes : (cause : Cause) (answer : Wide) → IsTableau t → IsCause is.last cause → IsWideFor t steps slots cause answer → Concludes pivots t slots (Unfit answer)
   wide_concludes cause answer tableau told answers =
       let wide : IsWideCheck pivots t answer = record {
         starts = answers.starts;
-        few = subst (λ l. length l ≤ pivots) (sym answers.turns_are) is.few;
+        few = subst (λ l. length l ≤ pivots) (sym answers.steps_are) is.few;
         last = is.last;
-        follows = subst (λ l. Follows t l is.last) (sym answers.turns_are) is.follows;
+        follows = subst (λ l. Follows t l is.last) (sym answers.steps_are) is.follows;
         basis = answers.basis ∙ is.basis;
         cause = subst (λ c. IsCause is.last c) (sym answers.cause_is) told;
       } in record { tableau = tableau; checked = (refl, wide) }
 
-  pub met_wide : (cause : Cause) (answer : Wide) → IsTableau t → end ≡ Met → IsCause (with_slots t slots) cause → IsWideFor t turns slots cause answer
+  pub met_wide : (cause : Cause) (answer : Wide) → IsTableau t → end ≡ Met → IsCause (with_slots t slots) cause → IsWideFor t steps slots cause answer
       → Concludes pivots t slots (Unfit answer)
   met_wide cause answer tableau e told = wide_concludes cause answer tableau (subst (λ u. IsCause u cause) (sym (ends Met e).0) told)
 
   pub stuck_wide : (cause : Cause) (answer : Wide) (position : ℕ) → IsTableau t → end ≡ Stuck position → IsCause (with_slots t slots) cause
-      → IsWideFor t turns slots cause answer → Concludes pivots t slots (Unfit answer)
+      → IsWideFor t steps slots cause answer → Concludes pivots t slots (Unfit answer)
   stuck_wide cause answer position tableau e told = wide_concludes cause answer tableau (subst (λ u. IsCause u cause) (sym (ends (Stuck position) e).0) told)
 
-  pub turn_wide : (cause : Cause) (answer : Wide) → IsTableau t → end ≡ TooWide cause → IsWideFor t turns slots cause answer → Concludes pivots t slots (Unfit answer)
-  turn_wide cause answer tableau e = wide_concludes cause answer tableau (ends (TooWide cause) e)
+  pub pivot_wide : (cause : Cause) (answer : Wide) → IsTableau t → end ≡ TooWide cause → IsWideFor t steps slots cause answer → Concludes pivots t slots (Unfit answer)
+  pivot_wide cause answer tableau e = wide_concludes cause answer tableau (ends (TooWide cause) e)

@@ -1,12 +1,12 @@
 -- Ascending lists of numbers below a limit: each has a number of its own below how many there are.
-use Rattle.std.proofs.Common.{◌≡◌, ◌≢◌, ◌⊎◌, inl, inr, ℕ, zero, suc, ◌+◌, ◌<◌, ◌≤◌, ◌==◌, arith, true, false, if◌then◌else◌, List, [], ◌∷◌, length, map, ap, sym, subst, refl, ◌∙◌, eqb}
+use Rattle.std.proofs.Common.{◌≡◌, ◌≢◌, ◌⊎◌, inl, inr, zero, suc, ◌+◌, ◌<◌, ◌≤◌, ◌==◌, arith, true, false, if◌then◌else◌, List, ◌∷◌, length, map, ap, sym, subst, refl, ◌∙◌, eqb, ℕ, []}
 use Rattle.std.specs.List.{All, AllPairs, AllByRecursion, IsDistinct, list_any}
-use Rattle.std.proofs.lemmas.Bool.{eqb-true, false≢true, ne_eqb, or_cases}
+use Rattle.std.proofs.lemmas.Bool.{eqb-true, ne_eqb, or_cases, false≢true}
 use Rattle.std.proofs.lemmas.Bool.Decides.{nat_tests}
 use Rattle.std.proofs.lemmas.List.Elements.{All-head, All-tail}
 use Rattle.std.proofs.lemmas.Map.Steps.{length-le_from_distinct_below}
 use Rattle.bt_simplex.specs.Counting.{AscendsFrom, IsAscendingOf, ascending_lists}
-use Rattle.bt_line.proofs.Indicators.{decide}
+use Rattle.bt_linear.proofs.Indicators.{decide}
 
 -- the number of an ascending list among those of its length, from a least number on
 rank : ℕ → ℕ → List ℕ → ℕ

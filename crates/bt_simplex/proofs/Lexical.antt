@@ -1,9 +1,9 @@
 -- Sums of products that stand at 0 or above it, by value and then by the infinitesimal.
-use Rattle.std.proofs.Common.{◌≡◌, ◌⊎◌, inl, inr, ℕ, zero, suc, ◌*◌, arith, ℤ, pos, negsuc, neg_ℤ, ◌<ℤ◌, ◌≤ℤ◌, ◌+ℤ◌, ◌*ℤ◌, [], ◌∷◌, ap, sym, ◌∙◌, refl, subst}
+use Rattle.std.proofs.Math.IntN.{zero-*ℤ}
+use Rattle.std.proofs.Common.{◌≡◌, ◌⊎◌, inl, inr, zero, suc, ◌*◌, arith, pos, negsuc, neg_ℤ, ◌<ℤ◌, ◌≤ℤ◌, ◌+ℤ◌, ◌*ℤ◌, ◌∷◌, ap, sym, ◌∙◌, refl, subst, ℕ, ℤ, []}
 use Rattle.std.specs.List.{All}
 use Rattle.std.proofs.lemmas.Int.{ints}
 use Rattle.std.proofs.lemmas.List.Elements.{All-head, All-tail}
-use Rattle.std.proofs.Math.IntN.{zero-*ℤ}
 use Rattle.bt_frac.proofs.Order.{mul_lt, lt_from_mul}
 use Rattle.bt_frac.proofs.Ring.{neg_mul, mul_neg, turn_last}
 use Rattle.bt_frac.specs.Deltas.{IsLessDelta, SameDelta}
@@ -11,12 +11,12 @@ use Rattle.bt_frac.specs.Ratio.{Ratio, SameRatio, IsLess, negated}
 use Rattle.bt_frac.specs.Values.{AreValues, nothing, plus, times}
 use Rattle.bt_frac.specs.declared.delta.Delta.{Delta}
 use Rattle.bt_lin.proofs.SameNumbers.{same_trans}
-use Rattle.bt_line.specs.Lines.{Terms, HasNumber, total}
-use Rattle.bt_simplex.proofs.Failing.{less_left, less_right, less_delta_right}
-use Rattle.bt_line.proofs.Indicators.{over_zero_of}
-use Rattle.bt_line.proofs.Numbers.{negated_plus, Positive, Alike, back, next, both_plus, swap_plus, pair_plus, plus_positive, times_positive, times_zero, spread, nothing_some, differ_none, none_differ, drop_zero}
+use Rattle.bt_linear.specs.Lines.{Terms, HasNumber, total}
+use Rattle.bt_pivot.proofs.Failing.{less_left, less_right, less_delta_right}
+use Rattle.bt_linear.proofs.Indicators.{over_zero_of}
+use Rattle.bt_linear.proofs.Numbers.{negated_plus, Positive, Alike, back, next, both_plus, swap_plus, pair_plus, plus_positive, times_positive, times_zero, spread, nothing_some, differ_none, none_differ, drop_zero}
 use Rattle.bt_simplex.proofs.Signs.{IsAbove, IsNotBelow, above_plus, above_times, not_below_plus, not_below_times, above_by, not_below_by, less_of, of_less, at_most_of, compared}
-use Rattle.bt_line.proofs.Totals.{total_positive}
+use Rattle.bt_linear.proofs.Totals.{total_positive}
 
 -- the first number is above 0, or it is 0 and the second isn't below 0
 abbrev pub IsUp : Ratio → Ratio → Type 0

@@ -1,13 +1,13 @@
 -- Where a number of a sign moves a row.
-use Rattle.std.proofs.Common.{◌≡◌, arith, ℤ, pos, ◌<ℤ◌, ◌↔◌, Ordering, Less, Equal, Greater, sym, refl, subst, inl, inr}
+use Rattle.std.proofs.Common.{◌≡◌, arith, pos, ◌<ℤ◌, ◌↔◌, Ordering, Less, Equal, Greater, sym, refl, subst, inl, inr, ℤ}
 use Rattle.std.proofs.lemmas.Int.{ints}
 use Rattle.bt_frac.specs.Ratio.{Ratio}
 use Rattle.bt_frac.specs.Rows.{RowParts}
 use Rattle.bt_frac.specs.Deltas.{IsLessDelta, SameDelta}
 use Rattle.bt_frac.specs.declared.delta.Delta.{Delta}
-use Rattle.bt_simplex.specs.Points.{bound_value}
-use Rattle.bt_simplex.specs.Turns.{MovesTowards}
-use Rattle.bt_line.specs.TermSigns.{IsSign}
+use Rattle.bt_pivot.specs.Points.{bound_value}
+use Rattle.bt_simplex.specs.Pivots.{MovesTowards}
+use Rattle.bt_linear.specs.TermSigns.{IsSign}
 
 both_ways : {x y : ℤ} → x <ℤ y → y <ℤ x → ⊥
 both_ways {x} {y} p q = omega (arith, ints)

@@ -1,13 +1,13 @@
 -- A product with 0, and what it adds to a sum.
-use Rattle.std.proofs.Common.{◌≡◌, ◌*◌, ◌/◌, ◌<◌, ◌^◌, ℕ, ℤ, arith, pos, None, ◌+ℤ◌, ◌*ℤ◌, ap, sym, ◌∙◌, refl, subst, lit<}
 use Rattle.std.proofs.Math.IntN.{*ℤ-zero}
+use Rattle.std.proofs.Common.{◌≡◌, ◌*◌, ◌/◌, ◌<◌, ◌^◌, arith, pos, None, ◌+ℤ◌, ◌*ℤ◌, ap, sym, ◌∙◌, refl, subst, ℕ, ℤ, lit<}
 use Rattle.std.proofs.lemmas.Int.{ints}
 use Rattle.bt_frac.proofs.Gcds.{coprime_one, whole_lowest}
 use Rattle.bt_frac.specs.Ratio.{Ratio, IsLowest, FitsPart, CanAdd}
 use Rattle.bt_frac.specs.Values.{nothing}
 use Rattle.bt_frac.specs.declared.delta.Delta.{Delta}
-use Rattle.bt_simplex.specs.Tableaus.{TableauParts}
-use Rattle.bt_simplex.specs.Points.{bound_row, resting, value_or_zero}
+use Rattle.bt_pivot.specs.Tableaus.{TableauParts}
+use Rattle.bt_pivot.specs.Points.{bound_row, resting, value_or_zero}
 use Rattle.bt_simplex.specs.inner.UnfitPoints.{AddsPart, AddsTerm}
 
 -- a product with 1 or 0

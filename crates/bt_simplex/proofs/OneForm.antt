@@ -1,5 +1,5 @@
 -- Rows have one solved form at a basis.
-use Rattle.std.proofs.Common.{◌≡◌, ◌≢◌, ℕ, suc, ◌+◌, ◌<◌, arith, List, [], ◌∷◌, length, Option, Some, None, ap, sym, ◌∙◌, refl, subst, inl, inr, ◌↔◌}
+use Rattle.std.proofs.Common.{◌≡◌, ◌≢◌, suc, ◌+◌, ◌<◌, arith, List, ◌∷◌, length, Option, Some, None, ap, sym, ◌∙◌, refl, subst, inl, inr, ◌↔◌, ℕ, []}
 use Rattle.std.specs.List.{All}
 use Rattle.std.proofs.lemmas.Bool.{cases_lt}
 use Rattle.std.proofs.lemmas.List.Elements.{All-head, All-tail}
@@ -7,14 +7,13 @@ use Rattle.bt_frac.specs.Ratio.{Ratio}
 use Rattle.bt_frac.specs.Rows.{RowParts, IsRow}
 use Rattle.bt_frac.specs.Values.{nothing, times}
 use Rattle.bt_frac.proofs.Euclid.{lowest_same}
-use Rattle.bt_line.specs.Lines.{Terms, HasNumber, IsLineFrom, total}
-use Rattle.bt_simplex.specs.SolvedForms.{Slots, slot_at, at_position, IsOutside, IsSolvedForm}
-use Rattle.bt_simplex.specs.Turns.{InBasis}
-use Rattle.bt_line.proofs.Indicators.{LacksPosition, decide, indicator, indicator_some, lacking_total, having_total, later_lacks, over_zero_of, other_is}
-use Rattle.bt_line.proofs.Numbers.{Alike, alike, back, next, drop_zero, times_positive, times_zero}
-use Rattle.bt_simplex.proofs.Standing.{stands_some}
-use Rattle.bt_line.proofs.Totals.{total_positive, rest_line}
-use Rattle.bt_line.proofs.Zeros.{named_or_lacks, all_from, total_along}
+use Rattle.bt_linear.specs.Lines.{Terms, HasNumber, IsLineFrom, total}
+use Rattle.bt_pivot.specs.SolvedForms.{Slots, slot_at, at_position, IsOutside, IsSolvedForm, InBasis}
+use Rattle.bt_linear.proofs.Indicators.{LacksPosition, decide, indicator, indicator_some, lacking_total, having_total, later_lacks, over_zero_of, other_is}
+use Rattle.bt_linear.proofs.Numbers.{Alike, alike, back, next, drop_zero, times_positive, times_zero}
+use Rattle.bt_pivot.proofs.Standing.{stands_some}
+use Rattle.bt_linear.proofs.Totals.{total_positive, rest_line}
+use Rattle.bt_linear.proofs.Zeros.{named_or_lacks, all_from, total_along}
 
 -- the first number is seen, where the other line lacks its position
 seen_first : (t : ℕ × Ratio) (terms others : Terms) (least : ℕ) → IsLineFrom least (t ∷ terms) → All HasNumber others → LacksPosition t.0 others

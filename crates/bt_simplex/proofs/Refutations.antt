@@ -1,5 +1,5 @@
 -- The weights of a basis at which a position fails and none can enter refute its bound rows.
-use Rattle.std.proofs.Common.{◌≡◌, ◌≢◌, ◌⊎◌, ◌↔◌, ℕ, ◌+◌, ◌-◌, ◌<◌, ◌≤◌, arith, suc, zero, pos, negsuc, neg_ℤ, ◌<ℤ◌, ◌≤ℤ◌, ◌*ℤ◌, ℤ, nat_lt, Bool, true, false, IsTrue, if◌then◌else◌, get_or, map, List, [], ◌∷◌, length, Option, Some, None, Ok, ap, sym, ◌∙◌, refl, subst, inl, inr}
+use Rattle.std.proofs.Common.{◌≡◌, ◌≢◌, ◌⊎◌, ◌↔◌, ◌+◌, ◌-◌, ◌<◌, ◌≤◌, arith, suc, zero, pos, negsuc, neg_ℤ, ◌<ℤ◌, ◌≤ℤ◌, ◌*ℤ◌, nat_lt, Bool, true, false, IsTrue, if◌then◌else◌, get_or, map, List, ◌∷◌, length, Option, Some, None, Ok, ap, sym, ◌∙◌, refl, subst, inl, inr, ℕ, ℤ, []}
 use Rattle.std.specs.List.{All, Any, cons_option}
 use Rattle.std.specs.Option.{option_map}
 use Rattle.std.proofs.lemmas.Int.{ints}
@@ -18,27 +18,26 @@ use Rattle.bt_lin.specs.FalseSums.{MayHave, MayWeigh, MakesStrict, IsStrict, IsF
 use Rattle.bt_lin.specs.WeightedRows.{empty_row, coefficient_at, part_of, pairs_at}
 use Rattle.bt_lin.specs.declared.places.Place.{Place}
 use Rattle.bt_lin.specs.declared.places.Place.TheVariants.{Column, Bound}
-use Rattle.bt_line.specs.Lines.{one, Terms, HasNumber, IsLine, IsCombination, total}
-use Rattle.bt_simplex.specs.SolvedForms.{slot_at, at_position, IsOutside}
-use Rattle.bt_simplex.specs.Tableaus.{TableauParts, IsTableau}
-use Rattle.bt_simplex.specs.Points.{tiny_of, bound_value, bound_row, value_or_zero, resting, standing, point_at}
-use Rattle.bt_simplex.specs.Turns.{Breaks, Fails, MovesTowards, CanEnter, IsStuckAt}
+use Rattle.bt_linear.specs.Lines.{one, Terms, HasNumber, IsLine, IsCombination, total}
+use Rattle.bt_pivot.specs.SolvedForms.{slot_at, at_position, IsOutside}
+use Rattle.bt_pivot.specs.Tableaus.{TableauParts, IsTableau}
+use Rattle.bt_pivot.specs.Points.{tiny_of, bound_value, bound_row, value_or_zero, resting, standing, point_at, Breaks, Fails, IsSamePoint}
+use Rattle.bt_simplex.specs.Pivots.{MovesTowards, CanEnter, IsStuckAt}
 use Rattle.bt_lin.specs.Farkas.{IsFarkas}
 use Rattle.bt_simplex.specs.Checks.{IsBound, RefutesBoundRows}
-use Rattle.bt_simplex.specs.Causes.{number_or_zero}
+use Rattle.bt_pivot.specs.Entries.{number_or_zero}
 use Rattle.bt_simplex.specs.Weights.{StandsAbove, weighted_rows}
-use Rattle.bt_simplex.specs.inner.Bases.{IsSamePoint}
 use Rattle.bt_simplex.specs.inner.Lemmas.{signed, weight_of, AreLineWeights}
-use Rattle.bt_line.proofs.NamedTerms.{number_at_place, number_here, number_later}
-use Rattle.bt_simplex.proofs.Failing.{row_is, less_delta_right, point_is, same_back}
-use Rattle.bt_line.proofs.Indicators.{over_zero_of, decide, indicator, indicator_some, here_is, other_is, lacking_total, total_at, none_lacks, number_has, times_one}
-use Rattle.bt_line.proofs.Numbers.{negated_plus, Positive, nothing_some, Alike, itself, back, next, both_plus, both_times, swap_plus, group_times, spread, drop_zero, zero_alike, plus_positive, times_positive, times_zero, negated_times, differ_none}
-use Rattle.bt_simplex.proofs.Resting.{bound_some_of, point_some, rest_value, rest_tiny, bound_some, tiny_some, bound_within}
-use Rattle.bt_line.proofs.Shares.{negated_low, negated_twice}
+use Rattle.bt_linear.proofs.NamedTerms.{number_at_place, number_here, number_later}
+use Rattle.bt_pivot.proofs.Failing.{row_is, less_delta_right, point_is, same_back}
+use Rattle.bt_linear.proofs.Indicators.{over_zero_of, decide, indicator, indicator_some, here_is, other_is, lacking_total, total_at, none_lacks, number_has, times_one}
+use Rattle.bt_linear.proofs.Numbers.{negated_plus, Positive, nothing_some, Alike, itself, back, next, both_plus, both_times, swap_plus, group_times, spread, drop_zero, zero_alike, plus_positive, times_positive, times_zero, negated_times, differ_none}
+use Rattle.bt_pivot.proofs.Resting.{bound_some_of, point_some, rest_value, rest_tiny, bound_some, tiny_some, bound_within}
+use Rattle.bt_linear.proofs.Shares.{negated_low, negated_twice}
 use Rattle.bt_simplex.proofs.Signs.{IsAbove, IsNotBelow, of_less, above_by, not_below_by, not_below_plus}
-use Rattle.bt_simplex.proofs.Standing.{stands_some}
-use Rattle.bt_line.proofs.Totals.{total_positive}
-use Rattle.bt_line.proofs.Zeros.{one_some, one_lowest, one_times, combined_alike, negated_alike, zero_of, named_has, total_along}
+use Rattle.bt_pivot.proofs.Standing.{stands_some}
+use Rattle.bt_linear.proofs.Totals.{total_positive}
+use Rattle.bt_linear.proofs.Zeros.{one_some, one_lowest, one_times, combined_alike, negated_alike, zero_of, named_has, total_along}
 
 -- a bound row is past the columns, and is that of its place
 pub bound_place : (t : TableauParts) (q : ℕ) (row : RowParts) → bound_row t q ≡ Some row → (t.columns ≤ q) × (get_or t.rows (q - t.columns) empty_row ≡ row)
@@ -311,8 +310,8 @@ down_above : (x y : Ratio) → Positive x → Positive y → IsLess y x → IsAb
 down_above x y p q h =
     let d : Ratio = plus (negated x) y in
     let some : Positive d = plus_positive (negated x) y p q in
-    let turned : negated d ≡ plus x (negated y) = negated_plus (negated x) y ∙ ap (λ r. plus r (negated y)) (negated_twice x) in
-    above_by (back (subst (λ r. Alike r (negated d)) (sym (negated_times one d)) (negated_alike (one_times d some)))) (subst IsAbove (sym turned) (of_less y x h))
+    let pivoted : negated d ≡ plus x (negated y) = negated_plus (negated x) y ∙ ap (λ r. plus r (negated y)) (negated_twice x) in
+    above_by (back (subst (λ r. Alike r (negated d)) (sym (negated_times one d)) (negated_alike (one_times d some)))) (subst IsAbove (sym pivoted) (of_less y x h))
 
 level_none : (above : Bool) (x y : Ratio) → Positive x → Positive y → SameRatio x y → (times (sign_of above) (plus (negated x) y)).over ≡ pos 0
 level_none above x y p q same =

@@ -1,6 +1,6 @@
 -- Signs of fractions, of their sums and of their products.
-use Rattle.std.proofs.Common.{◌≡◌, ◌⊎◌, ℕ, ◌*◌, ◌<◌, arith, ℤ, pos, negsuc, neg_ℤ, ◌+ℤ◌, ◌*ℤ◌, ◌<ℤ◌, ◌≤ℤ◌, ap, sym, ◌∙◌, subst, inl, inr}
 use Rattle.std.proofs.Math.IntN.{zero-*ℤ, pos-*ℤ-pos}
+use Rattle.std.proofs.Common.{◌≡◌, ◌⊎◌, ◌*◌, ◌<◌, arith, pos, negsuc, neg_ℤ, ◌+ℤ◌, ◌*ℤ◌, ◌<ℤ◌, ◌≤ℤ◌, ap, sym, ◌∙◌, subst, inl, inr, ℕ, ℤ}
 use Rattle.std.proofs.lemmas.Int.{ints}
 use Rattle.std.specs.Ordering.{MatchOrdering, int_cmp}
 use Rattle.std.specs.Cmp.{int_ranks}
@@ -11,7 +11,7 @@ use Rattle.bt_frac.specs.Values.{plus, times}
 use Rattle.bt_frac.proofs.Order.{mul_lt, mul_le, lt_from_mul, le_from_mul, mul_cancel}
 use Rattle.bt_frac.proofs.Ring.{neg_mul, products, turn_last}
 use Rattle.bt_lin.proofs.SameNumbers.{above_same}
-use Rattle.bt_line.proofs.Numbers.{Positive, Alike, alike}
+use Rattle.bt_linear.proofs.Numbers.{Positive, Alike, alike}
 
 -- the number is above 0, and it isn't below 0
 abbrev pub IsAbove : Ratio → Type 0

@@ -1,20 +1,19 @@
 -- A line of one basis, at the point of another basis of the same rows.
-use Rattle.std.proofs.Common.{◌≡◌, ℕ, ◌<◌, length, Option, Some, None, ap, sym, ◌∙◌, refl, subst, inl, inr}
+use Rattle.std.proofs.Common.{◌≡◌, ◌<◌, length, Option, Some, None, ap, sym, ◌∙◌, refl, subst, inl, inr, ℕ}
 use Rattle.std.specs.List.{All}
 use Rattle.bt_frac.specs.Deltas.{IsLessDelta}
 use Rattle.bt_frac.specs.Ratio.{Ratio, SameRatio}
 use Rattle.bt_frac.specs.Values.{AreValues, times}
-use Rattle.bt_line.specs.Lines.{Terms, HasNumber, total}
-use Rattle.bt_simplex.specs.Points.{resting, standing, point_at}
-use Rattle.bt_simplex.specs.SolvedForms.{Slots, slot_at, at_position, IsOutside}
-use Rattle.bt_simplex.specs.Tableaus.{TableauParts, IsTableau}
-use Rattle.bt_simplex.specs.inner.Bases.{with_slots}
+use Rattle.bt_linear.specs.Lines.{Terms, HasNumber, total}
+use Rattle.bt_pivot.specs.Points.{resting, standing, point_at}
+use Rattle.bt_pivot.specs.SolvedForms.{Slots, slot_at, at_position, IsOutside}
+use Rattle.bt_pivot.specs.Tableaus.{TableauParts, IsTableau, with_slots}
 use Rattle.bt_simplex.proofs.Lexical.{IsUp, less, less_some, total_less, up_total, up_by, not_less_of}
-use Rattle.bt_line.proofs.Numbers.{Alike, alike, itself, back, next, both_plus}
-use Rattle.bt_simplex.proofs.Resting.{rest_value, rest_tiny, point_some}
-use Rattle.bt_simplex.proofs.Standing.{stands_some}
-use Rattle.bt_line.proofs.Totals.{total_positive}
-use Rattle.bt_line.proofs.Zeros.{total_along, all_from, named_or_lacks, negated_alike}
+use Rattle.bt_linear.proofs.Numbers.{Alike, alike, itself, back, next, both_plus}
+use Rattle.bt_pivot.proofs.Resting.{rest_value, rest_tiny, point_some}
+use Rattle.bt_pivot.proofs.Standing.{stands_some}
+use Rattle.bt_linear.proofs.Totals.{total_positive}
+use Rattle.bt_linear.proofs.Zeros.{total_along, all_from, named_or_lacks, negated_alike}
 
 -- one part of where a position stands: as its line says, or where it rests
 abbrev pub spot : (ℕ → Ratio) → ℕ → Option Terms → Ratio

@@ -1,5 +1,5 @@
 -- Where a sum of weighted rows is wide, and by which operation.
-use Rattle.std.proofs.Common.{◌≡◌, ℕ, ◌<◌, ◌+◌, arith, List, [], ◌∷◌, ◌++◌, length, get_or, take, drop, take-append-drop, Some, None, map, zero, suc, ◌⊎◌, inl, inr, ap, sym, ◌∙◌, refl, subst}
+use Rattle.std.proofs.Common.{◌≡◌, ◌<◌, ◌+◌, arith, List, ◌∷◌, ◌++◌, length, get_or, take, drop, take-append-drop, Some, None, map, zero, suc, ◌⊎◌, inl, inr, ap, sym, ◌∙◌, refl, subst, ℕ, []}
 use Rattle.std.specs.List.{All}
 use Rattle.std.specs.Prelude.{Contains}
 use Rattle.std.proofs.lemmas.List.{get_or_default, length-take-le}
@@ -18,15 +18,15 @@ use Rattle.bt_lin.specs.declared.wide.WideAt.{WideAt}
 use Rattle.bt_lin.proofs.FarkasLemmas.{below_end}
 use Rattle.bt_lin.proofs.PlaceLemmas.{wide_at, unwide_before, row_within, coefficient_named, named_at}
 use Rattle.bt_lin.proofs.RunLemmas.{runs_reach}
-use Rattle.bt_line.specs.Unfits.{IsNone, IsUnfitStep, IsUnfitHere}
+use Rattle.bt_linear.specs.Unfits.{IsNone, IsUnfitStep, IsUnfitHere}
 use Rattle.bt_simplex.specs.Causes.{IsAddend, IsRowStep, IsStepAt, IsCause}
-use Rattle.bt_simplex.specs.Tableaus.{TableauParts, IsTableau}
-use Rattle.bt_simplex.specs.Turns.{IsStuckAt}
+use Rattle.bt_pivot.specs.Tableaus.{TableauParts, IsTableau}
+use Rattle.bt_simplex.specs.Pivots.{IsStuckAt}
 use Rattle.bt_simplex.specs.Weights.{weighted_rows}
-use Rattle.bt_line.specs.declared.unfit.Operation.{Operation}
-use Rattle.bt_line.specs.declared.unfit.Operation.TheVariants.{Add, Mul, Div}
-use Rattle.bt_simplex.specs.declared.causes.Cause.{Cause}
-use Rattle.bt_line.specs.declared.unfit.Unfit.{Unfit}
+use Rattle.bt_linear.specs.declared.unfit.Operation.{Operation}
+use Rattle.bt_linear.specs.declared.unfit.Operation.TheVariants.{Add, Mul, Div}
+use Rattle.bt_pivot.specs.declared.causes.Cause.{Cause}
+use Rattle.bt_linear.specs.declared.unfit.Unfit.{Unfit}
 use Rattle.bt_simplex.specs.inner.Lemmas.{AreLineWeights}
 use Rattle.bt_simplex.specs.inner.Sums.{lemma_cause, IsUnfitAt, IsUnfitSum}
 use Rattle.bt_simplex.specs.inner.UnfitPoints.{AddsPart}

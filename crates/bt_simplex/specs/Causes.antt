@@ -1,64 +1,30 @@
 -- Why a number that a check asks for leaves 128 bits: an operation, its two numbers, and what they are of the solved
 -- form.
-use Rattle.std.specs.Prelude.{◌≡◌, ◌⊎◌, ℕ, ◌<◌, ◌==◌, ◌&&◌, pos, ◌<ℤ◌, List, ◌∷◌, ◌++◌, length, Option, Some, None, if◌then◌else◌}
+use Rattle.std.specs.Prelude.{◌≡◌, ◌⊎◌, ◌<◌, pos, ◌<ℤ◌, List, ◌∷◌, ◌++◌, length, Some, ℕ}
 use Rattle.bt_frac.specs.Ratio.{Ratio, SameRatio, IsLowest, IsLess, IsAtMost, negated}
-use Rattle.bt_frac.specs.Products.{IsProduct, IsDivision}
 use Rattle.bt_frac.specs.Rows.{RowParts}
-use Rattle.bt_frac.specs.Values.{nothing, plus, times, sum_of_products}
+use Rattle.bt_frac.specs.Values.{plus, times, sum_of_products}
 use Rattle.bt_lin.specs.WeightedRows.{part_of, pairs_at, number_of, coefficient_at}
 use Rattle.bt_lin.specs.Farkas.{IsFirstWide}
 use Rattle.bt_lin.specs.declared.places.Place.{Place}
-use Rattle.bt_line.specs.Unfits.{IsNone}
-use Rattle.bt_line.specs.Lines.{one, Terms, total}
-use Rattle.bt_simplex.specs.SolvedForms.{Slots, slot_at}
-use Rattle.bt_simplex.specs.Tableaus.{TableauParts}
-use Rattle.bt_simplex.specs.Points.{bound_row, resting, point_at}
-use Rattle.bt_simplex.specs.Turns.{IsBlandTurn, IsMet, IsStuckAt}
+use Rattle.bt_linear.specs.Unfits.{IsNone}
+use Rattle.bt_linear.specs.Lines.{one, Terms, total}
+use Rattle.bt_pivot.specs.SolvedForms.{slot_at}
+use Rattle.bt_pivot.specs.Tableaus.{TableauParts}
+use Rattle.bt_pivot.specs.Points.{bound_row, resting, point_at}
+use Rattle.bt_simplex.specs.Pivots.{IsBlandPivot, IsMet, IsStuckAt}
 use Rattle.bt_simplex.specs.Weights.{AreWeights, weighted_rows}
-use Rattle.bt_simplex.specs.declared.tableau.Turn.{Turn}
-use Rattle.bt_line.specs.declared.unfit.Operation.{Operation}
-use Rattle.bt_line.specs.declared.unfit.Operation.TheVariants.{Add, Mul, Div}
-use Rattle.bt_simplex.specs.declared.answers.WidePlace.{WidePlace}
-use Rattle.bt_simplex.specs.declared.answers.WidePlace.TheVariants.{Entry, Value, Settle, Lemma}
-use Rattle.bt_simplex.specs.declared.causes.Cause.{Cause}
+use Rattle.bt_pivot.specs.declared.basis.Pivot.{Pivot}
+use Rattle.bt_linear.specs.declared.unfit.Operation.{Operation}
+use Rattle.bt_linear.specs.declared.unfit.Operation.TheVariants.{Add, Mul, Div}
+use Rattle.bt_pivot.specs.declared.causes.WidePlace.{WidePlace}
+use Rattle.bt_pivot.specs.declared.causes.WidePlace.TheVariants.{Entry, Value, Settle, Lemma}
+use Rattle.bt_pivot.specs.declared.causes.Cause.{Cause}
+use Rattle.bt_pivot.specs.Entries.{IsEntryStep}
 
 -- the fraction is this number, in lowest terms
 abbrev pub IsNumber : Ratio → Ratio → Type 0
 IsNumber fraction number = IsLowest fraction × SameRatio fraction number
-
--- the number of a term, and 0 where there is none
-abbrev pub number_or_zero : Option Ratio → Ratio
-number_or_zero None = nothing
-number_or_zero (Some number) = number
-
--- the number of a column in a line, and 0 where there is no line
-abbrev pub number_in : ℕ → Option Terms → Ratio
-number_in column None = nothing
-number_in column (Some terms) = number_or_zero (coefficient_at column terms)
-
--- the number of the solved form for a position of the basis and one outside it
-abbrev pub entry_at : Slots → ℕ → ℕ → Ratio
-entry_at slots row column = number_in column (slot_at slots row)
-
--- the same, where the leaving position counts as one outside the basis, with the number -1 in its own line and 0 in
--- every other
-abbrev pub turn_entry : Slots → ℕ → ℕ → ℕ → Ratio
-turn_entry slots leaves row column = if (row == leaves) && (column == leaves) then negated one else entry_at slots row column
-
--- the fraction is the leaving position's number at the column, over that at the entering position
-abbrev pub IsShare : Slots → Turn → ℕ → Ratio → Type 0
-IsShare slots turn column share =
-    IsLowest share × IsDivision (turn_entry slots turn.leaves turn.leaves column) (entry_at slots turn.leaves turn.enters) share
-
--- the numbers of an operation for the lines after a turn
-abbrev pub IsEntryStep : Slots → Turn → ℕ → ℕ → Operation → Ratio → Ratio → Type 0
-IsEntryStep slots turn row column Div left right =
-    (row ≡ turn.leaves) × (left ≡ turn_entry slots turn.leaves turn.leaves column) × (right ≡ entry_at slots turn.leaves turn.enters)
-IsEntryStep slots turn row column Mul left right = (left ≡ entry_at slots row turn.enters) × IsShare slots turn column right
-IsEntryStep slots turn row column Add left right =
-    (left ≡ turn_entry slots turn.leaves row column)
-    × ((share : Ratio) × IsShare slots turn column share
-    × ((product : Ratio) × IsLowest product × IsProduct (entry_at slots row turn.enters) share product × (right ≡ negated product)))
 
 -- the numbers of an operation for the sum of a line, where this stands at the positions: a product, or the sum of the
 -- earlier ones and a product
@@ -142,7 +108,7 @@ pub record IsLemmaStep (t : TableauParts) (fails row column : ℕ) (operation : 
 
 -- what an operation was for at a tableau's basis
 abbrev pub IsStepAt : TableauParts → WidePlace → ℕ → ℕ → Operation → Ratio → Ratio → Type 0
-IsStepAt t Entry row column operation left right = (turn : Turn) × IsBlandTurn t turn × IsEntryStep t.slots turn row column operation left right
+IsStepAt t Entry row column operation left right = (pivot : Pivot) × IsBlandPivot t pivot × IsEntryStep t.slots pivot row column operation left right
 IsStepAt t Value row column operation left right = IsValueStep t row column operation left right
 IsStepAt t Settle row column operation left right =
     IsMet t × (column ≡ 0) × (IsRoomStep t row operation left right ⊎ IsColumnStep t row operation left right)

@@ -1,5 +1,5 @@
 -- What a check of a tableau answers.
-use Rattle.std.specs.Prelude.{◌≡◌, ℕ, ◌+◌, ◌<◌, ◌≤◌, List, [], ◌∷◌, length, Bool, true, false, slice_index_or}
+use Rattle.std.specs.Prelude.{◌≡◌, ◌+◌, ◌<◌, ◌≤◌, List, ◌∷◌, length, Bool, true, false, slice_index_or, Ok, ℕ, []}
 use Rattle.std.specs.List.{All}
 use Rattle.bt_frac.specs.Ratio.{Ratio}
 use Rattle.bt_frac.specs.Columns.{AreColumnsFrom}
@@ -8,18 +8,17 @@ use Rattle.bt_frac.specs.Values.{value_in, RowHolds}
 use Rattle.bt_lin.specs.Farkas.{IsFarkas}
 use Rattle.bt_lin.specs.WeightedRows.{empty_row}
 use Rattle.bt_simplex.specs.Counting.{most_bases}
-use Rattle.bt_simplex.specs.SolvedForms.{basis_of}
-use Rattle.bt_simplex.specs.Tableaus.{TableauParts}
-use Rattle.bt_simplex.specs.Turns.{IsMet, IsStuckAt, Follows}
+use Rattle.bt_pivot.specs.SolvedForms.{basis_of}
+use Rattle.bt_pivot.specs.Tableaus.{TableauParts}
+use Rattle.bt_simplex.specs.Pivots.{IsMet, IsStuckAt, Follows}
 use Rattle.bt_simplex.specs.Runs.{GoesOn, LeadsTo}
 use Rattle.bt_simplex.specs.Weights.{weighted_rows}
 use Rattle.bt_simplex.specs.Causes.{IsCause}
-use Rattle.bt_simplex.specs.declared.causes.Cause.{Cause}
-use Rattle.bt_simplex.specs.declared.answers.Trail.{Trail}
+use Rattle.bt_pivot.specs.declared.causes.Cause.{Cause}
+use Rattle.bt_simplex.specs.declared.answers.PivotTrace.{PivotTrace}
 use Rattle.bt_simplex.specs.declared.answers.Wide.{Wide}
 use Rattle.bt_simplex.specs.declared.answers.Check.{Check}
 use Rattle.bt_simplex.specs.declared.answers.Check.TheVariants.{Sat, Unsat, Pivots, Wide as TooWide}
-use Rattle.std.specs.Prelude.{Ok}
 
 -- the row is bound
 abbrev pub IsBound : TableauParts → ℕ → Type 0
@@ -43,37 +42,37 @@ pub record RefutesBoundRows (t : TableauParts) (weights : List (ℕ × Ratio)) :
   pub bound : All (λ w. IsBound t w.0) weights
   pub accepted : IsFarkas (weighted_rows t.rows weights) (Ok true)
 
--- the trail begins at the tableau's basis, with its bound rows
-pub record StartsAt (t : TableauParts) (trail : Trail) : Type 0 where
-  pub start : trail.start.items ≡ basis_of t.slots
-  pub bound : trail.bound.items ≡ bound_from 0 t.bound
+-- the trace begins at the tableau's basis, with its bound rows
+pub record StartsAt (t : TableauParts) (trace : PivotTrace) : Type 0 where
+  pub start : trace.start.items ≡ basis_of t.slots
+  pub bound : trace.bound.items ≡ bound_from 0 t.bound
 
--- the trail has so many turns of Bland's rule, which are fewer than there are bases, and the basis that they lead to
+-- the trace has so many pivots of Bland's rule, which are fewer than there are bases, and the basis that they lead to
 -- isn't final
-pub record IsPivots (pivots : ℕ) (t : TableauParts) (trail : Trail) : Type 0 where
-  pub starts : StartsAt t trail
+pub record IsPivots (pivots : ℕ) (t : TableauParts) (trace : PivotTrace) : Type 0 where
+  pub starts : StartsAt t trace
   pub few : pivots < most_bases t.columns t.rows
-  pub goes_on : GoesOn pivots t trail.turns.items
+  pub goes_on : GoesOn pivots t trace.steps.items
 
 -- the operation and what it was for
 abbrev pub cause_of : Wide → Cause
 cause_of wide =
     record { place = wide.place; row = wide.row; column = wide.column; operation = wide.operation; left = wide.left; right = wide.right }
 
--- the trail has at most so many turns of Bland's rule, which lead to the named basis, whose solved form has the two
+-- the trace has at most so many pivots of Bland's rule, which lead to the named basis, whose solved form has the two
 -- numbers
 pub record IsWideCheck (pivots : ℕ) (t : TableauParts) (wide : Wide) : Type 0 where
-  pub starts : StartsAt t wide.trail
-  pub few : length wide.trail.turns.items ≤ pivots
+  pub starts : StartsAt t wide.trace
+  pub few : length wide.trace.steps.items ≤ pivots
   pub last : TableauParts
-  pub follows : Follows t wide.trail.turns.items last
+  pub follows : Follows t wide.trace.steps.items last
   pub basis : wide.basis.items ≡ basis_of last.slots
   pub cause : IsCause last (cause_of wide)
 
 -- what a check answers of a tableau before it and after it: after values and after weights the basis is the final one
--- to which Bland's turns lead, at most so many, and otherwise the tableau is as before
+-- to which Bland's pivots lead, at most so many, and otherwise the tableau is as before
 abbrev pub IsCheck : ℕ → TableauParts → TableauParts → Check → Type 0
 IsCheck pivots t t' (Sat values) = LeadsTo pivots t t' × IsMet t' × MeetsBoundRows t values.items
 IsCheck pivots t t' (Unsat weights) = LeadsTo pivots t t' × ((position : ℕ) × IsStuckAt t' position) × RefutesBoundRows t weights.items
-IsCheck pivots t t' (Pivots trail) = (t' ≡ t) × IsPivots pivots t trail
+IsCheck pivots t t' (Pivots trace) = (t' ≡ t) × IsPivots pivots t trace
 IsCheck pivots t t' (TooWide wide) = (t' ≡ t) × IsWideCheck pivots t wide

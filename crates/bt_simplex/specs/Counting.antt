@@ -1,5 +1,5 @@
 -- How many ascending lists and bases there are.
-use Rattle.std.specs.Prelude.{◌≡◌, ℕ, zero, suc, ◌+◌, ◌<◌, ◌≤◌, List, [], ◌∷◌, length}
+use Rattle.std.specs.Prelude.{◌≡◌, zero, suc, ◌+◌, ◌<◌, ◌≤◌, List, ◌∷◌, length, ℕ, []}
 use Rattle.bt_frac.specs.Rows.{RowParts}
 
 -- so many numbers, of which none is below the least one, each is below the limit, and each is above the one before

@@ -1,12 +1,8 @@
 pub mod Causes
 pub mod Checks
-pub mod Classes
 pub mod Counting
 pub mod Laws
-pub mod Points
 pub mod Runs
-pub mod SolvedForms
-pub mod Tableaus
-pub mod Turns
+pub mod Pivots
 pub mod Weights
 pub mod inner

@@ -1,18 +1,18 @@
--- Runs of Bland's turns from a basis on.
-use Rattle.std.specs.Prelude.{◌≡◌, ℕ, ◌≤◌, List, length}
-use Rattle.bt_simplex.specs.Tableaus.{TableauParts}
-use Rattle.bt_simplex.specs.Turns.{IsFinal, Follows}
-use Rattle.bt_simplex.specs.declared.tableau.Turn.{Turn}
+-- Runs of Bland's pivots from a basis on.
+use Rattle.std.specs.Prelude.{◌≡◌, ◌≤◌, List, length, ℕ}
+use Rattle.bt_pivot.specs.Tableaus.{TableauParts}
+use Rattle.bt_simplex.specs.Pivots.{IsFinal, Follows}
+use Rattle.bt_pivot.specs.declared.basis.Pivot.{Pivot}
 
--- so many turns of Bland's rule, after which the basis isn't final
-pub record GoesOn (pivots : ℕ) (t : TableauParts) (turns : List Turn) : Type 0 where
-  pub many : length turns ≡ pivots
+-- so many pivots of Bland's rule, after which the basis isn't final
+pub record GoesOn (pivots : ℕ) (t : TableauParts) (steps : List Pivot) : Type 0 where
+  pub many : length steps ≡ pivots
   pub last : TableauParts
-  pub follows : Follows t turns last
+  pub follows : Follows t steps last
   pub goes_on : IsFinal last → ⊥
 
--- so many turns of Bland's rule at most lead from the first tableau to the second
+-- so many pivots of Bland's rule at most lead from the first tableau to the second
 pub record LeadsTo (pivots : ℕ) (t t' : TableauParts) : Type 0 where
-  pub turns : List Turn
-  pub few : length turns ≤ pivots
-  pub follows : Follows t turns t'
+  pub steps : List Pivot
+  pub few : length steps ≤ pivots
+  pub follows : Follows t steps t'

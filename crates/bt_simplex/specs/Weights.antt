@@ -1,15 +1,15 @@
 -- The weights of a basis at which a position fails and none can enter for it.
-use Rattle.std.specs.Prelude.{◌≡◌, ◌≢◌, ◌⊎◌, ◌↔◌, ℕ, ◌+◌, List, map, Some, None}
+use Rattle.std.specs.Prelude.{◌≡◌, ◌≢◌, ◌⊎◌, ◌↔◌, ◌+◌, List, map, Some, None, ℕ}
 use Rattle.bt_frac.specs.Ratio.{Ratio, negated}
 use Rattle.bt_frac.specs.Columns.{AreColumnsFrom}
 use Rattle.bt_frac.specs.Rows.{RowParts, columns_of}
 use Rattle.bt_frac.specs.Deltas.{IsLessDelta}
 use Rattle.bt_frac.specs.Values.{times}
 use Rattle.bt_lin.specs.WeightedRows.{coefficient_at, weighted}
-use Rattle.bt_line.specs.Lines.{one, Terms}
-use Rattle.bt_simplex.specs.SolvedForms.{slot_at}
-use Rattle.bt_simplex.specs.Tableaus.{TableauParts}
-use Rattle.bt_simplex.specs.Points.{bound_value, bound_row, point_at}
+use Rattle.bt_linear.specs.Lines.{one, Terms}
+use Rattle.bt_pivot.specs.SolvedForms.{slot_at}
+use Rattle.bt_pivot.specs.Tableaus.{TableauParts}
+use Rattle.bt_pivot.specs.Points.{bound_value, bound_row, point_at}
 
 -- the bound row at the position stands above its bound value
 pub record StandsAbove (t : TableauParts) (position : ℕ) : Type 0 where

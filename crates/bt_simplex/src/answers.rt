@@ -1,7 +1,7 @@
 //! What a check of a tableau answers.
-use crate::tableau::Turn;
 use bt_frac::Frac;
-use bt_line::Operation;
+use bt_linear::Operation;
+use bt_pivot::{Pivot, WidePlace};
 
 /// What a check found.
 #[derive(Drop)]
@@ -10,31 +10,31 @@ pub enum Check {
     Sat(Vec<Frac>),
     /// These bound rows, each times its weight, add up to a row that no values meet. They ascend.
     Unsat(Vec<(usize, Frac)>),
-    /// The turns were as many as they may be, and the basis that they lead to isn't final.
-    Pivots(Trail),
+    /// The pivots were as many as they may be, and the basis that they lead to isn't final.
+    Pivots(PivotTrace),
     /// A number that the answer asks for leaves 128 bits.
     Wide(Wide),
 }
 
-/// The turns of a check.
+/// The pivots of a check.
 #[derive(Drop)]
-pub struct Trail {
+pub struct PivotTrace {
     /// The positions of the basis at entry, in ascending order.
     pub start: Vec<usize>,
     /// The bound rows, in ascending order.
     pub bound: Vec<usize>,
-    /// The turns from the basis at entry on, in their order.
-    pub turns: Vec<Turn>,
+    /// The pivots from the basis at entry on, in their order.
+    pub steps: Vec<Pivot>,
 }
 
 /// Where a check met an operation whose result leaves 128 bits.
 #[derive(Drop)]
 pub struct Wide {
-    /// The turns before it.
-    pub trail: Trail,
+    /// The pivots before it.
+    pub trace: PivotTrace,
     /// What the operation was for.
     pub place: WidePlace,
-    /// The positions of the basis that the turns lead to, in ascending order.
+    /// The positions of the basis that the pivots lead to, in ascending order.
     pub basis: Vec<usize>,
     /// The position of the basis whose number it is, and at `Lemma` the place of the row in the sum.
     pub row: usize,
@@ -46,17 +46,4 @@ pub struct Wide {
     pub left: Frac,
     /// Its second number.
     pub right: Frac,
-}
-
-/// What a check forms numbers for.
-#[derive(Clone, Copy, PartialEq, Eq)]
-pub enum WidePlace {
-    /// The lines of the basis after a turn.
-    Entry,
-    /// Where the positions of the basis stand.
-    Value,
-    /// The number that takes the place of the infinitesimal, and the values of the columns by it.
-    Settle,
-    /// The sum of the rows that no values meet.
-    Lemma,
 }

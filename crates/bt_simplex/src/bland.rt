@@ -6,21 +6,20 @@ ghost use Rattle.bt_frac.specs.Ratio.{Ratio};
 ghost use Rattle.bt_frac.specs.Rows.{RowParts};
 ghost use Rattle.bt_simplex.specs.Causes.{IsCause};
 ghost use Rattle.bt_frac.specs.declared.delta.Delta.{Delta};
-ghost use Rattle.bt_simplex.specs.Points.{bound_value};
-ghost use Rattle.bt_line.specs.Lines.{signed_terms, one};
-ghost use Rattle.bt_simplex.specs.Turns.{Breaks, Fails, MovesTowards, CanEnter};
-ghost use Rattle.bt_simplex.specs.inner.Bases.{with_slots, IsBoundOrder, MayEnter, Names, Finds, IsLeastOf, IsNext};
-ghost use Rattle.bt_simplex.specs.inner.SumCache.{AreKept};
-ghost use Rattle.bt_line.specs.TermSigns.{IsSign, IsSignedTerm};
+ghost use Rattle.bt_pivot.specs.Points.{bound_value};
+ghost use Rattle.bt_linear.specs.Lines.{signed_terms, one};
+ghost use Rattle.bt_pivot.specs.Points.{Breaks, Fails};
+ghost use Rattle.bt_simplex.specs.Pivots.{MovesTowards, CanEnter};
+ghost use Rattle.bt_pivot.specs.Tableaus.{with_slots};
+ghost use Rattle.bt_pivot.specs.Points.{IsBoundOrder};
+ghost use Rattle.bt_simplex.specs.inner.Bases.{MayEnter, Names, Finds, IsLeastOf, IsNext};
+ghost use Rattle.bt_pivot.specs.Sums.{AreKept};
+ghost use Rattle.bt_linear.specs.TermSigns.{IsSign, IsSignedTerm};
 
-use crate::basis::{Basis, Place};
-use crate::causes::Cause;
 use crate::points::{bound_value, point};
-use crate::short_points::{breaks_at, breaks_by, order_by};
-use crate::sum_cache::{SumCache, class_sums};
-use crate::tableau::{Tableau, Turn};
 use bt_frac::{Delta, Relation, Row};
-use bt_line::Line;
+use bt_linear::Line;
+use bt_pivot::{Basis, Cause, Pivot, Place, SumCache, Table, fails_whole, whole_order};
 use std::cmp::Ordering;
 
 /// The least position that has a property.
@@ -37,8 +36,8 @@ pub enum Least {
 /// What Bland's rule says of a basis.
 #[derive(Clone, Copy)]
 pub enum Next {
-    /// This turn comes next.
-    Turn(Turn),
+    /// This pivot comes next.
+    Pivot(Pivot),
     /// No position fails.
     Met,
     /// This position fails, and none can enter for it.
@@ -74,7 +73,7 @@ fn moves_towards(bound: Ordering, sign: Ordering) -> bool
 
 /// Whether a position with a number of this sign in the failing row's line may be moved, by how the bound
 /// value stands to where the row stands.
-fn may_enter(tableau: &Tableau, bound: Ordering, position: usize, sign: Ordering) -> bool
+fn may_enter(tableau: &Table, bound: Ordering, position: usize, sign: Ordering) -> bool
     ensures { (row : RowParts) (point : Delta) (number : Ratio)
         → IsOrderOfDeltas bound (bound_value row) point → IsSign sign number.over
         → (IsTrue result ↔ MayEnter tableau.now row point position number) }
@@ -85,46 +84,8 @@ fn may_enter(tableau: &Tableau, bound: Ordering, position: usize, sign: Ordering
     }
 }
 
-/// Whether a position is a bound row of the basis that doesn't hold, where whole numbers tell it.
-fn fails_whole(
-    tableau: &Tableau,
-    basis: &Basis,
-    position: usize,
-    kept: &mut SumCache,
-) -> Option<bool>
-    requires kept { AreKept tableau.now basis.now kept.old.sums.items }
-    ensures told { IfSome result
-        (λ told. IsTrue told ↔ Fails (with_slots tableau.now basis.now) position) }
-    ensures kept { AreKept tableau.now basis.now kept.new.sums.items }
-{
-    tableau.all_known();
-    let rest = tableau.whole_rest(position)?;
-    let Some(relation) = rest.relation else {
-        return Some(false);
-    };
-    match basis.place(position) {
-        Place::Line {
-            class,
-            first,
-            line,
-            negated,
-        } => {
-            line.known();
-            let of_class = class_sums(tableau, kept, class, first, line)?;
-            let told = breaks_by(relation, rest, of_class.sums, negated)?;
-            Some(told)
-        }
-        Place::Like { other, negated } => {
-            let other_rest = tableau.whole_rest(other)?;
-            let told = breaks_at(relation, rest, other_rest, negated)?;
-            Some(told)
-        }
-        Place::Outside => Some(false),
-    }
-}
-
 /// The same by fractions; or why the position's point doesn't fit.
-fn fails_long(tableau: &Tableau, basis: &Basis, position: usize) -> Result<bool, Cause>
+fn fails_long(tableau: &Table, basis: &Basis, position: usize) -> Result<bool, Cause>
     ensures told { IfOk result (λ told. IsTrue told ↔ Fails (with_slots tableau.now basis.now) position) }
     ensures unfit { IfErr result (IsCause (with_slots tableau.now basis.now)) }
 {
@@ -139,7 +100,7 @@ fn fails_long(tableau: &Tableau, basis: &Basis, position: usize) -> Result<bool,
 }
 
 /// The least position that fails, which is none of the columns.
-pub fn leaving(tableau: &Tableau, basis: &Basis, kept: &mut SumCache) -> Least
+pub fn leaving(tableau: &Table, basis: &Basis, kept: &mut SumCache) -> Least
     requires { AreKept tableau.now basis.now kept.old.sums.items }
     ensures least { Finds (with_slots tableau.now basis.now)
         (λ p. Fails (with_slots tableau.now basis.now) p) result }
@@ -161,7 +122,7 @@ pub fn leaving(tableau: &Tableau, basis: &Basis, kept: &mut SumCache) -> Least
 
 /// The least position that may be moved of a line, or of the line with the other sign where this is told, by
 /// how the bound value of its row stands to where the row stands.
-fn first_entering(tableau: &Tableau, bound: Ordering, line: &Line, negated: bool) -> Option<usize>
+fn first_entering(tableau: &Table, bound: Ordering, line: &Line, negated: bool) -> Option<usize>
     ensures { (row : RowParts) (point : Delta) → IsOrderOfDeltas bound (bound_value row) point
         → IsLeastOf (λ e. Names (signed_terms negated line.now) (MayEnter tableau.now row point) e) result }
 {
@@ -175,38 +136,9 @@ fn first_entering(tableau: &Tableau, bound: Ordering, line: &Line, negated: bool
     None
 }
 
-/// How the bound value of a row of the basis stands to where the row stands, where whole numbers tell it.
-fn whole_order(
-    tableau: &Tableau,
-    basis: &Basis,
-    position: usize,
-    kept: &mut SumCache,
-) -> Option<Ordering>
-    requires kept { AreKept tableau.now basis.now kept.old.sums.items }
-    ensures order { IfSome result (IsBoundOrder (with_slots tableau.now basis.now) position) }
-    ensures kept { AreKept tableau.now basis.now kept.new.sums.items }
-{
-    tableau.all_known();
-    let rest = tableau.whole_rest(position)?;
-    match basis.place(position) {
-        Place::Line {
-            class,
-            first,
-            line,
-            negated,
-        } => {
-            line.known();
-            let of_class = class_sums(tableau, kept, class, first, line)?;
-            let order = order_by(rest, of_class.sums, negated)?;
-            Some(order)
-        }
-        Place::Like { .. } | Place::Outside => None,
-    }
-}
-
 /// The same, by fractions where whole numbers don't tell it; or why the position's point doesn't fit.
 fn bound_order(
-    tableau: &Tableau,
+    tableau: &Table,
     basis: &Basis,
     position: usize,
     kept: &mut SumCache,
@@ -228,7 +160,7 @@ fn bound_order(
 }
 
 /// The least position that can enter for one that fails.
-pub fn entering(tableau: &Tableau, basis: &Basis, leaves: usize, kept: &mut SumCache) -> Least
+pub fn entering(tableau: &Table, basis: &Basis, leaves: usize, kept: &mut SumCache) -> Least
     requires fails { Fails (with_slots tableau.now basis.now) leaves }
     requires kept { AreKept tableau.now basis.now kept.old.sums.items }
     ensures least { Finds (with_slots tableau.now basis.now)
@@ -245,7 +177,7 @@ pub fn entering(tableau: &Tableau, basis: &Basis, leaves: usize, kept: &mut SumC
 }
 
 /// The least position that can enter for one that fails, by how its bound value stands to where it stands.
-fn entering_by(tableau: &Tableau, basis: &Basis, leaves: usize, order: Ordering) -> Option<usize>
+fn entering_by(tableau: &Table, basis: &Basis, leaves: usize, order: Ordering) -> Option<usize>
     requires fails { Fails (with_slots tableau.now basis.now) leaves }
     requires order { IsBoundOrder (with_slots tableau.now basis.now) leaves order }
     ensures { IsLeastOf (λ e. CanEnter (with_slots tableau.now basis.now) leaves e) result }
@@ -270,12 +202,7 @@ fn alone_sign(negated: bool) -> Ordering
 }
 
 /// The position, where it may be moved as the only one of a line, with the number 1, or -1 where this is told.
-fn alone_entering(
-    tableau: &Tableau,
-    bound: Ordering,
-    position: usize,
-    negated: bool,
-) -> Option<usize>
+fn alone_entering(tableau: &Table, bound: Ordering, position: usize, negated: bool) -> Option<usize>
     requires { position < 2 ^ 64 - 1 }
     ensures { (row : RowParts) (point : Delta) → IsOrderOfDeltas bound (bound_value row) point
         → IsLeastOf
@@ -289,15 +216,15 @@ fn alone_entering(
     }
 }
 
-/// Bland's turn of a basis, or how the basis is final.
-pub fn blands_next(tableau: &Tableau, basis: &Basis, kept: &mut SumCache) -> Next
+/// Bland's pivot of a basis, or how the basis is final.
+pub fn blands_next(tableau: &Table, basis: &Basis, kept: &mut SumCache) -> Next
     requires { AreKept tableau.now basis.now kept.old.sums.items }
     ensures next { IsNext (with_slots tableau.now basis.now) result }
     ensures kept { AreKept tableau.now basis.now kept.new.sums.items }
 {
     match leaving(tableau, basis, kept) {
         Least::At(leaves) => match entering(tableau, basis, leaves, kept) {
-            Least::At(enters) => Next::Turn(Turn { leaves, enters }),
+            Least::At(enters) => Next::Pivot(Pivot { leaves, enters }),
             Least::Nowhere => Next::Stuck(leaves),
             Least::Wide(cause) => Next::Wide(cause),
         },

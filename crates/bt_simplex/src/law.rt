@@ -1,4 +1,4 @@
-//! Laws of solved forms and of turns, as contracts of functions that do nothing.
+//! Laws of solved forms and of pivots, as contracts of functions that do nothing.
 ghost use Rattle.bt_simplex.specs.Laws.{OneSolvedForm, NoBasisComesBack, AscendingListsAreFew};
 
 /// Rows have at most one solved form at a basis, so that a basis settles the lines and the point.
@@ -6,7 +6,7 @@ pub fn one_solved_form()
     ensures { OneSolvedForm }
 {}
 
-/// No run of Bland's turns comes back to a basis, so that the bases of a run are pairwise different.
+/// No run of Bland's pivots comes back to a basis, so that the bases of a run are pairwise different.
 pub fn no_basis_comes_back()
     ensures { NoBasisComesBack }
 {}

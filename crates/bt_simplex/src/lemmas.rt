@@ -8,21 +8,19 @@ ghost use Rattle.bt_lin.specs.Farkas.{IsFarkas};
 ghost use Rattle.bt_lin.specs.WeightedRows.{coefficient_at, weighted};
 ghost use Rattle.bt_simplex.specs.Causes.{IsCause};
 ghost use Rattle.bt_simplex.specs.Checks.{RefutesBoundRows};
-ghost use Rattle.bt_line.specs.Lines.{one, IsLine, IsCombination};
-ghost use Rattle.bt_simplex.specs.Points.{bound_value};
-ghost use Rattle.bt_simplex.specs.Tableaus.{IsTableau};
-ghost use Rattle.bt_simplex.specs.Turns.{IsStuckAt};
-ghost use Rattle.bt_simplex.specs.inner.Bases.{with_slots};
+ghost use Rattle.bt_linear.specs.Lines.{one, IsLine, IsCombination};
+ghost use Rattle.bt_pivot.specs.Points.{bound_value};
+ghost use Rattle.bt_pivot.specs.Tableaus.{IsTableau};
+ghost use Rattle.bt_simplex.specs.Pivots.{IsStuckAt};
+ghost use Rattle.bt_pivot.specs.Tableaus.{with_slots};
 ghost use Rattle.bt_simplex.specs.inner.Lemmas.{weight_of, AreLineWeights};
 
-use crate::basis::Basis;
-use crate::causes::Cause;
 use crate::points::{bound_value, line_point};
 use crate::sums::sum_cause;
-use crate::tableau::Tableau;
 use bt_frac::{Delta, Frac, Row};
 use bt_lin::{SumFault, Weigher, WideAt};
-use bt_line::{Line, Term, combined};
+use bt_linear::{Line, Term, combined};
+use bt_pivot::{Basis, Cause, Table};
 use std::alloc::{AllocError, Global};
 use std::cmp::Ordering;
 
@@ -74,7 +72,7 @@ fn weights_of(
 /// The weights of the failing row and of the rows of its line, where none of these can enter; or why
 /// where it stands doesn't fit.
 fn stuck_weights(
-    tableau: &Tableau,
+    tableau: &Table,
     alloc: Global,
     basis: &Basis,
     position: usize,
@@ -138,7 +136,7 @@ fn weighed(
 /// Bound rows and weights that `farkas` accepts, where a position fails and none can enter for it; or
 /// why such a number doesn't fit.
 pub fn lemma(
-    tableau: &Tableau,
+    tableau: &Table,
     alloc: Global,
     basis: &Basis,
     position: usize,

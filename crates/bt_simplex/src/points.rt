@@ -2,19 +2,16 @@
 ghost use Rattle.std.specs.Prelude.{◌≡◌, IfOk, IfErr, Some};
 ghost use Rattle.bt_frac.specs.Ratio.{IsLowest};
 ghost use Rattle.bt_simplex.specs.Causes.{IsCause};
-ghost use Rattle.bt_line.specs.Lines.{IsLine};
-ghost use Rattle.bt_simplex.specs.Points.{bound_value, resting, standing, point_at};
-ghost use Rattle.bt_simplex.specs.inner.Bases.{with_slots, IsSamePoint, signed_point};
-ghost use Rattle.bt_line.specs.Unfits.{IsUnfitHere};
+ghost use Rattle.bt_linear.specs.Lines.{IsLine};
+ghost use Rattle.bt_pivot.specs.Points.{bound_value, resting, standing, point_at};
+ghost use Rattle.bt_pivot.specs.Tableaus.{with_slots};
+ghost use Rattle.bt_pivot.specs.Points.{IsSamePoint, signed_point};
+ghost use Rattle.bt_linear.specs.Unfits.{IsUnfitHere};
 ghost use Rattle.bt_simplex.specs.inner.UnfitPoints.{AddsPart, AddsTerm, IsUnfitTerm, IsUnfitPoint, value_cause};
 
-use crate::answers::WidePlace;
-use crate::basis::{Basis, Place};
-use crate::causes::Cause;
-use crate::short_points::short_point;
-use crate::tableau::Tableau;
 use bt_frac::{Delta, Frac, Relation, Row};
-use bt_line::{Line, Operation, Term, Unfit, is_zero};
+use bt_linear::{Line, Operation, Term, Unfit, is_zero};
+use bt_pivot::{Basis, Cause, Place, Table, WidePlace, short_point};
 
 /// The least that the sum of a row may be, with the infinitesimal where it is strict.
 pub fn bound_value(row: &Row) -> Delta
@@ -32,7 +29,7 @@ pub fn bound_value(row: &Row) -> Delta
 }
 
 /// Where a position stands while it is outside the basis.
-pub fn rest(tableau: &Tableau, position: usize) -> Delta
+pub fn rest(tableau: &Table, position: usize) -> Delta
     ensures { result ≡ resting tableau.now position }
 {
     match tableau.bound_row(position) {
@@ -75,7 +72,7 @@ pub fn added_part(sum: &Frac, position: usize, number: &Frac, part: &Frac) -> Re
 }
 
 /// The sum with a term added to it where its position rests; or the operation whose result doesn't fit.
-fn added_term(tableau: &Tableau, sum: &Delta, term: &Term) -> Result<Delta, Unfit>
+fn added_term(tableau: &Table, sum: &Delta, term: &Term) -> Result<Delta, Unfit>
     ensures sum { IfOk result (AddsTerm (resting tableau.now term.now.0) sum.now term.now.1) }
     ensures unfit { IfErr result (IsUnfitTerm (resting tableau.now term.now.0) sum.now term.now) }
 {
@@ -90,7 +87,7 @@ fn added_term(tableau: &Tableau, sum: &Delta, term: &Term) -> Result<Delta, Unfi
 }
 
 /// What the line of a position adds up to where its positions rest; or why that doesn't fit.
-pub fn line_point(tableau: &Tableau, position: usize, line: &Line) -> Result<Delta, Cause>
+pub fn line_point(tableau: &Table, position: usize, line: &Line) -> Result<Delta, Cause>
     ensures known { IsLine line.now }
     ensures point { IfOk result (λ d. IsSamePoint d (standing (resting tableau.now) 0 (Some line.now))) }
     ensures unfit { IfErr result (IsUnfitPoint (resting tableau.now) position line.now) }
@@ -105,7 +102,7 @@ pub fn line_point(tableau: &Tableau, position: usize, line: &Line) -> Result<Del
 }
 
 /// The same by fractions, of which the first product or sum that doesn't fit is told.
-fn long_point(tableau: &Tableau, position: usize, line: &Line) -> Result<Delta, Cause>
+fn long_point(tableau: &Table, position: usize, line: &Line) -> Result<Delta, Cause>
     ensures point { IfOk result (λ d. IsSamePoint d (standing (resting tableau.now) 0 (Some line.now))) }
     ensures unfit { IfErr result (IsUnfitPoint (resting tableau.now) position line.now) }
 {
@@ -154,7 +151,7 @@ fn signed_point(point: Delta, negated: bool) -> Delta
 }
 
 /// Where a position stands; or why that doesn't fit.
-pub fn point(tableau: &Tableau, basis: &Basis, position: usize) -> Result<Delta, Cause>
+pub fn point(tableau: &Table, basis: &Basis, position: usize) -> Result<Delta, Cause>
     ensures point { IfOk result (λ d. IsSamePoint d (point_at (with_slots tableau.now basis.now) position)) }
     ensures unfit { IfErr result (IsCause (with_slots tableau.now basis.now)) }
 {

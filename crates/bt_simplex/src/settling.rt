@@ -4,19 +4,16 @@ ghost use Rattle.std.specs.Prelude.{◌≡◌, ◌<◌, ℕ, pos, ◌<ℤ◌, If
 ghost use Rattle.bt_frac.specs.Rows.{IsRow};
 ghost use Rattle.bt_simplex.specs.Causes.{IsCause, IsEpsilon};
 ghost use Rattle.bt_simplex.specs.Checks.{MeetsBoundRows};
-ghost use Rattle.bt_simplex.specs.Points.{point_at, bound_row};
-ghost use Rattle.bt_simplex.specs.Tableaus.{IsTableau};
-ghost use Rattle.bt_simplex.specs.Turns.{IsMet};
-ghost use Rattle.bt_simplex.specs.inner.Bases.{with_slots};
+ghost use Rattle.bt_pivot.specs.Points.{point_at, bound_row};
+ghost use Rattle.bt_pivot.specs.Tableaus.{IsTableau};
+ghost use Rattle.bt_simplex.specs.Pivots.{IsMet};
+ghost use Rattle.bt_pivot.specs.Tableaus.{with_slots};
 ghost use Rattle.bt_simplex.specs.inner.Settling.{IsLesser, IsFallingFrom, IsRoom, IsRoomAt, IsUnfitRoom, IsSettled};
 
-use crate::answers::WidePlace;
-use crate::basis::Basis;
-use crate::causes::Cause;
 use crate::points::point;
-use crate::tableau::Tableau;
 use bt_frac::{Delta, Frac, Row};
-use bt_line::Operation;
+use bt_linear::Operation;
+use bt_pivot::{Basis, Cause, Table, WidePlace};
 use std::alloc::{AllocError, Global};
 use std::cmp::Ordering;
 
@@ -84,7 +81,7 @@ fn room(position: usize, row: &Row, point: &Delta) -> Result<Frac, Cause>
 
 /// Half of what the infinitesimal may be by a position, where that is a bound row that falls; or why
 /// that doesn't fit.
-fn room_at(tableau: &Tableau, basis: &Basis, position: usize) -> Result<Option<Frac>, Cause>
+fn room_at(tableau: &Table, basis: &Basis, position: usize) -> Result<Option<Frac>, Cause>
     requires { IsMet (with_slots tableau.now basis.now) }
     ensures room { IfOk result (IsRoomAt (with_slots tableau.now basis.now) position) }
     ensures unfit { IfErr result (IsCause (with_slots tableau.now basis.now)) }
@@ -102,7 +99,7 @@ fn room_at(tableau: &Tableau, basis: &Basis, position: usize) -> Result<Option<F
 
 /// The number that takes the place of the infinitesimal: the least of 1 and of half of what each bound
 /// row lets it be. Or why such a number doesn't fit.
-fn epsilon(tableau: &Tableau, basis: &Basis) -> Result<Frac, Cause>
+fn epsilon(tableau: &Table, basis: &Basis) -> Result<Frac, Cause>
     requires tableau { IsTableau (with_slots tableau.now basis.now) }
     requires met { IsMet (with_slots tableau.now basis.now) }
     ensures epsilon { IfOk result (IsEpsilon (with_slots tableau.now basis.now)) }
@@ -130,7 +127,7 @@ fn lesser(first: Frac, second: Frac) -> Frac
 
 /// The value of a column; or why it doesn't fit.
 fn column_value(
-    tableau: &Tableau,
+    tableau: &Table,
     basis: &Basis,
     epsilon: &Frac,
     column: usize,
@@ -154,7 +151,7 @@ fn column_value(
 /// Values of the columns that meet every bound row, where nothing fails; or why such a number doesn't
 /// fit.
 pub fn settled(
-    tableau: &Tableau,
+    tableau: &Table,
     alloc: Global,
     basis: &Basis,
 ) -> Result<Result<Vec<Frac>, Cause>, AllocError>

@@ -6,12 +6,11 @@ ghost use Rattle.bt_lin.specs.WeightedRows.{number_of};
 ghost use Rattle.bt_simplex.specs.Weights.{weighted_rows};
 ghost use Rattle.bt_simplex.specs.inner.Sums.{IsUnfitAt, IsUnfitSum, lemma_cause};
 
-use crate::answers::WidePlace;
-use crate::causes::Cause;
 use crate::points::added_part;
 use bt_frac::{Frac, Row};
 use bt_lin::{Place, WideAt, part};
-use bt_line::{Term, Unfit};
+use bt_linear::{Term, Unfit};
+use bt_pivot::{Cause, WidePlace};
 
 /// The place at which the sum is wide: the column, where the row has it, and else the bound.
 fn wide_place(rows: &[Row], weights: &[Term], at: WideAt) -> Place

@@ -1,33 +1,16 @@
 //! Tableaus: rows over columns, of which some are bound, and a basis with its solved form.
-ghost use Rattle.std.specs.Prelude.{◌≡◌, ℕ, ◌<◌, IfOk, IfSome, OnErr, MatchOption, Some, None, length, true, false, IsTrue, slice_index_or};
-ghost use Rattle.bt_simplex.specs.Checks.{IsCheck, StartsAt};
-ghost use Rattle.bt_simplex.specs.inner.Bases.{with_slots};
-ghost use Rattle.bt_simplex.specs.inner.Checking.{Concludes, IsWideFor, slots_after};
-ghost use Rattle.bt_simplex.specs.inner.Runs.{IsRun};
-ghost use Rattle.bt_simplex.specs.inner.Rests.{IsRestOf, relation_of};
-ghost use Rattle.bt_simplex.specs.Points.{bound_row};
-ghost use Rattle.bt_simplex.specs.Tableaus.{AreOverColumns, IsNew, IsBoundAs, IsTableau};
+ghost use Rattle.std.specs.Prelude.{◌≡◌, ◌<◌, IfOk, OnErr, MatchOption, Some, None, length, true, false};
+ghost use Rattle.bt_pivot.specs.Points.{bound_row};
+ghost use Rattle.bt_pivot.specs.Tableaus.{AreOverColumns, IsNew, IsBoundAs, IsTableau, with_slots};
+ghost use Rattle.bt_simplex.specs.Checks.{IsCheck};
+ghost use Rattle.bt_simplex.specs.inner.Checking.{Concludes, slots_after};
 
-use crate::answers::{Check, Trail, Wide};
-use crate::basis::Basis;
-use crate::causes::Cause;
-use crate::lemmas::lemma;
-use crate::rests::{Rest, all_free};
-use crate::running::{End, turned_from};
-use crate::settling::settled;
-use crate::starting::{all_known, copied, first_basis, unbound};
-use crate::trails::{bound_rows, positions};
-use crate::workspace::Workspace;
-use bt_frac::{Relation, Row};
+use crate::answers::Check;
+use crate::concluding::checked;
+use bt_frac::Row;
+use bt_pivot::{Table, Workspace};
 use std::alloc::{AllocError, Global};
 use std::marker::Model;
-
-/// One position leaves the basis, and another enters it.
-#[derive(Clone, Copy, PartialEq, Eq)]
-pub struct Turn {
-    pub leaves: usize,
-    pub enters: usize,
-}
 
 /// Rows over columns, of which some are bound, and a basis of positions with its solved form: the line of
 /// each position of the basis gives what stands there by what stands outside the basis.
@@ -36,40 +19,17 @@ pub struct Turn {
 /// the rows.
 #[derive(Drop)]
 pub struct Tableau {
-    rows: Vec<Row>,
-    columns: usize,
-    bound: Vec<bool>,
-    /// For each position where it rests; None where that isn't told by small whole numbers.
-    rests: Vec<Option<Rest>>,
-    basis: Basis,
+    table: Table,
     /// The memory of the basis before the last one, for the next check.
     spare: Workspace,
 }
 
 impl Model for Tableau {
-    ghost use Rattle.bt_simplex.specs.Tableaus.{TableauParts, IsTableau};
-    ghost use Rattle.bt_simplex.specs.inner.Rests.{AreRests};
+    ghost use Rattle.bt_pivot.specs.Tableaus.{TableauParts};
 
     ghost Value = { TableauParts };
 
-    ghost view = { λ t. record {
-      rows = t.rows.items;
-      columns = t.columns;
-      bound = t.bound.items;
-      slots = t.basis;
-    } };
-
-    ghost invariant = { λ t. IsTableau (record {
-      rows = t.rows.items;
-      columns = t.columns;
-      bound = t.bound.items;
-      slots = t.basis;
-    }) × AreRests (record {
-      rows = t.rows.items;
-      columns = t.columns;
-      bound = t.bound.items;
-      slots = t.basis;
-    }) t.rests.items };
+    ghost view = { λ t. t.table };
 }
 
 impl Tableau {
@@ -78,16 +38,8 @@ impl Tableau {
         requires { AreOverColumns columns rows.now }
         ensures { IfOk result (IsNew rows.now columns) }
     {
-        all_known(rows);
-        let bound = unbound(alloc, rows.len())?;
-        let basis = first_basis(alloc, rows, columns)?;
-        let rests = all_free(alloc, basis.len())?;
         Ok(Tableau {
-            rows: copied(alloc, rows)?,
-            columns,
-            bound,
-            rests,
-            basis,
+            table: Table::new(alloc, rows, columns)?,
             spare: Workspace::none(alloc),
         })
     }
@@ -97,9 +49,7 @@ impl Tableau {
         requires { row < length self.old.rows }
         ensures { IsBoundAs true row self.old self.new }
     {
-        self.bound[row] = true;
-        let rest = Rest::at_bound(&self.rows[row]);
-        self.rests[self.columns + row] = rest;
+        self.table.set_bound(row);
     }
 
     /// Requires the row no longer. The basis stays.
@@ -107,15 +57,14 @@ impl Tableau {
         requires { row < length self.old.rows }
         ensures { IsBoundAs false row self.old self.new }
     {
-        self.bound[row] = false;
-        self.rests[self.columns + row] = Some(Rest::free());
+        self.table.clear_bound(row);
     }
 
-    /// Makes Bland's turns from the basis on, at most `pivots`, to a final one, and answers with values
+    /// Makes Bland's pivots from the basis on, at most `pivots`, to a final one, and answers with values
     /// that meet every bound row, or with bound rows and weights that show that no values do.
     ///
-    /// Bland's turn: the least position of the basis that fails its bound leaves, and the least that
-    /// can move it towards its bound enters. `Pivots` comes only after exactly `pivots` turns, at a basis
+    /// Bland's pivot: the least position of the basis that fails its bound leaves, and the least that
+    /// can move it towards its bound enters. `Pivots` comes only after exactly `pivots` pivots, at a basis
     /// that isn't final. `Wide` names an operation whose result leaves 128 bits, and its two numbers. After
     /// both of them and after a want of memory the tableau is as before.
     pub fn check(&mut self, alloc: Global, pivots: u64) -> Result<Check, AllocError>
@@ -134,10 +83,10 @@ impl Tableau {
         ensures same { self.new ≡ self.old }
     {
         let spare = std::mem::replace(&mut self.spare, Workspace::none(alloc));
-        spare.copy_of(alloc, &self.basis)
+        spare.copy_of(alloc, self.table.basis())
     }
 
-    /// The same check on a copy of the basis, to which the turns are made.
+    /// The same check on a copy of the basis, to which the pivots are made.
     fn check_in(
         &self,
         alloc: Global,
@@ -147,40 +96,10 @@ impl Tableau {
         requires { work.old.basis ≡ self.now.slots }
         ensures { IfOk result (Concludes pivots self.now work.new.basis) }
     {
-        self.all_known();
-        let mut turns = Vec::new(alloc);
-        let end = turned_from(self, alloc, work, &mut turns, pivots)?;
-        self.answer(alloc, turns, &work.basis, end)
+        checked(&self.table, alloc, pivots, work)
     }
 
-    /// The answer where these turns lead to this basis, and end there.
-    fn answer(
-        &self,
-        alloc: Global,
-        turns: Vec<Turn>,
-        basis: &Basis,
-        end: End,
-    ) -> Result<Check, AllocError>
-        requires tableau { IsTableau self.now }
-        requires run { (pivots : ℕ) × IsRun pivots self.now turns.items basis.now end }
-        ensures { (pivots : ℕ) → IsRun pivots self.now turns.items basis.now end
-            → IfOk result (Concludes pivots self.now basis.now) }
-    {
-        match end {
-            End::Met => match settled(self, alloc, basis)? {
-                Ok(values) => Ok(Check::Sat(values)),
-                Err(cause) => Ok(Check::Wide(self.wide(alloc, turns, basis, cause)?)),
-            },
-            End::Stuck(position) => match lemma(self, alloc, basis, position)? {
-                Ok(weights) => Ok(Check::Unsat(weights)),
-                Err(cause) => Ok(Check::Wide(self.wide(alloc, turns, basis, cause)?)),
-            },
-            End::Pivots => Ok(Check::Pivots(self.trail(alloc, turns)?)),
-            End::Wide(cause) => Ok(Check::Wide(self.wide(alloc, turns, basis, cause)?)),
-        }
-    }
-
-    /// Takes in the basis that the turns of a check lead to, where that is final, and keeps the other one's memory for the
+    /// Takes in the basis that the pivots of a check lead to, where that is final, and keeps the other one's memory for the
     /// next check.
     fn keep(&mut self, work: Workspace, check: &Check)
         requires { IsTableau (with_slots self.old (slots_after self.old.slots work.basis check.now)) }
@@ -198,7 +117,7 @@ impl Tableau {
         ensures { self.new ≡ with_slots self.old work.basis }
     {
         let Workspace { basis, rooms, kept } = work;
-        let before = std::mem::replace(&mut self.basis, basis);
+        let before = self.table.replace_basis(basis);
         self.spare = Workspace {
             basis: before,
             rooms,
@@ -206,51 +125,18 @@ impl Tableau {
         };
     }
 
-    /// The trail of these turns from the tableau's basis on.
-    fn trail(&self, alloc: Global, turns: Vec<Turn>) -> Result<Trail, AllocError>
-        ensures { IfOk result (λ trail. StartsAt self.now trail × (trail.turns ≡ turns)) }
-    {
-        Ok(Trail {
-            start: positions(alloc, &self.basis)?,
-            bound: bound_rows(alloc, &self.bound)?,
-            turns,
-        })
-    }
-
-    /// The cause, after these turns, which lead to this basis.
-    fn wide(
-        &self,
-        alloc: Global,
-        turns: Vec<Turn>,
-        basis: &Basis,
-        cause: Cause,
-    ) -> Result<Wide, AllocError>
-        ensures { IfOk result (IsWideFor self.now turns.items basis.now cause) }
-    {
-        Ok(Wide {
-            trail: self.trail(alloc, turns)?,
-            place: cause.place,
-            basis: positions(alloc, basis)?,
-            row: cause.row,
-            column: cause.column,
-            operation: cause.operation,
-            left: cause.left,
-            right: cause.right,
-        })
-    }
-
     /// The rows.
     pub fn rows(&self) -> &[Row]
         ensures { result.now ≡ self.now.rows }
     {
-        &self.rows
+        self.table.rows()
     }
 
     /// The number of columns.
     pub fn columns(&self) -> usize
         ensures { result ≡ self.now.columns }
     {
-        self.columns
+        self.table.columns()
     }
 
     /// The row of a position, where that is a row and bound.
@@ -258,48 +144,13 @@ impl Tableau {
         ensures { MatchOption result (bound_row self.now position ≡ None)
             (λ row. bound_row self.now position ≡ Some row.now) }
     {
-        if position < self.columns {
-            return None;
-        }
-        let row = position - self.columns;
-        if !is_bound(&self.bound, row) {
-            return None;
-        }
-        self.rows.get(row)
-    }
-
-    /// Where a position rests and whether it is a bound row, where that is told by small whole numbers.
-    pub(crate) fn whole_rest(&self, position: usize) -> Option<Rest>
-        ensures { IfSome result (IsRestOf (bound_row self.now position)) }
-    {
-        if position < self.rests.len() {
-            self.rests[position]
-        } else {
-            None
-        }
-    }
-
-    /// The relation of the row of a position, where that is a row and bound.
-    pub(crate) fn bound_relation(&self, position: usize) -> Option<Relation>
-        ensures { result ≡ relation_of (bound_row self.now position) }
-    {
-        match self.whole_rest(position) {
-            Some(rest) => rest.relation,
-            None => Some(self.bound_row(position)?.relation()),
-        }
+        self.table.bound_row(position)
     }
 
     /// Tells a proof that the tableau is one. It does nothing when it runs.
     pub fn all_known(&self)
         ensures { IsTableau self.now }
     {
-        let _ = &self.rows;
+        self.table.all_known();
     }
-}
-
-/// Whether a row is bound.
-fn is_bound(bound: &[bool], row: usize) -> bool
-    ensures { result ≡ slice_index_or bound.now row false }
-{
-    row < bound.len() && bound[row]
 }

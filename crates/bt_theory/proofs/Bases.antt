@@ -14,7 +14,7 @@ use Rattle.bt_extend.specs.Extending.{extended}
 use Rattle.bt_extend.specs.declared.definition.Definition.{Definition}
 use Rattle.bt_extend.proofs.Conservative.{Prolongs, extended_prolongs}
 use Rattle.bt_extend.proofs.SameOn.{clauses_same}
-use Rattle.bt_simplex.specs.Tableaus.{AreOverColumns}
+use Rattle.bt_pivot.specs.Tableaus.{AreOverColumns}
 use Rattle.bt_theory.specs.Reaching.{atom_rows, atom_vars, columns_of}
 use Rattle.bt_theory.specs.declared.base.Base.{Base}
 use Rattle.bt_theory.specs.inner.Bases.{base_in, IsBase, IsWhole}

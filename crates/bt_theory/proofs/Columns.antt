@@ -4,7 +4,7 @@ use Rattle.std.specs.List.{All}
 use Rattle.std.proofs.lemmas.List.Elements.{All-nil, All-cons, All-head, All-tail, All-contains, Contains-append_left, Contains-append_right, Contains-get_or, All-weaker}
 use Rattle.bt_frac.specs.Ratio.{Ratio}
 use Rattle.bt_frac.specs.Rows.{RowParts, columns_in, columns_of, end_of}
-use Rattle.bt_simplex.specs.Tableaus.{AreOverColumns}
+use Rattle.bt_pivot.specs.Tableaus.{AreOverColumns}
 
 below_end : (columns : List ℕ) → All (λ c. c < end_of columns) columns
 below_end [] = All-nil (λ c. c < end_of [])

@@ -23,10 +23,10 @@ use Rattle.bt_theory.specs.declared.round.End.{End}
 use Rattle.bt_theory.specs.declared.round.End.TheVariants as end
 use Rattle.bt_cnf.specs.Formulas.{FormulaParts}
 use Rattle.bt_cnf.specs.declared.literal.Lit.{Lit}
-use Rattle.bt_simplex.specs.SolvedForms.{basis_of}
+use Rattle.bt_pivot.specs.SolvedForms.{basis_of}
 use Rattle.bt_theory.specs.Reaching.{IsReachable, IsTableauOf}
 use Rattle.bt_theory.proofs.Rounds.{conflict_among, fits_on, learnt_fit, sound_log, used_up}
-use Rattle.bt_simplex.specs.Tableaus.{TableauParts}
+use Rattle.bt_pivot.specs.Tableaus.{TableauParts}
 
 -- the search goes on with more steps
 advances : (s s' : SolverParts) (more : List Step) → GoesOnBy more s s' → AllFit s → All (Fits s.formula) more → length s'.steps ≤ s'.limit → GoesOn s s'
@@ -120,7 +120,7 @@ module _ (pivots : ℕ) (s s' : SolverParts) (model : List Bool) (conflict : Con
       subst (λ x. IsTry pivots s x (tried.Ends end.Spent)) (sym same) (record { formula = refl; limit = refl }, λ _. used_up s has.sound fits spent)
   learnt_ends end.Refuted h = absurd h
   learnt_ends (end.Sat solution) h = absurd h
-  learnt_ends (end.Pivots trail) h = absurd h
+  learnt_ends (end.Pivots trace) h = absurd h
   learnt_ends (end.Wide wide) h = absurd h
 
 -- a conflict whose literals negate atoms that are true in the model is one under it

@@ -4,7 +4,7 @@ pub mod Atoms
 pub mod Columns
 pub mod Bases
 pub mod Reached
-pub mod Trails
+pub mod PivotTraces
 pub mod Scoped
 pub mod Rounds
 pub mod Goals

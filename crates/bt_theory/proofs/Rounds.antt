@@ -20,9 +20,9 @@ use Rattle.bt_sat.specs.Solving.{SolverParts, KeepsModel, IsLearnt, GoesOnBy, Is
 use Rattle.bt_sat.specs.Answering.{GivesNext}
 use Rattle.bt_sat.specs.declared.solver.Answer.{Answer}
 use Rattle.bt_sat.specs.declared.solver.Answer.TheVariants as answer
-use Rattle.bt_simplex.specs.SolvedForms.{basis_of}
+use Rattle.bt_pivot.specs.SolvedForms.{basis_of}
 use Rattle.bt_simplex.specs.Weights.{weighted_rows}
-use Rattle.bt_simplex.specs.Tableaus.{TableauParts}
+use Rattle.bt_pivot.specs.Tableaus.{TableauParts}
 use Rattle.bt_simplex.specs.Runs.{LeadsTo}
 use Rattle.bt_simplex.specs.Checks.{IsBound, MeetsBoundRows, RefutesBoundRows}
 use Rattle.bt_theory.specs.Reaching.{atom_rows, atom_vars, IsTableauOf, IsReachable}
@@ -288,5 +288,5 @@ module _ (pivots : ℕ) (b : Base) (s s' : SolverParts) (t : TableauParts) (chos
       subst (λ x. IsRound pivots b s x t (Some end.Spent)) (sym same) (ends_round pivots b s t end.Spent (used_up s of_model.has.sound ready.fits spent))
   learnt_round (Some end.Refuted) h = absurd h
   learnt_round (Some (end.Sat solution)) h = absurd h
-  learnt_round (Some (end.Pivots trail)) h = absurd h
+  learnt_round (Some (end.Pivots trace)) h = absurd h
   learnt_round (Some (end.Wide wide)) h = absurd h

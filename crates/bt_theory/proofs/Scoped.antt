@@ -12,10 +12,10 @@ use Rattle.bt_frac.specs.Rows.{RowParts, IsRowOf}
 use Rattle.bt_frac.specs.declared.row.Relation.{Relation}
 use Rattle.bt_lin.specs.WeightedRows.{empty_row}
 use Rattle.bt_cnf.specs.Formulas.{FormulaParts}
-use Rattle.bt_simplex.specs.Tableaus.{TableauParts}
-use Rattle.bt_simplex.specs.Turns.{Follows}
+use Rattle.bt_pivot.specs.Tableaus.{TableauParts}
+use Rattle.bt_simplex.specs.Pivots.{Follows}
 use Rattle.bt_simplex.specs.Checks.{IsCheck}
-use Rattle.bt_simplex.specs.declared.tableau.Turn.{Turn}
+use Rattle.bt_pivot.specs.declared.basis.Pivot.{Pivot}
 use Rattle.bt_simplex.specs.declared.answers.Check.{Check}
 use Rattle.bt_simplex.specs.declared.answers.Check.TheVariants as check
 use Rattle.bt_theory.specs.Reaching.{atom_rows, atom_vars}
@@ -50,16 +50,16 @@ contains_row : (f : FormulaParts) (a : ℕ × RowParts) → Contains f.atoms a �
 contains_row f a (k, l, at) =
     (k, (let long = length-map f.atoms (λ (x : ℕ × RowParts). x.1) in omega (arith, l, long)), get_or-map (λ (x : ℕ × RowParts). x.1) f.atoms k a a.1 l ∙ ap (λ (x : ℕ × RowParts). x.1) at)
 
--- turns change no row
-rows_stay : (turns : List Turn) (t t' : TableauParts) → Follows t turns t' → t'.rows ≡ t.rows
+-- pivots change no row
+rows_stay : (steps : List Pivot) (t t' : TableauParts) → Follows t steps t' → t'.rows ≡ t.rows
 rows_stay [] t t' e = ap (λ (x : TableauParts). x.rows) (sym e)
-rows_stay (turn ∷ turns) t t' (between, bland, turned, rest) = rows_stay turns between t' rest ∙ ap (λ (x : TableauParts). x.rows) turned.stays
+rows_stay (pivot ∷ steps) t t' (between, bland, pivoted, rest) = rows_stay steps between t' rest ∙ ap (λ (x : TableauParts). x.rows) pivoted.stays
 
 -- nor does a check
 pub check_rows : (pivots : ℕ) (t t' : TableauParts) (said : Check) → IsCheck pivots t t' said → t'.rows ≡ t.rows
-check_rows pivots t t' (check.Sat values) h = rows_stay h.0.turns t t' h.0.follows
-check_rows pivots t t' (check.Unsat weights) h = rows_stay h.0.turns t t' h.0.follows
-check_rows pivots t t' (check.Pivots trail) h = ap (λ (x : TableauParts). x.rows) h.0
+check_rows pivots t t' (check.Sat values) h = rows_stay h.0.steps t t' h.0.follows
+check_rows pivots t t' (check.Unsat weights) h = rows_stay h.0.steps t t' h.0.follows
+check_rows pivots t t' (check.Pivots trace) h = ap (λ (x : TableauParts). x.rows) h.0
 check_rows pivots t t' (check.Wide wide) h = ap (λ (x : TableauParts). x.rows) h.0
 
 -- the parts of a list are the same after one of it is replaced by one of the same part

@@ -1,4 +1,4 @@
 pub mod Reaching
-pub mod Trails
+pub mod PivotTraces
 pub mod Outcomes
 pub mod inner

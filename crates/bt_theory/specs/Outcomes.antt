@@ -24,7 +24,7 @@ use Rattle.bt_theory.specs.declared.outcome.Solution.{Solution}
 use Rattle.bt_theory.specs.declared.outcome.GaveUp.{GaveUp}
 use Rattle.bt_theory.specs.declared.outcome.GaveUp.TheVariants.{Spent, Pivots, Wide}
 use Rattle.bt_theory.specs.Reaching.{columns_of}
-use Rattle.bt_theory.specs.Trails.{TurnsOn, IsTooWide}
+use Rattle.bt_theory.specs.PivotTraces.{PivotsOn, IsTooWide}
 
 -- each column has a value and each variable a truth value, and together they meet the formula
 pub record IsSolution (f : FormulaParts) (values : List Ratio) (assignment : List Bool) : Type 0 where
@@ -71,18 +71,18 @@ pub record IsUsedUp (f : FormulaParts) (limit : ℕ) (steps : List Step) : Type 
   pub valid : IsValidStep f (f.clauses ++ map clause_of steps) more
   pub fresh : IsFreshStep (f.clauses ++ map clause_of steps) more
 
--- it is right to give up: the log over the further formula is used up, or the turns for one assignment of the formula
+-- it is right to give up: the log over the further formula is used up, or the pivots for one assignment of the formula
 -- are, or a number leaves 128 bits
 abbrev pub IsGivenUpOver : FormulaParts → FormulaParts → Limits → GaveUp → Type 0
 IsGivenUpOver f g limits (Spent log) = IsUsedUp g limits.learnt log.steps
-IsGivenUpOver f g limits (Pivots trail) = TurnsOn f limits.pivots trail
+IsGivenUpOver f g limits (Pivots trace) = PivotsOn f limits.pivots trace
 IsGivenUpOver f g limits (Wide at) = IsTooWide f limits.pivots at
 
 -- each is the place of a row among the formula's rows
 abbrev pub AreRowsOf : FormulaParts → List ℕ → Type 0
 AreRowsOf f rows = All (λ row. row < length f.atoms) rows
 
--- what is right to say of a formula within limits, where the search is over a further formula: a solution, turns and
+-- what is right to say of a formula within limits, where the search is over a further formula: a solution, pivots and
 -- numbers are those of the formula, and logs are over the further one; of a log that refutes it each step but the last
 -- is needed
 abbrev pub IsOutcomeOver : FormulaParts → FormulaParts → Limits → Outcome → Type 0

@@ -4,10 +4,10 @@ use Rattle.std.specs.List.{All}
 use Rattle.bt_frac.specs.Rows.{RowParts, columns_in, end_of}
 use Rattle.bt_cnf.specs.Formulas.{FormulaParts}
 use Rattle.bt_cnf.specs.Meeting.{MeetsClause}
-use Rattle.bt_simplex.specs.SolvedForms.{IsSolvedForm, basis_of}
-use Rattle.bt_simplex.specs.Tableaus.{TableauParts, positions_from}
-use Rattle.bt_simplex.specs.Turns.{IsBlandTurn, IsTurnedBy}
-use Rattle.bt_simplex.specs.declared.tableau.Turn.{Turn}
+use Rattle.bt_pivot.specs.SolvedForms.{IsSolvedForm, basis_of}
+use Rattle.bt_pivot.specs.Tableaus.{TableauParts, positions_from}
+use Rattle.bt_simplex.specs.Pivots.{IsBlandPivot, IsPivotedBy}
+use Rattle.bt_pivot.specs.declared.basis.Pivot.{Pivot}
 
 -- the rows of the atoms, in the order of their variables
 abbrev pub atom_rows : FormulaParts → List RowParts
@@ -34,9 +34,9 @@ pub record IsGuided (f : FormulaParts) (t : TableauParts) : Type 0 where
   pub meets : All (MeetsClause assignment) f.clauses
   pub bound : t.bound ≡ map assignment (atom_vars f)
 
--- a basis is reachable: that of the rows, and one that a turn of Bland's rule gives from a reachable basis, where the
+-- a basis is reachable: that of the rows, and one that a pivot of Bland's rule gives from a reachable basis, where the
 -- bound rows are those of the atoms true under an assignment that gives every clause a true literal
 pub data IsReachable (f : FormulaParts) : List ℕ → Type 0 where
   begins : IsReachable f (positions_from (columns_of f) (atom_rows f))
-  turns_on : (t t' : TableauParts) (turn : Turn) → IsReachable f (basis_of t.slots) → IsTableauOf f t → IsGuided f t → IsBlandTurn t turn
-      → IsTurnedBy turn t t' → IsReachable f (basis_of t'.slots)
+  steps_on : (t t' : TableauParts) (pivot : Pivot) → IsReachable f (basis_of t.slots) → IsTableauOf f t → IsGuided f t → IsBlandPivot t pivot
+      → IsPivotedBy pivot t t' → IsReachable f (basis_of t'.slots)

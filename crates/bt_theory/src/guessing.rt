@@ -19,8 +19,8 @@ use std::alloc::{AllocError, Global};
 /// The first solution that a guess gives.
 ///
 /// Each guess is an assignment of the formula: a truth value for each variable, and false past its end. It gives a
-/// solution where it gives every clause a true literal, and values are found within so many turns for the rows that this
-/// needs. None of the others decides anything: neither turns that don't suffice for one nor a number that is too wide.
+/// solution where it gives every clause a true literal, and values are found within so many pivots for the rows that this
+/// needs. None of the others decides anything: neither pivots that don't suffice for one nor a number that is too wide.
 pub fn first_solution(
     alloc: Global,
     formula: &Formula,

@@ -1,5 +1,5 @@
 //! Formulas whose variables may stand for rows of linear constraints, decided by a search for models and by
-//! turns of a tableau: an assignment with values that meets the formula, or a log that refutes it.
+//! pivots of a tableau: an assignment with values that meets the formula, or a log that refutes it.
 #![tactic(auto)]
 
 mod base;

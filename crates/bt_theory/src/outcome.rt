@@ -1,7 +1,7 @@
 //! What deciding a formula comes to.
 use bt_frac::Frac;
 use bt_log::Log;
-use bt_simplex::{Trail, Wide};
+use bt_simplex::{PivotTrace, Wide};
 
 /// What deciding a formula comes to.
 #[derive(Drop)]
@@ -30,8 +30,8 @@ pub struct Solution {
 pub enum GaveUp {
     /// The log has as many steps as it may, and one more is needed.
     Spent(Log),
-    /// The turns for one assignment were as many as they may be, and the basis isn't final.
-    Pivots(Trail),
-    /// A number that the turns ask for leaves 128 bits.
+    /// The pivots for one assignment were as many as they may be, and the basis isn't final.
+    Pivots(PivotTrace),
+    /// A number that the pivots ask for leaves 128 bits.
     Wide(Wide),
 }

@@ -15,7 +15,7 @@ use crate::scope::{Scope, first_conflict};
 use bt_cnf::Chooser;
 use bt_frac::Frac;
 use bt_sat::{Added, Answer, Solver};
-use bt_simplex::{Check, Tableau, Trail, Wide};
+use bt_simplex::{Check, PivotTrace, Tableau, Wide};
 use std::alloc::{AllocError, Global};
 
 /// How a search ends. The log stays with the solver.
@@ -27,8 +27,8 @@ pub enum End {
     Refuted,
     /// The log has as many steps as it may, and one more is needed.
     Spent,
-    /// The turns were as many as they may be.
-    Pivots(Trail),
+    /// The pivots were as many as they may be.
+    Pivots(PivotTrace),
     /// A number leaves 128 bits.
     Wide(Wide),
 }
@@ -108,7 +108,7 @@ fn try_all<C: Chooser>(
             assignment: chosen,
         }))),
         Check::Unsat(weighed) => learn(solver, &conflict_of(alloc, base.atoms(), &weighed)?),
-        Check::Pivots(trail) => Ok(Some(End::Pivots(trail))),
+        Check::Pivots(trace) => Ok(Some(End::Pivots(trace))),
         Check::Wide(wide) => Ok(Some(End::Wide(wide))),
     }
 }

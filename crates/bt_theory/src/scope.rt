@@ -111,7 +111,7 @@ fn rows_at(
 }
 
 /// The conflict of the first scope that has one with an assignment, where one is found within so many
-/// turns.
+/// pivots.
 pub fn first_conflict(
     alloc: Global,
     scopes: &mut [Scope],
@@ -154,7 +154,7 @@ pub fn conflict_among(
     Ok(None)
 }
 
-/// The conflict of the scope at a place, where there is one, and one is found within so many turns.
+/// The conflict of the scope at a place, where there is one, and one is found within so many pivots.
 fn conflict_at(
     alloc: Global,
     scopes: &mut [Scope],
@@ -175,7 +175,7 @@ fn conflict_at(
 }
 
 impl Scope {
-    /// The conflict of the rows whose atoms are true, where one is found within so many turns. None too
+    /// The conflict of the rows whose atoms are true, where one is found within so many pivots. None too
     /// where all of these were bound when values were found last.
     fn conflict(
         &mut self,

@@ -36,7 +36,7 @@ use std::alloc::{AllocError, Global};
 /// The choosers steer the search, which is right whatever they answer; without one the lowest unset variable
 /// is set to false. Each scope is a list of rows, by their places among the rows of the extended formula; a place of no row
 /// is passed over. Of a model the rows of each scope are checked in turn, before all rows are: the first that no values
-/// meet give the lemma. Where the turns don't suffice or a number is too wide, the scope counts as passed, so `Sat`,
+/// meet give the lemma. Where the pivots don't suffice or a number is too wide, the scope counts as passed, so `Sat`,
 /// `Pivots` and `Wide` come of the check of all rows.
 pub fn solve<C: Chooser>(
     alloc: Global,
@@ -193,7 +193,7 @@ fn outcome(alloc: Global, end: End, log: Log) -> Result<Outcome, AllocError>
         End::Sat(solution) => Ok(sat(solution)),
         End::Refuted => refuted(alloc, &log),
         End::Spent => Ok(Outcome::GaveUp(GaveUp::Spent(log))),
-        End::Pivots(trail) => Ok(Outcome::GaveUp(GaveUp::Pivots(trail))),
+        End::Pivots(trace) => Ok(Outcome::GaveUp(GaveUp::Pivots(trace))),
         End::Wide(wide) => Ok(Outcome::GaveUp(GaveUp::Wide(wide))),
     }
 }

@@ -15,9 +15,9 @@ use Rattle.bt_extend.specs.Extending.{extended}
 use Rattle.bt_extend.specs.declared.definition.Definition.{Definition}
 use Rattle.bt_fenc.specs.FlowFormula.{flow_formula}
 use Rattle.bt_same.specs.SameFormula.{same_formula}
-use Rattle.bt_simplex.specs.declared.answers.Trail.{Trail}
+use Rattle.bt_simplex.specs.declared.answers.PivotTrace.{PivotTrace}
 use Rattle.bt_theory.specs.Outcomes.{IsUsedUp}
-use Rattle.bt_theory.specs.Trails.{TurnsOn}
+use Rattle.bt_theory.specs.PivotTraces.{PivotsOn}
 use Rattle.bt_theory.specs.declared.outcome.GaveUp.{GaveUp}
 use Rattle.bt_theory.specs.declared.outcome.GaveUp.TheVariants as gave
 use Rattle.bt_cnf.specs.declared.limits.Limits.{Limits}
@@ -53,7 +53,7 @@ use Rattle.bt_designs.specs.declared.refusal.Refusal.TheVariants as refusal
 use Rattle.bt_top.specs.declared.program.TheConstants.{READ_FAULT, NO_MEMORY}
 use Rattle.bt_top.specs.Answering.{IsRightTo}
 use Rattle.bt_top.specs.Answers.{status_of, gave_up_status}
-use Rattle.bt_top.specs.Budgets.{IsAmple, IsAmpleFor, HasAmple, AmpleIsNeverSpent, AmpleNeverEndsSpent, IsAmpleOfTurns, AmpleTurnsAreNeverMade, AmpleTurnsNeverEndMade}
+use Rattle.bt_top.specs.Budgets.{IsAmple, IsAmpleFor, HasAmple, AmpleIsNeverSpent, AmpleNeverEndsSpent, IsAmpleOfPivots, AmplePivotsAreNeverMade, AmplePivotsNeverEndMade}
 use Rattle.bt_top.specs.Comparing.{same_told}
 use Rattle.bt_top.specs.Deciding.{verdict_told}
 use Rattle.bt_designs.specs.Alone.{IsLoneNet}
@@ -75,8 +75,8 @@ never_used_up : (f : FormulaParts) (learnt : ℕ) (steps : List Step) → IsAmpl
 never_used_up f learnt steps ample used = omega (arith, ample, used.few)
 
 -- the turns of an ample budget are never all made
-never_all_made : (f : FormulaParts) (pivots : ℕ) (trail : Trail) → IsAmpleOfTurns f pivots → TurnsOn f pivots trail → ⊥
-never_all_made f pivots trail ample turned = omega (arith, ample, turned.few)
+never_all_made : (f : FormulaParts) (pivots : ℕ) (trace : PivotTrace) → IsAmpleOfPivots f pivots → PivotsOn f pivots trace → ⊥
+never_all_made f pivots trace ample pivoted = omega (arith, ample, pivoted.few)
 
 -- a status above those of verdicts and refusals, which a search that is given up may have
 module _ (due : ℕ) (high : 4 ≤ due) where
@@ -153,7 +153,7 @@ high_four = omega arith
 steps_never : (splitters : ℕ) (f : FormulaParts) (limits : Limits) → IsAmpleFor splitters f limits.learnt → (definitions : List Definition) (cause : GaveUp)
     → IsGivenUpBy splitters f limits definitions cause → gave_up_status cause ≢ 4
 steps_never splitters f limits ample definitions (gave.Spent log) is = absurd (never_used_up (extended f definitions) limits.learnt log.steps (ample definitions is.0) is.1)
-steps_never splitters f limits ample definitions (gave.Pivots trail) is = λ e. omega (arith, e)
+steps_never splitters f limits ample definitions (gave.Pivots trace) is = λ e. omega (arith, e)
 steps_never splitters f limits ample definitions (gave.Wide wide) is = λ e. omega (arith, e)
 
 layout_never : (r : LayoutRequest) (learnt : ℕ) (found : ALayout) (a : Answer) → IsAmple (place_formula r) learnt → IsLayout r learnt found → IsLayoutTold r found (Ok a) → status_of a ≢ 4
@@ -216,29 +216,29 @@ high_ten : 4 ≤ 10
 high_ten = omega arith
 
 -- a search with ample turns is given up for another cause
-turns_never : (splitters : ℕ) (f : FormulaParts) (limits : Limits) → IsAmpleOfTurns f limits.pivots → (definitions : List Definition) (cause : GaveUp)
+pivots_never : (splitters : ℕ) (f : FormulaParts) (limits : Limits) → IsAmpleOfPivots f limits.pivots → (definitions : List Definition) (cause : GaveUp)
     → IsGivenUpBy splitters f limits definitions cause → gave_up_status cause ≢ 10
-turns_never splitters f limits ample definitions (gave.Spent log) is = λ e. omega (arith, e)
-turns_never splitters f limits ample definitions (gave.Pivots trail) is = absurd (never_all_made f limits.pivots trail ample is.1)
-turns_never splitters f limits ample definitions (gave.Wide wide) is = λ e. omega (arith, e)
+pivots_never splitters f limits ample definitions (gave.Spent log) is = λ e. omega (arith, e)
+pivots_never splitters f limits ample definitions (gave.Pivots trace) is = absurd (never_all_made f limits.pivots trace ample is.1)
+pivots_never splitters f limits ample definitions (gave.Wide wide) is = λ e. omega (arith, e)
 
-pub ample_turns_are_never_made : AmpleTurnsAreNeverMade
-ample_turns_are_never_made (FlowCheck p) bytes a ample h = absurd ample
-ample_turns_are_never_made Recover bytes a ample h = absurd ample
-ample_turns_are_never_made (Check p) bytes a ample h = absurd ample
-ample_turns_are_never_made (Decide p limits) bytes a (n, alone, ample) h = decide_other 10 high_ten p limits bytes n a alone (turns_never n.splitters (flow_formula n p) limits ample) h
-ample_turns_are_never_made (Make Butterfly order limits) bytes a ample h = butterfly_other 10 high_ten order limits bytes a h
-ample_turns_are_never_made (Make Chain order limits) bytes a ample h = chain_other 10 high_ten order limits bytes a (turns_never (chain_net order).splitters (flow_formula (chain_net order) Balanced) limits ample) h
-ample_turns_are_never_made (Layout rect tier learnt) bytes a ample h = absurd ample
-ample_turns_are_never_made (CheckLayout rect tier) bytes a ample h = absurd ample
-ample_turns_are_never_made (Smallest first most tier learnt) bytes a ample h = absurd ample
-ample_turns_are_never_made (FindSmall most tier sides learnt) bytes a ample h = absurd ample
-ample_turns_are_never_made (FlowFormula p) bytes a ample h = absurd ample
-ample_turns_are_never_made (PlaceFormula rect tier) bytes a ample h = absurd ample
-ample_turns_are_never_made (Same limits) bytes a (nets, alone, ample) h =
-    compare_other 10 high_ten limits bytes nets a alone (turns_never (splitters_of_both nets.0 nets.1) (same_formula nets.0 nets.1) limits ample) h
-ample_turns_are_never_made CheckSame bytes a ample h = absurd ample
-ample_turns_are_never_made (Build wish inputs outputs limits text) bytes a ample h = absurd ample
+pub ample_pivots_are_never_made : AmplePivotsAreNeverMade
+ample_pivots_are_never_made (FlowCheck p) bytes a ample h = absurd ample
+ample_pivots_are_never_made Recover bytes a ample h = absurd ample
+ample_pivots_are_never_made (Check p) bytes a ample h = absurd ample
+ample_pivots_are_never_made (Decide p limits) bytes a (n, alone, ample) h = decide_other 10 high_ten p limits bytes n a alone (pivots_never n.splitters (flow_formula n p) limits ample) h
+ample_pivots_are_never_made (Make Butterfly order limits) bytes a ample h = butterfly_other 10 high_ten order limits bytes a h
+ample_pivots_are_never_made (Make Chain order limits) bytes a ample h = chain_other 10 high_ten order limits bytes a (pivots_never (chain_net order).splitters (flow_formula (chain_net order) Balanced) limits ample) h
+ample_pivots_are_never_made (Layout rect tier learnt) bytes a ample h = absurd ample
+ample_pivots_are_never_made (CheckLayout rect tier) bytes a ample h = absurd ample
+ample_pivots_are_never_made (Smallest first most tier learnt) bytes a ample h = absurd ample
+ample_pivots_are_never_made (FindSmall most tier sides learnt) bytes a ample h = absurd ample
+ample_pivots_are_never_made (FlowFormula p) bytes a ample h = absurd ample
+ample_pivots_are_never_made (PlaceFormula rect tier) bytes a ample h = absurd ample
+ample_pivots_are_never_made (Same limits) bytes a (nets, alone, ample) h =
+    compare_other 10 high_ten limits bytes nets a alone (pivots_never (splitters_of_both nets.0 nets.1) (same_formula nets.0 nets.1) limits ample) h
+ample_pivots_are_never_made CheckSame bytes a ample h = absurd ample
+ample_pivots_are_never_made (Build wish inputs outputs limits text) bytes a ample h = absurd ample
 
 -- ---- how the program ends
 
@@ -265,7 +265,7 @@ ample_never_ends_spent words source sink status command bytes ends is told ample
     ends_by 4 words source sink status command bytes (λ e. omega (arith, e)) (λ e. omega (arith, e)) (λ e. omega (arith, e)) ends is told
     (λ a right. ample_is_never_spent command bytes a ample right)
 
-pub ample_turns_never_end_made : AmpleTurnsNeverEndMade
-ample_turns_never_end_made words source sink status command bytes ends is told ample =
+pub ample_pivots_never_end_made : AmplePivotsNeverEndMade
+ample_pivots_never_end_made words source sink status command bytes ends is told ample =
     ends_by 10 words source sink status command bytes (λ e. omega (arith, e)) (λ e. omega (arith, e)) (λ e. omega (arith, e)) ends is told
-    (λ a right. ample_turns_are_never_made command bytes a ample right)
+    (λ a right. ample_pivots_are_never_made command bytes a ample right)

@@ -187,7 +187,7 @@ apart c d e other is = other (sym (ap status_of (same_value c d e)) ∙ is)
 
 gave_up_apart : (cause : GaveUp) → status_of (answer.GaveUp cause) ≢ 3
 gave_up_apart (gave.Spent log) is = omega (arith, is)
-gave_up_apart (gave.Pivots trail) is = omega (arith, is)
+gave_up_apart (gave.Pivots trace) is = omega (arith, is)
 gave_up_apart (gave.Wide wide) is = omega (arith, is)
 
 verdict_apart : (p : Property) (v : Verdict) → status_of (verdict_told p v) ≢ 3

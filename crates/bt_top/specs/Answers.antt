@@ -21,7 +21,7 @@ use Rattle.bt_layout.specs.declared.outcome.Small.TheVariants as small
 use Rattle.bt_layout.specs.SmallestText.{small_text, smallest_text}
 pub use Rattle.bt_layout.specs.SmallestText.{none_word, nowhere_text}
 use Rattle.bt_print.specs.Legends.{flow_formula_text, place_formula_text}
-use Rattle.bt_print.specs.TrailText.{pivots_text, wide_text}
+use Rattle.bt_print.specs.TraceText.{pivots_text, wide_text}
 use Rattle.bt_write.specs.Written.{blueprint_text}
 use Rattle.bt_words.specs.declared.command.NetworkFamily.{NetworkFamily}
 use Rattle.bt_words.specs.declared.command.NetworkFamily.TheVariants.{Butterfly, Chain}
@@ -142,7 +142,7 @@ spent_text definitions steps = line (codes "spent " ++ decimal (length steps)) +
 abbrev pub gave_up_text : List Definition → gave.GaveUp → List ℕ
 gave_up_text definitions (Spent log) = spent_text definitions log.steps
 gave_up_text definitions (Wide wide) = wide_text wide
-gave_up_text definitions (Pivots trail) = pivots_text trail
+gave_up_text definitions (Pivots trace) = pivots_text trace
 
 -- the word for what of a pair a test is of, and a space; of both states together there is none
 abbrev pub which_text : Which → List ℕ

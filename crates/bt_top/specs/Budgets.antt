@@ -27,8 +27,7 @@ use Rattle.bt_top.specs.Answering.{IsRightTo}
 use Rattle.bt_top.specs.Answers.{status_of}
 use Rattle.bt_top.specs.Endings.{Ends}
 use Rattle.bt_top.specs.Inputs.{IsInput}
-use Rattle.bt_designs.specs.Requested.{IsLoneRequest}
-use Rattle.bt_designs.specs.Requested.{IsSidedRequest}
+use Rattle.bt_designs.specs.Requested.{IsLoneRequest, IsSidedRequest}
 use Rattle.bt_designs.specs.TwoDesigns.{IsTwoNets}
 
 -- so many steps may be logged in deciding the formula: 3 ^ v or more, where it has v variables
@@ -63,23 +62,23 @@ AmpleNeverEndsSpent = (words : List (List ℕ)) (source sink : Passage) (status 
     → IsCommand command words → IsInput command source bytes → HasAmple command bytes → status ≢ 4
 
 -- so many turns may be made for one choice of the formula's rows: as many as there are bases, or more
-abbrev pub IsAmpleOfTurns : FormulaParts → ℕ → Type 0
-IsAmpleOfTurns f pivots = most_bases (columns_of f) (atom_rows f) ≤ pivots
+abbrev pub IsAmpleOfPivots : FormulaParts → ℕ → Type 0
+IsAmpleOfPivots f pivots = most_bases (columns_of f) (atom_rows f) ≤ pivots
 
 -- the command may make that many turns of the formula that it decides: the flow formula of the design's network or of
 -- the chain that is made, or the formula of two networks; a butterfly takes none
-abbrev pub HasAmpleTurns : Command → List ℕ → Type 0
-HasAmpleTurns (Decide p limits) bytes = (n : Network) × IsLoneNet bytes (Ok n) × IsAmpleOfTurns (flow_formula n p) limits.pivots
-HasAmpleTurns (Make Butterfly order limits) bytes = Unit {0}
-HasAmpleTurns (Make Chain order limits) bytes = IsAmpleOfTurns (flow_formula (chain_net order) Balanced) limits.pivots
-HasAmpleTurns (Same limits) bytes = (nets : Network × Network) × IsTwoNets bytes (Ok nets) × IsAmpleOfTurns (same_formula nets.0 nets.1) limits.pivots
-HasAmpleTurns other bytes = ⊥
+abbrev pub HasAmplePivots : Command → List ℕ → Type 0
+HasAmplePivots (Decide p limits) bytes = (n : Network) × IsLoneNet bytes (Ok n) × IsAmpleOfPivots (flow_formula n p) limits.pivots
+HasAmplePivots (Make Butterfly order limits) bytes = Unit {0}
+HasAmplePivots (Make Chain order limits) bytes = IsAmpleOfPivots (flow_formula (chain_net order) Balanced) limits.pivots
+HasAmplePivots (Same limits) bytes = (nets : Network × Network) × IsTwoNets bytes (Ok nets) × IsAmpleOfPivots (same_formula nets.0 nets.1) limits.pivots
+HasAmplePivots other bytes = ⊥
 
 -- then no answer whose status says that the turns are made is right
-abbrev pub AmpleTurnsAreNeverMade : Type 0
-AmpleTurnsAreNeverMade = (command : Command) (bytes : List ℕ) (a : Answer) → HasAmpleTurns command bytes → IsRightTo command bytes (Ok a) → status_of a ≢ 10
+abbrev pub AmplePivotsAreNeverMade : Type 0
+AmplePivotsAreNeverMade = (command : Command) (bytes : List ℕ) (a : Answer) → HasAmplePivots command bytes → IsRightTo command bytes (Ok a) → status_of a ≢ 10
 
 -- and the program doesn't end with that status, where its source tells the command's input
-abbrev pub AmpleTurnsNeverEndMade : Type 0
-AmpleTurnsNeverEndMade = (words : List (List ℕ)) (source sink : Passage) (status : ℕ) (command : Command) (bytes : List ℕ) → Ends words source sink status
-    → IsCommand command words → IsInput command source bytes → HasAmpleTurns command bytes → status ≢ 10
+abbrev pub AmplePivotsNeverEndMade : Type 0
+AmplePivotsNeverEndMade = (words : List (List ℕ)) (source sink : Passage) (status : ℕ) (command : Command) (bytes : List ℕ) → Ends words source sink status
+    → IsCommand command words → IsInput command source bytes → HasAmplePivots command bytes → status ≢ 10

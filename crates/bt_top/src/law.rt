@@ -2,7 +2,7 @@
 ghost use Rattle.std.specs.Prelude.{◌≡◌};
 ghost use Rattle.bt_top.specs.Answering.{OneRightAnswer};
 ghost use Rattle.bt_top.specs.Budgets.{AmpleIsNeverSpent, AmpleNeverEndsSpent};
-ghost use Rattle.bt_top.specs.Budgets.{AmpleTurnsAreNeverMade, AmpleTurnsNeverEndMade};
+ghost use Rattle.bt_top.specs.Budgets.{AmplePivotsAreNeverMade, AmplePivotsNeverEndMade};
 ghost use Rattle.bt_designs.specs.Longer.{DesignStays, RefusalStays};
 ghost use Rattle.bt_top.specs.NoneCertificates.{NoneIsAccepted};
 ghost use Rattle.bt_top.specs.Rechecking.{ProofIsChecked, StateIsChecked};
@@ -68,9 +68,9 @@ pub fn ample_is_never_spent()
 
 /// Where `--pivots` is at least the number of bases of the formula that `decide`, `make` or `same` decides, no right answer
 /// is that the turns are as many as they may be, and the program doesn't end with that status.
-pub fn ample_turns_are_never_made()
-    ensures answers { AmpleTurnsAreNeverMade }
-    ensures endings { AmpleTurnsNeverEndMade }
+pub fn ample_pivots_are_never_made()
+    ensures answers { AmplePivotsAreNeverMade }
+    ensures endings { AmplePivotsNeverEndMade }
 {}
 
 /// The statuses of faults, and the most bytes that commands read, as numbers.

@@ -38,7 +38,7 @@ pub use bt_designs::{MOST_CHECKED, Refusal};
 pub use choosers::Choosers;
 pub use input::{MOST_OF_DESIGN, MOST_OF_TWO};
 pub use law::{
-    ample_is_never_spent, ample_turns_are_never_made, compared_is_checked, decided_is_checked,
+    ample_is_never_spent, ample_pivots_are_never_made, compared_is_checked, decided_is_checked,
     laid_out_is_checked, least_is_checked, longer_is_read, none_is_accepted, numbers_are,
     one_right_answer,
 };

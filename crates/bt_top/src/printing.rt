@@ -66,7 +66,7 @@ pub fn print_gave_up<K: Sink>(
 {
     match cause {
         GaveUp::Spent(log) => print_spent(definitions, log, sink),
-        GaveUp::Pivots(trail) => print_pivots(trail, sink),
+        GaveUp::Pivots(trace) => print_pivots(trace, sink),
         GaveUp::Wide(wide) => print_wide(wide, sink),
     }
 }

@@ -5,6 +5,6 @@
 mod equations;
 mod sums;
 
-pub use bt_line::Term;
+pub use bt_linear::Term;
 pub use equations::Equations;
 pub use std::alloc::AllocError as Memory;

@@ -6,7 +6,7 @@ use bt_simplex::{Check, Operation, Tableau, Wide, WidePlace, are_over};
 use std::alloc::{AllocError, Global};
 use std::test::Fail;
 
-/// Two rows, and a letter for what each of four checks answers: values, a refutation, or too many turns.
+/// Two rows, and a letter for what each of four checks answers: values, a refutation, or too many pivots.
 const ANSWERS: &[&str] = &[
     "> 0 1|>= -1 -1|psss",
     ">= 1 1|>= 0 -1|pusu",
@@ -16,7 +16,7 @@ const ANSWERS: &[&str] = &[
     ">= 0 1|>= -1 3|ssss",
 ];
 
-/// Two rows, and of the number that is too wide in a check of both its place, the operation, and the turns before it and
+/// Two rows, and of the number that is too wide in a check of both its place, the operation, and the pivots before it and
 /// its row. The great numbers are 2^100 and 3^40.
 const WIDE: &[&str] = &[
     ">= 1 1/1267650600228229401496703205376|>= 0 1267650600228229401496703205376|entry|mul|0 2",
@@ -25,7 +25,7 @@ const WIDE: &[&str] = &[
     ">= 1/12157665459056928801 1|>= -1/1267650600228229401496703205376 -1|lemma|add|1 1",
 ];
 
-/// Six rows over two columns. The turns go round where of the positions that can enter the greatest does.
+/// Six rows over two columns. The pivots go round where of the positions that can enter the greatest does.
 const MET_BY_THE_LEAST_TO_ENTER: &[&str] = &[
     ">= -2 -2 -2",
     ">= 0 2",
@@ -35,7 +35,7 @@ const MET_BY_THE_LEAST_TO_ENTER: &[&str] = &[
     ">= 2 1",
 ];
 
-/// Six rows over two columns. The turns go round where of the positions that fail the greatest leaves.
+/// Six rows over two columns. The pivots go round where of the positions that fail the greatest leaves.
 const MET_BY_THE_LEAST_TO_LEAVE: &[&str] = &[
     ">= 2 3 2",
     ">= 2 0 -1",
@@ -125,17 +125,17 @@ fn checked(
     tableau: &mut Tableau,
     rows: &[Row],
     has_second: bool,
-    turns: u64,
+    pivots: u64,
 ) -> Result<u8, AllocError> {
     bind(tableau, 1, has_second);
-    let check = tableau.check(alloc, turns)?;
+    let check = tableau.check(alloc, pivots)?;
     match rows {
         [first, _] if !has_second => Ok(letter(std::slice::from_ref(first), &check)),
         _ => Ok(letter(rows, &check)),
     }
 }
 
-/// Whether the checks of two rows answer what the letters say. The first may make no turn, and in the third one the second
+/// Whether the checks of two rows answer what the letters say. The first may make no pivot, and in the third one the second
 /// row isn't bound.
 fn are_answered(
     alloc: Global,
@@ -144,8 +144,8 @@ fn are_answered(
     letters: &str,
 ) -> Result<bool, AllocError> {
     for (place, letter) in letters.bytes().enumerate() {
-        let turns = if place == 0 { 0 } else { 10 };
-        if checked(alloc, tableau, rows, place != 2, turns)? != letter {
+        let pivots = if place == 0 { 0 } else { 10 };
+        if checked(alloc, tableau, rows, place != 2, pivots)? != letter {
             return Ok(false);
         }
     }
@@ -162,7 +162,7 @@ fn is_answered(alloc: Global, row: &str) -> Result<bool, AllocError> {
     }
 }
 
-/// Whether a check within ten turns ends with values that meet the rows where it is told so, and else without.
+/// Whether a check within ten pivots ends with values that meet the rows where it is told so, and else without.
 fn is_end(
     alloc: Global,
     tableau: &mut Tableau,
@@ -176,7 +176,7 @@ fn is_end(
     }
 }
 
-/// Whether a check of all these rows over two columns ends within ten turns, with values where it is told so, and else
+/// Whether a check of all these rows over two columns ends within ten pivots, with values where it is told so, and else
 /// without.
 fn ends(alloc: Global, fields: &[&str], has_values: bool) -> Result<bool, AllocError> {
     let rows = rows_of(alloc, fields)?;
@@ -205,14 +205,14 @@ fn operation_named(name: &str) -> Operation {
 /// Whether a number is too wide where a row says so.
 fn is_wide_at(wide: &Wide, row: &str) -> bool {
     let [_, _, place, operation, at] = fields(row, '|');
-    let [turns, row, ..] = fields(at, ' ');
+    let [pivots, row, ..] = fields(at, ' ');
     wide.place == place_named(place)
         && wide.row == number_of(row)
         && wide.operation == operation_named(operation)
-        && wide.trail.turns.len() == number_of(turns)
+        && wide.trace.steps.len() == number_of(pivots)
 }
 
-/// Whether a check within ten turns meets a number that is too wide where a row says so.
+/// Whether a check within ten pivots meets a number that is too wide where a row says so.
 fn meets_wide(alloc: Global, tableau: &mut Tableau, row: &str) -> Result<bool, AllocError> {
     match tableau.check(alloc, 10)? {
         Check::Wide(wide) => Ok(is_wide_at(&wide, row)),

@@ -1,44 +1,19 @@
 -- What Bland's rule says of a tableau at a basis.
-use Rattle.std.specs.Prelude.{◌≡◌, ◌≢◌, ◌⊎◌, ℕ, ◌<◌, Bool, true, false, Option, Some, None}
-use Rattle.std.specs.declared.cmp.Ordering.{Ordering}
-use Rattle.bt_frac.specs.Ratio.{Ratio, negated}
+use Rattle.std.specs.Prelude.{◌≡◌, ◌≢◌, ◌⊎◌, Option, Some, None, ℕ}
+use Rattle.bt_frac.specs.Ratio.{Ratio}
 use Rattle.bt_frac.specs.Rows.{RowParts}
-use Rattle.bt_frac.specs.Deltas.{IsOrderOfDeltas, SameDelta}
 use Rattle.bt_frac.specs.declared.delta.Delta.{Delta}
 use Rattle.bt_frac.specs.declared.row.Relation.TheVariants.{Equal}
 use Rattle.bt_lin.specs.WeightedRows.{coefficient_at}
-use Rattle.bt_line.specs.Lines.{Terms}
-use Rattle.bt_simplex.specs.SolvedForms.{Slots}
-use Rattle.bt_simplex.specs.Tableaus.{TableauParts}
-use Rattle.bt_simplex.specs.Points.{bound_row, bound_value, point_at}
+use Rattle.bt_linear.specs.Lines.{Terms}
+use Rattle.bt_pivot.specs.Tableaus.{TableauParts}
+use Rattle.bt_pivot.specs.Points.{bound_row}
 use Rattle.bt_simplex.specs.Causes.{IsCause}
-use Rattle.bt_simplex.specs.Turns.{MovesTowards, IsLeast, IsBlandTurn, IsMet, IsStuckAt}
+use Rattle.bt_simplex.specs.Pivots.{MovesTowards, IsLeast, IsBlandPivot, IsMet, IsStuckAt}
 use Rattle.bt_simplex.specs.declared.bland.Least.{Least}
 use Rattle.bt_simplex.specs.declared.bland.Least.TheVariants.{At, Nowhere, Wide as NoLeast}
 use Rattle.bt_simplex.specs.declared.bland.Next.{Next}
-use Rattle.bt_simplex.specs.declared.bland.Next.TheVariants.{Turn as Turns, Met, Stuck, Wide}
-
--- the tableau with these slots
-abbrev pub with_slots : TableauParts → Slots → TableauParts
-with_slots t slots = record t { slots = slots }
-
--- two points with positive denominators are the same
-pub record IsSamePoint (a b : Delta) : Type 0 where
-  pub left_value : 0 < a.value.under
-  pub left_tiny : 0 < a.tiny.under
-  pub right_value : 0 < b.value.under
-  pub right_tiny : 0 < b.tiny.under
-  pub same : SameDelta a b
-
--- the point, with the other sign where this is told
-abbrev pub signed_point : Bool → Delta → Delta
-signed_point false point = point
-signed_point true point = record { value = negated point.value; tiny = negated point.tiny }
-
--- the order of the bound value of a position's row, where it has one that is bound, and a point that is where it stands
-abbrev pub IsBoundOrder : TableauParts → ℕ → Ordering → Type 0
-IsBoundOrder t position order =
-    (row : RowParts) → bound_row t position ≡ Some row → (point : Delta) × IsSamePoint point (point_at t position) × IsOrderOfDeltas order (bound_value row) point
+use Rattle.bt_simplex.specs.declared.bland.Next.TheVariants.{Pivot as Pivots, Met, Stuck, Wide}
 
 -- the position may be moved: it is a column or a row that isn't bound, or a bound row that is no equation, and raising
 -- it moves the failing row towards its bound value
@@ -61,9 +36,9 @@ Finds t P (At position) = IsLeast P position
 Finds t P Nowhere = (position : ℕ) → P position → ⊥
 Finds t P (NoLeast cause) = IsCause t cause
 
--- Bland's turn, or how the basis is final, or why a number of it doesn't fit
+-- Bland's pivot, or how the basis is final, or why a number of it doesn't fit
 abbrev pub IsNext : TableauParts → Next → Type 0
-IsNext t (Turns turn) = IsBlandTurn t turn
+IsNext t (Pivots pivot) = IsBlandPivot t pivot
 IsNext t Met = IsMet t
 IsNext t (Stuck position) = IsStuckAt t position
 IsNext t (Wide cause) = IsCause t cause

@@ -1,9 +1,9 @@
 -- Weights as they are read off the failing position's line.
-use Rattle.std.specs.Prelude.{◌≡◌, ◌↔◌, ℕ, ◌-◌, List, [], ◌∷◌, map, Bool, IsTrue, Some, if◌then◌else◌}
+use Rattle.std.specs.Prelude.{◌≡◌, ◌↔◌, ◌-◌, List, ◌∷◌, map, Bool, IsTrue, Some, if◌then◌else◌, ℕ, []}
 use Rattle.bt_frac.specs.Ratio.{Ratio, negated}
-use Rattle.bt_line.specs.Lines.{one, Terms, IsLine, IsCombination}
-use Rattle.bt_simplex.specs.SolvedForms.{slot_at}
-use Rattle.bt_simplex.specs.Tableaus.{TableauParts}
+use Rattle.bt_linear.specs.Lines.{one, Terms, IsLine, IsCombination}
+use Rattle.bt_pivot.specs.SolvedForms.{slot_at}
+use Rattle.bt_pivot.specs.Tableaus.{TableauParts}
 use Rattle.bt_simplex.specs.Weights.{StandsAbove}
 
 -- the number, and with the other sign where the failing row is below its bound value

@@ -1,14 +1,14 @@
 -- Points, part by part, and operations of them whose results leave 128 bits.
-use Rattle.std.specs.Prelude.{◌≡◌, ◌⊎◌, ℕ, Some}
+use Rattle.std.specs.Prelude.{◌≡◌, ◌⊎◌, Some, ℕ}
 use Rattle.bt_frac.specs.Ratio.{Ratio, IsLowest, IsSum, CanAdd}
 use Rattle.bt_frac.specs.Products.{IsProduct}
 use Rattle.bt_frac.specs.declared.delta.Delta.{Delta}
-use Rattle.bt_line.specs.Lines.{Terms}
-use Rattle.bt_line.specs.Unfits.{IsNone, IsUnfitHere}
+use Rattle.bt_linear.specs.Lines.{Terms}
+use Rattle.bt_linear.specs.Unfits.{IsNone, IsUnfitHere}
 use Rattle.bt_simplex.specs.Causes.{IsSumStep}
-use Rattle.bt_simplex.specs.declared.answers.WidePlace.TheVariants.{Value}
-use Rattle.bt_line.specs.declared.unfit.Unfit.{Unfit}
-use Rattle.bt_simplex.specs.declared.causes.Cause.{Cause}
+use Rattle.bt_pivot.specs.declared.causes.WidePlace.TheVariants.{Value}
+use Rattle.bt_linear.specs.declared.unfit.Unfit.{Unfit}
+use Rattle.bt_pivot.specs.declared.causes.Cause.{Cause}
 
 -- the sum with the product of a number and a part
 pub record AddsPart (sum number part next : Ratio) : Type 0 where

@@ -5,11 +5,11 @@ use Rattle.bt_frac.specs.Ratio.{IsLowest}
 use Rattle.bt_cnf.specs.Formulas.{FormulaParts}
 use Rattle.bt_log.specs.Logs.{Lemma, LogParts}
 use Rattle.bt_sat.specs.Solving.{SolverParts, log_of, KeepsModel, IsModel, IsSoundLog, IsSpent, IsLemmaOf, GoesOnBy}
-use Rattle.bt_simplex.specs.SolvedForms.{basis_of}
-use Rattle.bt_simplex.specs.Tableaus.{TableauParts, positions_from}
+use Rattle.bt_pivot.specs.SolvedForms.{basis_of}
+use Rattle.bt_pivot.specs.Tableaus.{TableauParts, positions_from}
 use Rattle.bt_theory.specs.Reaching.{atom_rows, columns_of, IsTableauOf, IsReachable}
 use Rattle.bt_theory.specs.Outcomes.{Solves, Fits, IsRefutation, IsUsedUp, IsOutcomeOver}
-use Rattle.bt_theory.specs.Trails.{TurnsOn, IsTooWide}
+use Rattle.bt_theory.specs.PivotTraces.{PivotsOn, IsTooWide}
 use Rattle.bt_theory.specs.declared.base.Base.{Base}
 use Rattle.bt_theory.specs.declared.lemma.Conflict.{Conflict}
 use Rattle.bt_theory.specs.declared.outcome.Outcome.{Outcome}
@@ -61,7 +61,7 @@ abbrev pub IsEnd : ℕ → Base → SolverParts → End → Type 0
 IsEnd pivots b s (end.Sat solution) = Solves (base_in b s.formula) solution
 IsEnd pivots b s end.Refuted = IsRefutation s.formula s.steps × (length s.steps ≤ s.limit)
 IsEnd pivots b s end.Spent = IsUsedUp s.formula s.limit s.steps
-IsEnd pivots b s (end.Pivots trail) = TurnsOn (base_in b s.formula) pivots trail
+IsEnd pivots b s (end.Pivots trace) = PivotsOn (base_in b s.formula) pivots trace
 IsEnd pivots b s (end.Wide at) = IsTooWide (base_in b s.formula) pivots at
 
 -- what became of the lemma of the conflict: it was added, or the log is full

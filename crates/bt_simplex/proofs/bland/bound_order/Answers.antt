@@ -1,7 +1,7 @@
 use Rattle.std.proofs.Common.{subst}
 use Rattle.bt_frac.specs.Deltas.{IsOrderOfDeltas}
-use Rattle.bt_simplex.specs.Points.{bound_row, bound_value}
-use Rattle.bt_simplex.proofs.Failing.{row_is}
+use Rattle.bt_pivot.specs.Points.{bound_row, bound_value}
+use Rattle.bt_pivot.proofs.Failing.{row_is}
 use Rattle.bt_simplex.proofs.bland.bound_order.Goals as goal
 
 pub returns-clause-order : goal.returns-clause-order

@@ -1,7 +1,7 @@
-use Rattle.bt_line.specs.Lines.{signed_terms, one}
-use Rattle.bt_simplex.specs.inner.Bases.{with_slots}
+use Rattle.bt_linear.specs.Lines.{signed_terms, one}
+use Rattle.bt_pivot.specs.Tableaus.{with_slots}
 use Rattle.std.proofs.Common.{◌∷◌, []}
-use Rattle.bt_simplex.proofs.Failing.{enters_by, enters_line}
+use Rattle.bt_simplex.proofs.Enters.{enters_by, enters_line}
 use Rattle.bt_simplex.proofs.bland.entering_by.Goals as goal
 
 pub returns-in-Line : goal.returns-in-Line

@@ -1,5 +1,5 @@
-use Rattle.bt_simplex.specs.inner.Bases.{with_slots}
-use Rattle.bt_simplex.proofs.Failing.{fails_told}
+use Rattle.bt_pivot.specs.Tableaus.{with_slots}
+use Rattle.bt_pivot.proofs.Failing.{fails_told}
 use Rattle.bt_simplex.proofs.bland.fails_long.Goals as goal
 
 pub returns-clause-told : goal.returns-clause-told

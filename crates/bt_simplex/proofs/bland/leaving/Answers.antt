@@ -1,8 +1,9 @@
 use Rattle.std.proofs.Common.{subst, ◌<◌, ◌≤◌, arith, length, below_more}
 use Rattle.std.proofs.lemmas.Bool.{iff_false}
-use Rattle.bt_simplex.specs.Turns.{Fails}
-use Rattle.bt_simplex.specs.inner.Bases.{with_slots}
-use Rattle.bt_simplex.proofs.Failing.{no_column, no_slot, least_here}
+use Rattle.bt_pivot.specs.Points.{Fails}
+use Rattle.bt_pivot.specs.Tableaus.{with_slots}
+use Rattle.bt_pivot.proofs.Failing.{no_column, no_slot}
+use Rattle.bt_simplex.proofs.Enters.{least_here}
 use Rattle.bt_simplex.proofs.bland.leaving.Goals as goal
 use Rattle.bt_simplex.proofs.bland.leaving.Goals.{in-Some-false, in-None+in-Ok-false}
 

@@ -1,7 +1,7 @@
-use Rattle.std.proofs.Common.{ℕ, ◌<◌}
-use Rattle.bt_simplex.specs.Turns.{Fails}
-use Rattle.bt_simplex.specs.inner.Bases.{with_slots}
-use Rattle.bt_simplex.specs.inner.SumCache.{AreKept}
+use Rattle.std.proofs.Common.{◌<◌, ℕ}
+use Rattle.bt_pivot.specs.Points.{Fails}
+use Rattle.bt_pivot.specs.Tableaus.{with_slots}
+use Rattle.bt_pivot.specs.Sums.{AreKept}
 use Rattle.bt_simplex.proofs.bland.leaving.Given as goal
 
 abbrev pub invariant-loop-position : goal.invariant-loop-position

@@ -1,11 +1,11 @@
-use Rattle.std.proofs.Common.{◌<◌, ℕ, List, length, map, sym, subst, ap, ◌∙◌, IfOk, Ok, Err}
+use Rattle.std.proofs.Common.{◌<◌, List, length, map, sym, subst, ap, ◌∙◌, IfOk, Ok, Err, ℕ}
 use Rattle.std.specs.List.{All}
 use Rattle.bt_frac.specs.Ratio.{Ratio}
 use Rattle.bt_frac.specs.Rows.{RowParts}
 use Rattle.bt_lin.specs.Farkas.{IsFirstWide, IsFarkas}
 use Rattle.bt_lin.specs.WeightedRows.{weighted}
 use Rattle.bt_simplex.specs.Weights.{weighted_rows}
-use Rattle.bt_simplex.specs.inner.Bases.{with_slots}
+use Rattle.bt_pivot.specs.Tableaus.{with_slots}
 use Rattle.bt_simplex.specs.inner.Lemmas.{AreLineWeights}
 use Rattle.bt_simplex.specs.inner.Sums.{IsUnfitSum}
 use Rattle.bt_simplex.proofs.Refutations.{rows_within, picks_within, refutes}

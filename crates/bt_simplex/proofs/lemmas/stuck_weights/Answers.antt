@@ -1,11 +1,12 @@
-use Rattle.std.proofs.Common.{◌≡◌, ◌≤◌, None, [], ◌∷◌, arith, ◌∙◌, ap, map, sym, subst}
+use Rattle.std.proofs.Common.{◌≡◌, ◌≤◌, None, ◌∷◌, arith, ◌∙◌, ap, map, sym, subst, []}
 use Rattle.std.specs.List.{All}
 use Rattle.bt_frac.specs.Ratio.{negated}
 use Rattle.bt_lin.specs.WeightedRows.{coefficient_at}
-use Rattle.bt_line.specs.Lines.{one, IsCombination}
-use Rattle.bt_simplex.specs.inner.Bases.{with_slots}
+use Rattle.bt_linear.specs.Lines.{one, IsCombination}
+use Rattle.bt_pivot.specs.Tableaus.{with_slots}
 use Rattle.bt_simplex.specs.inner.Lemmas.{weight_of}
-use Rattle.bt_simplex.proofs.Resting.{point_cause, bound_within}
+use Rattle.bt_simplex.proofs.PointSteps.{point_cause}
+use Rattle.bt_pivot.proofs.Resting.{bound_within}
 use Rattle.bt_simplex.proofs.Refutations.{own_lacks, line_over, stands_told}
 use Rattle.bt_simplex.proofs.lemmas.stuck_weights.Goals as goal
 

@@ -1,5 +1,5 @@
 use Rattle.std.proofs.Common.{◌<◌, subst}
-use Rattle.bt_simplex.proofs.Resting.{point_more, point_unfit}
+use Rattle.bt_simplex.proofs.PointSteps.{point_more, point_unfit}
 use Rattle.bt_simplex.proofs.points.long_point.Goals as goal
 
 pub loop-index-preserved : goal.loop-index-preserved

@@ -1,6 +1,5 @@
 use Rattle.std.proofs.Common.{Some, take}
-use Rattle.bt_simplex.specs.Points.{resting, standing}
-use Rattle.bt_simplex.specs.inner.Bases.{IsSamePoint}
+use Rattle.bt_pivot.specs.Points.{resting, standing, IsSamePoint}
 use Rattle.bt_simplex.proofs.points.long_point.Given as goal
 
 abbrev pub invariant-loop-index : goal.invariant-loop-index

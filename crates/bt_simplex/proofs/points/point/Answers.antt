@@ -1,8 +1,9 @@
 use Rattle.std.proofs.Common.{sym, subst}
-use Rattle.bt_simplex.specs.Points.{point_at}
-use Rattle.bt_simplex.specs.inner.Bases.{with_slots, IsSamePoint}
-use Rattle.bt_simplex.proofs.Places.{line_place, like_place}
-use Rattle.bt_simplex.proofs.Resting.{point_cause, rest_stands}
+use Rattle.bt_pivot.specs.Points.{point_at, IsSamePoint}
+use Rattle.bt_pivot.specs.Tableaus.{with_slots}
+use Rattle.bt_pivot.proofs.Places.{line_place, like_place}
+use Rattle.bt_simplex.proofs.PointSteps.{point_cause}
+use Rattle.bt_pivot.proofs.Resting.{rest_stands}
 use Rattle.bt_simplex.proofs.points.point.Goals as goal
 
 pub returns-in-Ok-clause-point : goal.returns-in-Ok-clause-point

@@ -1,4 +1,4 @@
-use Rattle.bt_simplex.specs.inner.Bases.{with_slots}
+use Rattle.bt_pivot.specs.Tableaus.{with_slots}
 use Rattle.bt_simplex.proofs.Epsilons.{column_settled, column_add}
 use Rattle.bt_simplex.proofs.settling.column_value.Goals as goal
 

@@ -1,5 +1,5 @@
 use Rattle.std.proofs.Common.{◌+◌, ◌≤◌, length, arith, subst, sym}
-use Rattle.bt_simplex.specs.inner.Bases.{with_slots}
+use Rattle.bt_pivot.specs.Tableaus.{with_slots}
 use Rattle.bt_simplex.specs.inner.Settling.{IsRoomAt}
 use Rattle.bt_simplex.proofs.Epsilons.{IsLeastRoom, least_stays, least_more, least_ends}
 use Rattle.bt_simplex.proofs.settling.epsilon.Goals as goal

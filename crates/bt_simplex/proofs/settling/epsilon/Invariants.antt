@@ -1,4 +1,4 @@
-use Rattle.bt_simplex.specs.inner.Bases.{with_slots}
+use Rattle.bt_pivot.specs.Tableaus.{with_slots}
 use Rattle.bt_simplex.proofs.Epsilons.{IsLeastRoom}
 use Rattle.bt_simplex.proofs.settling.epsilon.Given as goal
 

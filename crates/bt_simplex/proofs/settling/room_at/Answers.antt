@@ -1,6 +1,6 @@
 use Rattle.std.proofs.lemmas.Result.{err_from_is_err_and}
 use Rattle.std.proofs.lemmas.Bool.{iff_false}
-use Rattle.bt_simplex.specs.inner.Bases.{with_slots}
+use Rattle.bt_pivot.specs.Tableaus.{with_slots}
 use Rattle.bt_simplex.proofs.Epsilons.{falls_from, half_at, room_cause}
 use Rattle.bt_simplex.proofs.settling.room_at.Goals as goal
 

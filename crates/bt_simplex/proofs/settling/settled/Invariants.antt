@@ -1,6 +1,6 @@
-use Rattle.std.proofs.Common.{◌≡◌, ℕ, ◌<◌, length}
+use Rattle.std.proofs.Common.{◌≡◌, ◌<◌, length, ℕ}
 use Rattle.bt_frac.specs.Values.{value_in}
-use Rattle.bt_simplex.specs.inner.Bases.{with_slots}
+use Rattle.bt_pivot.specs.Tableaus.{with_slots}
 use Rattle.bt_simplex.specs.inner.Settling.{IsSettled}
 use Rattle.bt_simplex.proofs.settling.settled.Given as goal
 

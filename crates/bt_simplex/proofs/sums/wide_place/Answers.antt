@@ -1,4 +1,4 @@
-use Rattle.std.proofs.Common.{◌<◌, ◌∙◌, ℕ, arith, length, sym, subst}
+use Rattle.std.proofs.Common.{◌<◌, ◌∙◌, arith, length, sym, subst, ℕ}
 use Rattle.bt_frac.specs.Ratio.{Ratio}
 use Rattle.bt_simplex.specs.Weights.{weighted_rows}
 use Rattle.bt_simplex.proofs.WideSums.{row_inside, weighted_here, wide_column, wide_bound}

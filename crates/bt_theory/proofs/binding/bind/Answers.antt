@@ -2,7 +2,7 @@ use Rattle.std.proofs.Common.{◌≡◌, ◌<◌, ◌+◌, ◌++◌, ◌∷◌, 
 use Rattle.std.proofs.lemmas.List.{length-map, length-take-le, set_at, drop_more, map_more, append_assoc}
 use Rattle.std.proofs.Math.ListN.{set}
 use Rattle.bt_cnf.specs.Assignments.{truth_in}
-use Rattle.bt_simplex.specs.Tableaus.{TableauParts}
+use Rattle.bt_pivot.specs.Tableaus.{TableauParts}
 use Rattle.bt_theory.proofs.binding.bind.Goals as goal
 use Rattle.bt_theory.proofs.binding.bind.Goals.{then-is_true, else-is_true}
 

@@ -1,5 +1,5 @@
 use Rattle.std.proofs.Common.{sym, subst}
-use Rattle.bt_simplex.specs.Tableaus.{AreOverColumns}
+use Rattle.bt_pivot.specs.Tableaus.{AreOverColumns}
 use Rattle.bt_theory.proofs.Bases.{base_over}
 use Rattle.bt_theory.proofs.binding.tableau_of.Goals as goal
 

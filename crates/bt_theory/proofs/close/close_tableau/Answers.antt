@@ -1,5 +1,5 @@
 use Rattle.std.proofs.Common.{sym, subst}
-use Rattle.bt_simplex.specs.Tableaus.{AreOverColumns}
+use Rattle.bt_pivot.specs.Tableaus.{AreOverColumns}
 use Rattle.bt_theory.specs.Reaching.{atom_rows, columns_of}
 use Rattle.bt_theory.proofs.Columns.{over_end}
 use Rattle.bt_theory.proofs.close.close_tableau.Goals as goal

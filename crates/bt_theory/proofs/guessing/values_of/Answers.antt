@@ -4,7 +4,7 @@ use Rattle.std.proofs.lemmas.Result.{IfOk-weaker}
 use Rattle.bt_cnf.specs.Assignments.{truth_in}
 use Rattle.bt_frac.specs.Ratio.{Ratio}
 use Rattle.bt_simplex.specs.Checks.{MeetsBoundRows}
-use Rattle.bt_simplex.specs.Tableaus.{TableauParts}
+use Rattle.bt_pivot.specs.Tableaus.{TableauParts}
 use Rattle.bt_theory.specs.Outcomes.{IsSolution}
 use Rattle.bt_theory.specs.inner.Bases.{base_in}
 use Rattle.bt_theory.proofs.Reached.{bound_for, table_bound}

@@ -9,7 +9,7 @@ use Rattle.bt_theory.specs.inner.Rounds.{IsLemmaLearnt, IsRound}
 use Rattle.bt_theory.specs.inner.Scopes.{IsConflictOf}
 use Rattle.bt_theory.specs.declared.round.End.TheVariants as end
 use Rattle.bt_theory.proofs.Reached.{bound_for}
-use Rattle.bt_theory.proofs.Trails.{turned_on, too_wide}
+use Rattle.bt_theory.proofs.PivotTraces.{pivoted_on, too_wide}
 use Rattle.bt_theory.proofs.Rounds.{reached, solves_all, ready_after, conflict_all, rows_of_atoms, makes_lemma, ends_round, learnt_round}
 use Rattle.bt_theory.proofs.round.try_all.Goals as goal
 
@@ -69,8 +69,8 @@ returns-in-Pivots g c =
     let chosen = c.args.chosen.items in
     let bound = bound_for t0 t1 b.atoms.items c.atoms.result.now chosen c.deref.result.now c.atoms.ensures c.deref.ensures.value c.bind.ensures in
     let check = subst (IsCheck c.args.pivots t1 c.check.new.self) c.in-Pivots.is c.in_ok-values.ensures.checked in
-    ends_round c.args.pivots b s c.check.new.self (end.Pivots c.in-Pivots.trail)
-    (turned_on (base_in b s.formula) t1 (reached b s t0 t1 chosen c.args.pivots c.requires.base c.requires.ready c.requires.chosen bound) c.args.pivots c.in-Pivots.trail check.1)
+    ends_round c.args.pivots b s c.check.new.self (end.Pivots c.in-Pivots.trace)
+    (pivoted_on (base_in b s.formula) t1 (reached b s t0 t1 chosen c.args.pivots c.requires.base c.requires.ready c.requires.chosen bound) c.args.pivots c.in-Pivots.trace check.1)
 
 pub returns-in-Wide : goal.returns-in-Wide
 returns-in-Wide g c =

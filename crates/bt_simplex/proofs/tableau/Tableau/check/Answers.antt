@@ -1,6 +1,6 @@
 use Rattle.std.proofs.Common.{ap, subst, sym, ◌∙◌}
 use Rattle.bt_simplex.specs.Checks.{IsCheck}
-use Rattle.bt_simplex.specs.Tableaus.{TableauParts}
+use Rattle.bt_pivot.specs.Tableaus.{TableauParts}
 use Rattle.bt_simplex.proofs.tableau.Tableau.check.Goals as goal
 
 pub check_in-requires : goal.check_in-requires

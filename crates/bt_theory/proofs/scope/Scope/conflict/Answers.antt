@@ -5,7 +5,7 @@ use Rattle.std.proofs.lemmas.Result.{IfOk-weaker}
 use Rattle.bt_frac.specs.Ratio.{Ratio}
 use Rattle.bt_frac.specs.Rows.{RowParts}
 use Rattle.bt_cnf.specs.Assignments.{truth_in}
-use Rattle.bt_simplex.specs.Tableaus.{TableauParts}
+use Rattle.bt_pivot.specs.Tableaus.{TableauParts}
 use Rattle.bt_simplex.specs.Checks.{IsCheck, RefutesBoundRows}
 use Rattle.bt_theory.specs.inner.Scopes.{IsConflictIn, IsShown}
 use Rattle.bt_theory.specs.declared.lemma.Conflict.{Conflict}

@@ -1,0 +1,9 @@
+pub mod Classes
+pub mod Entries
+pub mod Places
+pub mod Points
+pub mod SolvedForms
+pub mod Sums
+pub mod Tableaus
+pub mod PivotedSlots
+pub mod inner

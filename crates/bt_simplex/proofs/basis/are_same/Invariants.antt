@@ -1,6 +1,0 @@
-use Rattle.std.proofs.Common.{◌≡◌, take}
-use Rattle.bt_line.specs.Lines.{signed_terms}
-use Rattle.bt_simplex.proofs.basis.are_same.Given as goal
-
-abbrev pub invariant-loop-i : goal.invariant-loop-i
-invariant-loop-i l = signed_terms l.negated (take l.i l.line) ≡ take l.i l.others

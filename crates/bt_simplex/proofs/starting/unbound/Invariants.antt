@@ -1,5 +1,0 @@
-use Rattle.std.proofs.Common.{◌≡◌, replicate, false}
-use Rattle.bt_simplex.proofs.starting.unbound.Given as goal
-
-abbrev pub invariant-loop : goal.invariant-loop
-invariant-loop l = l.bound.items ≡ replicate l.counter false
