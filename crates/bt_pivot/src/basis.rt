@@ -4,8 +4,7 @@ ghost use Rattle.std.specs.Prelude.{◌≡◌, ◌<◌, ◌↔◌, ◌++◌, ◌
 ghost use Rattle.bt_frac.specs.Ratio.{negated};
 ghost use Rattle.bt_linear.specs.Lines.{one, IsLine, signed_terms};
 ghost use Rattle.bt_pivot.specs.Classes.{differ, class_terms, position_at};
-ghost use Rattle.bt_pivot.specs.SolvedForms.{slot_at};
-ghost use Rattle.bt_pivot.specs.SolvedForms.{InBasis};
+ghost use Rattle.bt_pivot.specs.SolvedForms.{slot_at, InBasis};
 ghost use Rattle.bt_pivot.specs.Places.{IsPlace};
 
 use bt_frac::Frac;
@@ -49,6 +48,9 @@ pub struct Pivot {
 }
 
 /// For each position its slot: the line, where it is in the basis.
+///
+/// Rows have the same terms again and again, up to the sign. With one line for all of a class, a pivot merges a third of
+/// the lines.
 #[derive(Drop)]
 pub struct Basis {
     pub(crate) members: Vec<Member>,
@@ -73,7 +75,7 @@ impl Model for Basis {
 
 impl Basis {
     /// No positions.
-    pub fn empty(alloc: Global) -> Basis
+    pub(crate) fn empty(alloc: Global) -> Basis
         ensures { result ≡ [] }
     {
         Basis {
@@ -154,7 +156,7 @@ impl Basis {
     }
 
     /// One more position of this slot, in a class of its own.
-    pub fn with_class(self, slot: Option<Line>) -> Result<Basis, AllocError>
+    pub(crate) fn with_class(self, slot: Option<Line>) -> Result<Basis, AllocError>
         ensures { IfOk result (λ more. more ≡ self ++ slot ∷ []) }
     {
         let Basis {
@@ -180,7 +182,7 @@ impl Basis {
 
     /// One more position of the line of these terms, in this class, where the class's terms are the same up
     /// to the sign, and else in a class of its own.
-    pub fn with_line(
+    pub(crate) fn with_line(
         self,
         alloc: Global,
         terms: Vec<Term>,

@@ -1,19 +1,20 @@
-//! Pivots of a basis: a position leaves it, and one that its line names enters.
-ghost use Rattle.std.specs.Prelude.{◌≡◌, ◌≢◌, ℕ, ◌<◌, ◌-◌, ◌^◌, pos, length, slice_set, IfOk, IfErr, IfSome, IfNone, Some, None};
-ghost use Rattle.bt_frac.specs.Ratio.{IsLowest, negated};
+//! Pivots of a basis: a position leaves it, and one that its line names enters. The line that is 0 wherever the
+//! leaving position's line holds has -1 at the entering position, so adding its multiples to the others removes that
+//! position: one walk over two lines.
+ghost use Rattle.std.specs.Prelude.{◌≡◌, ◌≢◌, ◌<◌, ◌-◌, ◌^◌, length, slice_set, IfOk, IfErr, Some, None};
+ghost use Rattle.bt_frac.specs.Ratio.{negated};
 ghost use Rattle.bt_lin.specs.WeightedRows.{coefficient_at};
-ghost use Rattle.bt_linear.specs.Lines.{one, Terms, IsLine, HasNumber};
+ghost use Rattle.bt_linear.specs.Lines.{one, Terms};
 ghost use Rattle.bt_pivot.specs.Classes.{position_at};
-ghost use Rattle.bt_pivot.specs.SolvedForms.{Slots, slot_at};
+ghost use Rattle.bt_pivot.specs.SolvedForms.{slot_at};
 ghost use Rattle.bt_linear.specs.Changes.{IsChange};
 ghost use Rattle.bt_pivot.specs.Tableaus.{TableauParts};
-ghost use Rattle.bt_linear.specs.Substituting.{IsZeroLine, IsSubstituted, IsUnfitChange, IsEntering};
-ghost use Rattle.bt_pivot.specs.PivotedSlots.{AreLines, IsPivoted};
+ghost use Rattle.bt_linear.specs.Substituting.{IsSubstituted, IsUnfitChange, IsEntering};
+ghost use Rattle.bt_pivot.specs.PivotedSlots.{AreLines, IsPivoted, CanPart, IsUnfitPivot};
 ghost use Rattle.bt_pivot.specs.inner.PivotedSlots.{AreSubstituted, with_line, IsSignedEntering};
 ghost use Rattle.bt_pivot.specs.inner.SumCache.{LinesStay, OthersStay};
 ghost use Rattle.bt_pivot.specs.Sums.{SlotsStay};
 ghost use Rattle.bt_pivot.specs.inner.UnfitPivots.{IsUnfitSlot, IsSlotZero, IsUnfitPart, IsUnfitLine, entry_cause};
-ghost use Rattle.bt_pivot.specs.PivotedSlots.{CanPart, IsUnfitPivot};
 
 use crate::basis::{Basis, Member};
 use crate::causes::{Cause, WidePlace};
@@ -25,7 +26,8 @@ use bt_linear::{Change, Line, Operation, Room, Unfit, combined, zero_line};
 use std::alloc::{AllocError, Global};
 
 /// Puts what the entering position stands for in place of it in the line of a slot, by small whole numbers. A
-/// room is taken for the new terms, and that of the old ones is left.
+/// room is taken for the new terms, and that of the old ones is left. Two thirds of the lines don't name the position,
+/// so a walk to it comes first.
 fn change(
     alloc: Global,
     room: &mut Room,
@@ -41,7 +43,8 @@ fn change(
     }
 }
 
-/// The same by fractions, where the slot's line names the position; or a product or a sum that doesn't fit.
+/// Puts what the entering position stands for in place of it by fractions, in a slot whose line names it; or tells a
+/// product or a sum that doesn't fit.
 fn change_long(
     alloc: Global,
     slot: &mut Option<Line>,
@@ -105,6 +108,7 @@ fn substitute(
     for i in 0..slots.len() {
         match change(alloc, &mut room, &mut slots[i], enters, zero)? {
             Change::Lacks => {}
+            // A multiple of the zero line was added, so that multiple of its sum is: three operations of 64 bits.
             Change::Made(scales) => kept.carry(i, others, &scales),
             Change::Long => match change_long(alloc, &mut slots[i], enters, zero)? {
                 Ok(()) => kept.forget(i),
@@ -140,7 +144,7 @@ fn entering_line(
     }
 }
 
-/// The same line with the other sign, where this is told.
+/// The line of the entering position, with the other sign where this is told.
 fn signed_entering(
     alloc: Global,
     rooms: &mut Rooms,
@@ -156,7 +160,9 @@ fn signed_entering(
     entering.with_sign(alloc, is_negated)
 }
 
-/// The line that is 0 wherever a slot's line holds of its position; or a quotient that doesn't fit.
+/// The line that is 0 wherever a slot's line holds of its position; or a quotient that doesn't fit. Each number is
+/// divided by the entering position's, and not multiplied with an inverse, so that a cause names a quotient of the
+/// solved form itself.
 fn slot_zero(
     alloc: Global,
     rooms: &mut Rooms,
@@ -197,7 +203,7 @@ fn leaving_zero(
     Ok(zero)
 }
 
-/// The same of a line, by fractions.
+/// The line that is 0 wherever a line holds of its position, by fractions; or a quotient that doesn't fit.
 fn long_zero(
     alloc: Global,
     line: &Line,
@@ -320,7 +326,7 @@ pub fn pivot(
     }
 }
 
-/// The same pivot by the line that is 0 wherever the line of the leaving position holds.
+/// Makes a pivot by the line that is 0 wherever the line of the leaving position holds.
 fn pivot_by(
     tableau: &Table,
     alloc: Global,

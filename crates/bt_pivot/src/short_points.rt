@@ -1,15 +1,13 @@
 //! Where positions stand by their short lines, in whole numbers.
-ghost use Rattle.std.specs.Prelude.{◌≡◌, ◌<◌, ◌^◌, ◌*ℤ◌, ◌+ℤ◌, length, IfSome, IsTrue, ◌↔◌, Some, neg_ℤ};
+ghost use Rattle.std.specs.Prelude.{◌≡◌, ◌<◌, ◌^◌, ◌*ℤ◌, ◌+ℤ◌, IfSome, IsTrue, ◌↔◌, Some, neg_ℤ};
 ghost use Rattle.bt_frac.specs.declared.row.Relation.TheVariants.{Equal as AnEquation};
 ghost use Rattle.bt_frac.specs.Deltas.{IsOrderOfDeltas};
-ghost use Rattle.bt_pivot.specs.Points.{resting, standing};
-ghost use Rattle.bt_pivot.specs.Points.{IsSamePoint, signed_point};
+ghost use Rattle.bt_pivot.specs.Points.{resting, standing, IsSamePoint, signed_point};
 ghost use Rattle.bt_pivot.specs.inner.Carrying.{AreCarried};
 ghost use Rattle.bt_pivot.specs.inner.Rests.{rest_point};
 ghost use Rattle.bt_linear.specs.Shorts.{IsSmall};
 ghost use Rattle.bt_pivot.specs.inner.ShortPoints.{AddsWhole, TellsBreak, BreaksTiny};
 ghost use Rattle.bt_pivot.specs.Sums.{delta_of};
-ghost use Rattle.bt_linear.specs.TermSigns.{IsSignedTerm};
 
 use crate::rests::Rest;
 use crate::table::Table;

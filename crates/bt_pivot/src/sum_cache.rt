@@ -1,12 +1,12 @@
-//! The sums of classes' lines that are kept from pivot to pivot: a pivot changes some of the lines only.
+//! The sums of classes' lines that are kept from pivot to pivot. The rule of what leaves asks where each bound row
+//! stands, and a pivot changes a third of the lines only: a sum is carried to the line that it makes in place of a walk
+//! over that.
 ghost use Rattle.std.specs.Prelude.{◌≡◌, ◌<◌, ◌^◌, IfOk, IfSome, IsTrue, None, Some, false, replicate, slice_index_or};
 ghost use Rattle.bt_pivot.specs.SolvedForms.{Slots, slot_at};
-ghost use Rattle.bt_pivot.specs.Points.{resting, standing};
-ghost use Rattle.bt_pivot.specs.Points.{IsSamePoint};
+ghost use Rattle.bt_pivot.specs.Points.{resting, standing, IsSamePoint};
 ghost use Rattle.bt_pivot.specs.inner.Carrying.{IsCarriedOf};
-ghost use Rattle.bt_pivot.specs.Sums.{AreKept};
+ghost use Rattle.bt_pivot.specs.Sums.{AreKept, AreClassSums, delta_of};
 ghost use Rattle.bt_pivot.specs.inner.SumCache.{IsFormed, Carries, Forgets, Keeps, IsOwn, OwnsAt, AreOwn};
-ghost use Rattle.bt_pivot.specs.Sums.{AreClassSums, delta_of};
 
 use crate::basis::Member;
 use crate::short_points::{ClassSums, Sums, carried, short_sums};
@@ -22,7 +22,7 @@ pub struct SumCache {
 
 impl SumCache {
     /// No sums and no memory.
-    pub fn none(alloc: Global) -> SumCache {
+    pub(crate) fn none(alloc: Global) -> SumCache {
         SumCache {
             sums: Vec::new(alloc),
         }
@@ -74,7 +74,7 @@ impl SumCache {
     }
 
     /// Drops the sums of a class.
-    pub fn forget(&mut self, class: usize)
+    pub(crate) fn forget(&mut self, class: usize)
         ensures { Forgets class self.old.sums.items self.new.sums.items }
     {
         if class < self.sums.len() {
@@ -84,7 +84,7 @@ impl SumCache {
 
     /// Keeps the sums of a class to whose line a number times another is added, by those before, those of
     /// the other line and the scales of both, where all of these are at hand.
-    pub fn carry(&mut self, class: usize, others: Option<Sums>, scales: &Scales)
+    pub(crate) fn carry(&mut self, class: usize, others: Option<Sums>, scales: &Scales)
         ensures { Carries class others scales.now self.old.sums.items self.new.sums.items }
     {
         if class < self.sums.len() {
@@ -93,7 +93,7 @@ impl SumCache {
     }
 
     /// Drops the sums that are kept for a first position of another class.
-    pub fn own(&mut self, members: &[Member])
+    pub(crate) fn own(&mut self, members: &[Member])
         ensures { AreOwn members.now self.old.sums.items self.new.sums.items }
     {
         for class in 0..self.sums.len() {

@@ -1,5 +1,5 @@
 //! Memory that checks use again: a check copies a tableau's lines into the memory of lines that an earlier one
-//! left.
+//! left, so that a pivot asks for memory only until its lines have their room.
 ghost use Rattle.std.specs.Prelude.{◌≡◌, [], IfOk};
 
 use crate::basis::Basis;
@@ -15,14 +15,14 @@ pub struct Rooms {
 
 impl Rooms {
     /// No memory.
-    pub fn none(alloc: Global) -> Rooms {
+    pub(crate) fn none(alloc: Global) -> Rooms {
         Rooms {
             rooms: Vec::new(alloc),
         }
     }
 
     /// The room of a line, or an empty one where none is left.
-    pub fn taken(&mut self, alloc: Global) -> Room {
+    pub(crate) fn taken(&mut self, alloc: Global) -> Room {
         match self.rooms.pop() {
             Some(room) => room,
             None => Vec::new(alloc),
@@ -30,7 +30,7 @@ impl Rooms {
     }
 
     /// Keeps the room of a line that is needed no more, where there is memory to note it.
-    pub fn give(&mut self, slot: Option<Line>) {
+    pub(crate) fn give(&mut self, slot: Option<Line>) {
         let Some(line) = slot else {
             return;
         };
@@ -40,7 +40,7 @@ impl Rooms {
     }
 
     /// Keeps a room, where there is memory to note it.
-    pub fn keep(&mut self, room: Room) {
+    pub(crate) fn keep(&mut self, room: Room) {
         match self.rooms.push(room) {
             Ok(()) | Err(_) => {}
         }

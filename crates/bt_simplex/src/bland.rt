@@ -1,17 +1,16 @@
 //! Bland's rule: of the positions that fail the least leaves the basis, and of those that can enter the
-//! least does.
-ghost use Rattle.std.specs.Prelude.{◌≡◌, ◌<◌, ◌-◌, ◌^◌, ◌∷◌, [], ℕ, length, IfOk, IfErr, IfSome, IsTrue, ◌↔◌, Some};
+//! least does. No run of such pivots comes back to a basis, so each ends; where the greatest leaves or enters, some
+//! go round.
+ghost use Rattle.std.specs.Prelude.{◌<◌, ◌-◌, ◌^◌, ◌∷◌, [], ℕ, IfOk, IfErr, IsTrue, ◌↔◌, Some};
 ghost use Rattle.bt_frac.specs.Deltas.{IsOrderOfDeltas};
 ghost use Rattle.bt_frac.specs.Ratio.{Ratio};
 ghost use Rattle.bt_frac.specs.Rows.{RowParts};
 ghost use Rattle.bt_simplex.specs.Causes.{IsCause};
 ghost use Rattle.bt_frac.specs.declared.delta.Delta.{Delta};
-ghost use Rattle.bt_pivot.specs.Points.{bound_value};
+ghost use Rattle.bt_pivot.specs.Points.{bound_value, Breaks, Fails, IsBoundOrder};
 ghost use Rattle.bt_linear.specs.Lines.{signed_terms, one};
-ghost use Rattle.bt_pivot.specs.Points.{Breaks, Fails};
 ghost use Rattle.bt_simplex.specs.Pivots.{MovesTowards, CanEnter};
 ghost use Rattle.bt_pivot.specs.Tableaus.{with_slots};
-ghost use Rattle.bt_pivot.specs.Points.{IsBoundOrder};
 ghost use Rattle.bt_simplex.specs.inner.Bases.{MayEnter, Names, Finds, IsLeastOf, IsNext};
 ghost use Rattle.bt_pivot.specs.Sums.{AreKept};
 ghost use Rattle.bt_linear.specs.TermSigns.{IsSign, IsSignedTerm};
@@ -84,7 +83,7 @@ fn may_enter(tableau: &Table, bound: Ordering, position: usize, sign: Ordering) 
     }
 }
 
-/// The same by fractions; or why the position's point doesn't fit.
+/// Whether a position is a bound row of the basis that doesn't hold, by fractions; or why its point doesn't fit.
 fn fails_long(tableau: &Table, basis: &Basis, position: usize) -> Result<bool, Cause>
     ensures told { IfOk result (λ told. IsTrue told ↔ Fails (with_slots tableau.now basis.now) position) }
     ensures unfit { IfErr result (IsCause (with_slots tableau.now basis.now)) }
@@ -136,7 +135,8 @@ fn first_entering(tableau: &Table, bound: Ordering, line: &Line, negated: bool) 
     None
 }
 
-/// The same, by fractions where whole numbers don't tell it; or why the position's point doesn't fit.
+/// How the bound value of a row of the basis stands to where the row stands, by fractions where whole numbers don't
+/// tell it; or why the position's point doesn't fit.
 fn bound_order(
     tableau: &Table,
     basis: &Basis,

@@ -13,7 +13,7 @@ use crate::traces::{bound_rows, positions};
 use bt_pivot::{Basis, Cause, Pivot, Table, Workspace};
 use std::alloc::{AllocError, Global};
 
-/// The same check on a copy of the basis, to which the pivots are made.
+/// Makes Bland's pivots on a copy of a table's basis, at most so many, and answers by where they end.
 pub fn checked(
     table: &Table,
     alloc: Global,

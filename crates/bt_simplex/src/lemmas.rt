@@ -1,6 +1,6 @@
 //! Rows and weights that show that no values meet the bound rows, at a basis at which a position fails
 //! and none can enter for it.
-ghost use Rattle.std.specs.Prelude.{◌≡◌, ◌<◌, ◌≤◌, ◌-◌, ◌^◌, ℕ, [], ◌∷◌, IfOk, IfErr, map, length, Some, None, IsTrue, ◌↔◌};
+ghost use Rattle.std.specs.Prelude.{◌≡◌, ◌<◌, ◌≤◌, ◌-◌, ◌^◌, [], ◌∷◌, IfOk, IfErr, map, length, Some, None, IsTrue, ◌↔◌};
 ghost use Rattle.std.specs.List.{All};
 ghost use Rattle.bt_frac.specs.Ratio.{negated};
 ghost use Rattle.bt_frac.specs.Deltas.{IsLessDelta};
@@ -10,9 +10,8 @@ ghost use Rattle.bt_simplex.specs.Causes.{IsCause};
 ghost use Rattle.bt_simplex.specs.Checks.{RefutesBoundRows};
 ghost use Rattle.bt_linear.specs.Lines.{one, IsLine, IsCombination};
 ghost use Rattle.bt_pivot.specs.Points.{bound_value};
-ghost use Rattle.bt_pivot.specs.Tableaus.{IsTableau};
+ghost use Rattle.bt_pivot.specs.Tableaus.{IsTableau, with_slots};
 ghost use Rattle.bt_simplex.specs.Pivots.{IsStuckAt};
-ghost use Rattle.bt_pivot.specs.Tableaus.{with_slots};
 ghost use Rattle.bt_simplex.specs.inner.Lemmas.{weight_of, AreLineWeights};
 
 use crate::points::{bound_value, line_point};

@@ -3,9 +3,8 @@ ghost use Rattle.std.specs.Prelude.{◌≡◌, IfOk, IfErr, Some};
 ghost use Rattle.bt_frac.specs.Ratio.{IsLowest};
 ghost use Rattle.bt_simplex.specs.Causes.{IsCause};
 ghost use Rattle.bt_linear.specs.Lines.{IsLine};
-ghost use Rattle.bt_pivot.specs.Points.{bound_value, resting, standing, point_at};
+ghost use Rattle.bt_pivot.specs.Points.{bound_value, resting, standing, point_at, IsSamePoint, signed_point};
 ghost use Rattle.bt_pivot.specs.Tableaus.{with_slots};
-ghost use Rattle.bt_pivot.specs.Points.{IsSamePoint, signed_point};
 ghost use Rattle.bt_linear.specs.Unfits.{IsUnfitHere};
 ghost use Rattle.bt_simplex.specs.inner.UnfitPoints.{AddsPart, AddsTerm, IsUnfitTerm, IsUnfitPoint, value_cause};
 
@@ -101,7 +100,8 @@ pub fn line_point(tableau: &Table, position: usize, line: &Line) -> Result<Delta
     long_point(tableau, position, line)
 }
 
-/// The same by fractions, of which the first product or sum that doesn't fit is told.
+/// What the line of a position adds up to where its positions rest, by fractions; or the first product or sum that
+/// doesn't fit.
 fn long_point(tableau: &Table, position: usize, line: &Line) -> Result<Delta, Cause>
     ensures point { IfOk result (λ d. IsSamePoint d (standing (resting tableau.now) 0 (Some line.now))) }
     ensures unfit { IfErr result (IsUnfitPoint (resting tableau.now) position line.now) }

@@ -1,8 +1,7 @@
 //! Runs of Bland's pivots from a basis on, to a final one or to a limit of pivots.
 ghost use Rattle.std.specs.Prelude.{◌≡◌, [], IfOk, IfErr};
-ghost use Rattle.bt_pivot.specs.Tableaus.{IsTableau};
+ghost use Rattle.bt_pivot.specs.Tableaus.{IsTableau, with_slots};
 ghost use Rattle.bt_simplex.specs.Pivots.{IsBlandPivot};
-ghost use Rattle.bt_pivot.specs.Tableaus.{with_slots};
 ghost use Rattle.bt_pivot.specs.Sums.{AreKept};
 ghost use Rattle.bt_simplex.specs.inner.Runs.{IsMade, IsRun};
 ghost use Rattle.bt_pivot.specs.PivotedSlots.{IsUnfitPivot};

@@ -1,13 +1,12 @@
 //! Values of the columns at a basis at which nothing fails: a small number takes the place of the
 //! infinitesimal.
-ghost use Rattle.std.specs.Prelude.{◌≡◌, ◌<◌, ℕ, pos, ◌<ℤ◌, IfOk, IfErr, IfSome, IfNone, IsTrue, ◌↔◌, length, Some};
+ghost use Rattle.std.specs.Prelude.{◌≡◌, ◌<◌, pos, IfOk, IfErr, IsTrue, ◌↔◌, Some};
 ghost use Rattle.bt_frac.specs.Rows.{IsRow};
 ghost use Rattle.bt_simplex.specs.Causes.{IsCause, IsEpsilon};
 ghost use Rattle.bt_simplex.specs.Checks.{MeetsBoundRows};
-ghost use Rattle.bt_pivot.specs.Points.{point_at, bound_row};
-ghost use Rattle.bt_pivot.specs.Tableaus.{IsTableau};
+ghost use Rattle.bt_pivot.specs.Points.{bound_row};
+ghost use Rattle.bt_pivot.specs.Tableaus.{IsTableau, with_slots};
 ghost use Rattle.bt_simplex.specs.Pivots.{IsMet};
-ghost use Rattle.bt_pivot.specs.Tableaus.{with_slots};
 ghost use Rattle.bt_simplex.specs.inner.Settling.{IsLesser, IsFallingFrom, IsRoom, IsRoomAt, IsUnfitRoom, IsSettled};
 
 use crate::points::point;

@@ -45,7 +45,7 @@ made_status made = if made.balanced then 0 else 1
 abbrev pub gave_up_status : gave.GaveUp → ℕ
 gave_up_status (Spent log) = 4
 gave_up_status (Wide wide) = 5
-gave_up_status (Pivots trail) = 10
+gave_up_status (Pivots trace) = 10
 
 -- the status of a search for the least grid: 0 where there is one, 1 where there is none, 4 where it was given up
 abbrev pub least_status : smallest.Smallest → ℕ
