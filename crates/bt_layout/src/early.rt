@@ -4,13 +4,13 @@ ghost use Rattle.bt_model.specs.Requests.{LayoutRequest};
 ghost use Rattle.bt_layout.specs.Early.{IsEarly};
 ghost use Rattle.bt_layout.specs.inner.Progressing.{ArePassed, IsProgress, IsSweep};
 
-use crate::lessening::seek_lesser;
 use crate::outcome::Early;
 use crate::progress::{Laid, Progress, first_progress};
 use crate::sweep::{Means, Sweep, after_search, after_sketch, first_sweep};
 use crate::whole::after_all;
 use bt_model::Request;
 use bt_parts::Rect;
+use hint_seeking::{Least, seek_lesser};
 use hint_shrinking::Shrunk;
 use hint_streamlining::is_likely;
 use std::alloc::{AllocError, Global};
@@ -122,6 +122,17 @@ fn after_runs(
     Ok(Sweep { runs, ..sweep })
 }
 
+/// The layout that was found.
+fn least_of(progress: &Progress) -> Option<Least> {
+    match &progress.found {
+        Some(laid) => Some(Least {
+            place: laid.place,
+            parts: &laid.parts,
+        }),
+        None => None,
+    }
+}
+
 /// With the layout that was found made smaller.
 fn after_lesser(
     alloc: Global,
@@ -133,13 +144,8 @@ fn after_lesser(
     requires { IsSweep requests.now learnt sweep }
     ensures { IfOk result (IsSweep requests.now learnt) }
 {
-    match seek_lesser(
-        alloc,
-        requests,
-        sweep.progress.found.as_ref(),
-        RUN_EFFORT,
-        number,
-    )? {
+    let least = least_of(&sweep.progress);
+    match seek_lesser(alloc, requests, least, RUN_EFFORT, number)? {
         Some(shrunk) => after_shrunk(alloc, requests, learnt, sweep, &shrunk),
         None => Ok(sweep),
     }

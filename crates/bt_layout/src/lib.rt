@@ -5,22 +5,17 @@
 mod early;
 mod law;
 mod least;
-mod lessening;
 mod likely;
 mod order;
 mod outcome;
-mod own;
 mod preferring;
 mod printing;
 mod progress;
 mod searching;
-mod seeking;
 mod sketched;
 mod small;
 mod sweep;
 mod tested;
-mod tight;
-mod turning;
 mod whole;
 
 pub use early::lay_early;

@@ -7,19 +7,19 @@ ghost use Rattle.bt_layout.specs.inner.Ends.{EndsWithin, EndsWith, IsOver, IsSou
 ghost use Rattle.bt_layout.specs.inner.Likely.{IsLaidOut};
 ghost use Rattle.bt_layout.specs.inner.Progressing.{HasLog, IsWhole};
 
-use crate::likely::{Trial, Tried, placing};
+use crate::likely::{Trial, Tried};
 use crate::outcome::Layout;
 use crate::sketched::{look_by_sketch, look_in_windows};
 use crate::tested::{laid_by_proposal, laid_by_stages};
-use crate::tight::is_tight;
-use bt_choosers::{Highest, Plan};
-use bt_cnf::{Chooser, Formula};
+use bt_choosers::Highest;
+use bt_cnf::Chooser;
 use bt_log::Log;
 use bt_model::Request;
 use bt_parts::Part;
 use bt_place::{decode, encode_place, has_formula};
 use bt_sat::{Answer, Solver};
 use bt_trim::trimmed;
+use hint_seeking::{is_tight, plan_of_whole};
 use std::alloc::{AllocError, Global};
 
 /// Where a placement formula is small, it is searched alone first, with at most so many steps: that shows in milliseconds
@@ -28,9 +28,6 @@ const SOON_STEPS: u64 = 500;
 
 /// A formula is small where the cells of the rectangle times the edges and splitters are at most so many.
 const SMALL: u64 = 160;
-
-/// From so many on, the cells of the rectangle times the splitters are many.
-const LARGE: u64 = 216;
 
 /// At most so many steps look for a layout where one is likely, before the whole formula is searched: enough for each window
 /// by turns, and for the whole rectangle; where there is none, the budget is to serve the refutation.
@@ -147,25 +144,6 @@ pub fn look_alone(alloc: Global, request: &Request, steps: u64) -> Result<Search
     search_whole(alloc, request, steps, choosers)
 }
 
-/// The plan of a search of a whole placement formula: of a large one its conflicts decide, by which eight to eight in 7x7 is
-/// refuted in less than half the steps; of a small one the splitters are placed first, by which four to four in 5x5 takes a
-/// quarter of them.
-fn whole_plan(alloc: Global, formula: &Formula, request: &Request) -> Result<Plan, AllocError> {
-    if is_large(request) {
-        Plan::by_conflicts(alloc, formula.vars())
-    } else {
-        placing(alloc, formula, request)
-    }
-}
-
-/// Whether the cells of the rectangle times the splitters are so many that conflicts decide best. Six splitters in 6x6 are
-/// refuted in the same time by either plan.
-fn is_large(request: &Request) -> bool {
-    let (net, rect) = (request.net(), request.rect());
-    let cells = u64::from(rect.width).saturating_mul(u64::from(rect.height));
-    cells.saturating_mul(u64::from(net.splitters())) >= LARGE
-}
-
 /// Searches the placement formula of a request alone, with a log of at most so many steps.
 pub fn search_whole<C: Chooser>(
     alloc: Global,
@@ -176,7 +154,7 @@ pub fn search_whole<C: Chooser>(
     ensures { IfOk result (IsWhole request.now learnt) }
 {
     let formula = encode_place(alloc, request)?;
-    let plan = whole_plan(alloc, &formula, request)?;
+    let plan = plan_of_whole(alloc, &formula, request)?;
     let mut solver = Solver::by_plan(alloc, formula, choosers, learnt, plan)?;
     let answer = solver.next_model()?;
     searched_of(alloc, request, answer, solver.into_log())

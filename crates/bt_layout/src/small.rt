@@ -11,11 +11,11 @@ use crate::early::lay_early;
 use crate::least::request_on;
 use crate::order::grids;
 use crate::outcome::{Early, Small};
-use crate::own::{OwnLayout, narrow_own};
 use crate::tested::{laid_by_proposal, laid_by_sketch};
 use bt_model::{MOST_CELLS, MOST_ENCODED, Request};
 use bt_parts::{Part, Rect};
 use hint_placement::Sketch;
+use hint_seeking::{OwnLayout, narrow_own};
 use std::alloc::{AllocError, Global};
 
 /// A network of so many splitters is large: the formulas of grids that hold it have from a million clauses on.

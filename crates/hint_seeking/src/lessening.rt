@@ -1,6 +1,7 @@
 //! Layouts that are made smaller until they lie in the rectangle of a request.
-use crate::progress::Laid;
-use crate::seeking::{Ground, great_rect, ground_in};
+use crate::ground::{great_rect, ground_in};
+use crate::room::{cells_in, taken_in};
+use crate::search::Search;
 use bt_model::Request;
 use bt_net::Demand;
 use bt_parts::{Part, Rect};
@@ -54,6 +55,15 @@ const TURN_EFFORT: u64 = 40_000;
 /// Of how many rectangles such layouts are looked for by turns.
 const TURNS: u64 = 2;
 
+/// The least request of a list that was laid.
+#[derive(Clone, Copy)]
+pub struct Least<'a> {
+    /// Its place in the list.
+    pub place: usize,
+    /// The parts that lay it.
+    pub parts: &'a [Part],
+}
+
 /// The parts of a sketch.
 fn parts_of(alloc: Global, sketch: &Sketch) -> Result<Vec<Part>, AllocError> {
     let mut parts = Vec::from_slice(alloc, &sketch.others)?;
@@ -61,11 +71,6 @@ fn parts_of(alloc: Global, sketch: &Sketch) -> Result<Vec<Part>, AllocError> {
         parts.push(*part)?;
     }
     Ok(parts)
-}
-
-/// The number of cells of a rectangle.
-fn cells_in(rect: Rect) -> u64 {
-    u64::from(rect.width).saturating_mul(u64::from(rect.height))
 }
 
 /// Whether a rectangle has so many cells for each splitter of a request.
@@ -85,18 +90,19 @@ fn names_cells(request: &Request) -> bool {
 
 /// A plan of a layout that lies in the rectangle of a request, from the parts of one in a greater rectangle that is made
 /// smaller.
-fn lessened_into(
+fn lessened_into<S: Search>(
     alloc: Global,
     request: &Request,
     great: &Request,
     parts: &[Part],
     effort: u64,
     number: u64,
+    search: &S,
 ) -> Result<Option<Sketch>, AllocError> {
     let goal = Goal::Within(great_rect(request));
     match shrink(alloc, great, great.rect(), parts, goal, effort, number)? {
         Some(shrunk) if goal.is_met(shrunk.rect) => match ground_in(alloc, request, shrunk.rect)? {
-            Some(ground) => ground.show(alloc, &shrunk.sketch),
+            Some(ground) => ground.show(alloc, &shrunk.sketch, search),
             None => Ok(None),
         },
         _ => Ok(None),
@@ -105,11 +111,12 @@ fn lessened_into(
 
 /// A layout in the rectangle of a request from a sketch in a greater rectangle, which is made smaller more than once. Other
 /// places begin other searches.
-fn seek_from(
+fn seek_from<S: Search>(
     alloc: Global,
     request: &Request,
     beginning: Beginning,
     place: usize,
+    search: &S,
 ) -> Result<Option<Sketch>, AllocError> {
     let Beginning { rect, runs } = beginning;
     let Some(great) = ground_in(alloc, request, rect)? else {
@@ -123,7 +130,15 @@ fn seek_from(
     let first = (place as u64).saturating_mul(runs.count);
     for run in 0..runs.count {
         let number = first.saturating_add(run);
-        let found = lessened_into(alloc, request, great.request(), &parts, effort, number)?;
+        let found = lessened_into(
+            alloc,
+            request,
+            great.request(),
+            &parts,
+            effort,
+            number,
+            search,
+        )?;
         if found.is_some() {
             return Ok(found);
         }
@@ -159,17 +174,18 @@ fn beginnings(alloc: Global, request: &Request) -> Result<Vec<Beginning>, AllocE
 
 /// Searches for a layout of a request by making one smaller that lies in a greater rectangle, more than once. Other places
 /// begin other searches.
-pub fn seek_by_lessening(
+pub fn seek_by_lessening<S: Search>(
     alloc: Global,
     request: &Request,
     place: usize,
+    search: &S,
 ) -> Result<Option<Sketch>, AllocError> {
     let rect = great_rect(request);
     if names_cells(request) || rect == GREATEST || !has_room(request, rect, LEAST_ROOM) {
         return Ok(None);
     }
     for beginning in &beginnings(alloc, request)? {
-        let found = seek_from(alloc, request, *beginning, place)?;
+        let found = seek_from(alloc, request, *beginning, place, search)?;
         if found.is_some() {
             return Ok(found);
         }
@@ -205,14 +221,6 @@ pub fn seek_by_turning(alloc: Global, request: &Request) -> Result<Option<Sketch
 fn is_squarish(request: &Request) -> bool {
     let Rect { width, height } = request.rect();
     width == height || width.saturating_add(1) == height
-}
-
-/// How many cells halves of splitters and ends would take if no two shared one.
-fn taken_in(request: &Request) -> u64 {
-    let net = request.net();
-    let halves = u64::from(net.splitters()).saturating_mul(2);
-    let ends = u64::from(net.inputs()).saturating_add(u64::from(net.outputs()));
-    halves.saturating_add(ends)
 }
 
 /// Whether halves of splitters and ends take at most half of the cells of a request's rectangle.
@@ -284,23 +292,23 @@ fn seek_from_greatest(
 fn seek_shrunk(
     alloc: Global,
     requests: &[Request],
-    found: Option<&Laid>,
+    found: Option<Least>,
     effort: u64,
     number: u64,
 ) -> Result<Option<Shrunk>, AllocError> {
     let place = match found {
-        Some(laid) => laid.place,
+        Some(least) => least.place,
         None => 0,
     };
     let Some(request) = requests.get(place) else {
         return Ok(None);
     };
     match found {
-        Some(laid) => shrink(
+        Some(least) => shrink(
             alloc,
             request,
             request.rect(),
-            &laid.parts,
+            least.parts,
             Goal::Least,
             effort,
             number,
@@ -314,12 +322,12 @@ fn seek_shrunk(
 pub fn seek_lesser(
     alloc: Global,
     requests: &[Request],
-    found: Option<&Laid>,
+    found: Option<Least>,
     effort: u64,
     number: u64,
 ) -> Result<Option<Shrunk>, AllocError> {
     let end = match found {
-        Some(laid) => laid.place,
+        Some(least) => least.place,
         None => requests.len(),
     };
     let turned = seek_turned_below(alloc, requests, end, number)?;

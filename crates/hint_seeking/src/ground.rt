@@ -1,9 +1,7 @@
-//! Searches by the structure of a network: of a request in which it gives the numbers, in a rectangle that may be smaller.
-//! What is found is told as a sketch of the first request, so nothing is claimed of it.
+//! Grounds of searches: a request in which its structure gives the numbers, in a rectangle that may be smaller, and what is
+//! found there, told as a sketch of the first request.
 
-use crate::lessening::{seek_by_lessening, seek_by_turning};
-use crate::likely::solver_by;
-use crate::sketched::{SKETCHED_STEPS, solver_with};
+use crate::search::Search;
 use crate::turning::{add_stretched, turned_part, turned_rect};
 use bt_choosers::Active;
 use bt_cnf::Formula;
@@ -14,11 +12,8 @@ use bt_place::{Numbers, literal_of};
 use bt_sat::{Answer, Solver};
 use hint_numbering::{Named, name_by_structure};
 use hint_placement::{Sketch, find_sketch};
-use hint_streamlining::{Attempt, attempts};
+use hint_streamlining::Attempt;
 use std::alloc::{AllocError, Global};
-
-/// Before each search of more steps than these a greater layout is made smaller.
-const SHORT_STEPS: u64 = 8192;
 
 /// A request whose numbers come from the structure, in a rectangle of the first request's.
 #[derive(Drop)]
@@ -41,7 +36,7 @@ pub struct Sought {
 
 impl Sought {
     /// Nothing was found.
-    fn nothing() -> Sought {
+    pub fn nothing() -> Sought {
         Sought {
             sketch: None,
             is_refuted: false,
@@ -160,19 +155,15 @@ impl Ground {
     }
 
     /// What a search comes to.
-    fn outcome(
-        &self,
-        alloc: Global,
-        numbers: &Numbers,
-        solver: &mut Solver<Active>,
-    ) -> Result<Sought, AllocError> {
+    fn outcome(&self, alloc: Global, solver: &mut Solver<Active>) -> Result<Sought, AllocError> {
         let answer = solver.next_model()?;
         let mut sought = Sought::nothing();
         match answer {
             Answer::Model(model) => {
+                let numbers = Numbers::new(alloc, &self.named.request)?;
                 let reading = Reading {
                     formula: solver.formula(),
-                    numbers,
+                    numbers: &numbers,
                     model: &model,
                 };
                 sought.sketch = Some(self.read(alloc, reading)?);
@@ -183,21 +174,15 @@ impl Ground {
         Ok(sought)
     }
 
-    /// A search for a layout where one is likely.
-    fn seek(&self, alloc: Global, attempt: Attempt) -> Result<Sought, AllocError> {
-        let numbers = Numbers::new(alloc, &self.named.request)?;
-        self.sought_by(alloc, &numbers, attempt)
-    }
-
     /// What the search of an attempt comes to.
-    fn sought_by(
+    pub fn seek<S: Search>(
         &self,
         alloc: Global,
-        numbers: &Numbers,
         attempt: Attempt,
+        search: &S,
     ) -> Result<Sought, AllocError> {
-        let mut solver = solver_by(alloc, &self.named.request, numbers, attempt)?;
-        self.outcome(alloc, numbers, &mut solver)
+        let mut solver = search.by_attempt(alloc, &self.named.request, attempt)?;
+        self.outcome(alloc, &mut solver)
     }
 
     /// Its request.
@@ -205,26 +190,20 @@ impl Ground {
         &self.named.request
     }
 
-    /// A sketch of its request as one of the first.
-    pub fn show(&self, alloc: Global, sketch: &Sketch) -> Result<Option<Sketch>, AllocError> {
-        let numbers = Numbers::new(alloc, &self.named.request)?;
-        let shown = self.shown_by(alloc, &numbers, sketch)?;
+    /// A sketch of its request as one of the first, where the search with it finds what it shows.
+    pub fn show<S: Search>(
+        &self,
+        alloc: Global,
+        sketch: &Sketch,
+        search: &S,
+    ) -> Result<Option<Sketch>, AllocError> {
+        let mut solver = search.by_sketch(alloc, &self.named.request, sketch)?;
+        let shown = self.outcome(alloc, &mut solver)?;
         Ok(shown.sketch)
     }
 
-    /// What the search with a sketch comes to.
-    fn shown_by(
-        &self,
-        alloc: Global,
-        numbers: &Numbers,
-        sketch: &Sketch,
-    ) -> Result<Sought, AllocError> {
-        let mut solver = solver_with(alloc, &self.named.request, sketch, SKETCHED_STEPS)?;
-        self.outcome(alloc, numbers, &mut solver)
-    }
-
     /// A sketch of a layout.
-    fn sketch(&self, alloc: Global) -> Result<Option<Sketch>, AllocError> {
+    pub fn sketch(&self, alloc: Global) -> Result<Option<Sketch>, AllocError> {
         match find_sketch(alloc, &self.named.request)? {
             Some(sketch) => Ok(Some(self.told(alloc, &sketch)?)),
             None => Ok(None),
@@ -261,75 +240,4 @@ pub fn ground_in(
         })),
         None => Ok(None),
     }
-}
-
-/// A sketch of a layout of a request.
-pub fn seek_by_sketch(alloc: Global, request: &Request) -> Result<Option<Sketch>, AllocError> {
-    match ground_in(alloc, request, great_rect(request))? {
-        Some(ground) => ground.sketch(alloc),
-        None => Ok(None),
-    }
-}
-
-/// Makes an attempt in the window's own formula.
-fn seek_in_window(
-    alloc: Global,
-    request: &Request,
-    attempt: Attempt,
-) -> Result<Sought, AllocError> {
-    match ground_in(alloc, request, attempt.window)? {
-        Some(ground) => ground.seek(alloc, attempt),
-        None => Ok(Sought::nothing()),
-    }
-}
-
-/// The attempts at a layout of a request in its rectangle, as that is searched.
-fn attempts_at(alloc: Global, request: &Request, steps: u64) -> Result<Vec<Attempt>, AllocError> {
-    match ground_in(alloc, request, great_rect(request))? {
-        Some(ground) => attempts(alloc, &ground.named.request, steps),
-        None => Ok(Vec::new(alloc)),
-    }
-}
-
-/// Searches for a layout that half a turn maps onto itself, the first time, or else by making one smaller.
-fn seek_without_steps(
-    alloc: Global,
-    request: &Request,
-    place: usize,
-    is_begun: bool,
-) -> Result<Option<Sketch>, AllocError> {
-    if !is_begun {
-        let turned = seek_by_turning(alloc, request)?;
-        if turned.is_some() {
-            return Ok(turned);
-        }
-    }
-    seek_by_lessening(alloc, request, place)
-}
-
-/// Searches for a layout of a request where one is likely, with at most so many steps of all windows together. Where none
-/// of the whole rectangle is as was looked for, none of a window is.
-pub fn seek_where_likely(
-    alloc: Global,
-    request: &Request,
-    steps: u64,
-) -> Result<Option<Sketch>, AllocError> {
-    let mut is_begun = false;
-    for (place, attempt) in attempts_at(alloc, request, steps)?.iter().enumerate() {
-        if attempt.steps > SHORT_STEPS {
-            let plan = seek_without_steps(alloc, request, place, is_begun)?;
-            if plan.is_some() {
-                return Ok(plan);
-            }
-            is_begun = true;
-        }
-        let sought = seek_in_window(alloc, request, *attempt)?;
-        if sought.sketch.is_some() {
-            return Ok(sought.sketch);
-        }
-        if sought.is_refuted && attempt.is_whole {
-            return Ok(None);
-        }
-    }
-    Ok(None)
 }
