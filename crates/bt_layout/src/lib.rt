@@ -6,7 +6,6 @@ mod early;
 mod law;
 mod least;
 mod likely;
-mod order;
 mod outcome;
 mod preferring;
 mod printing;
@@ -24,7 +23,6 @@ pub use law::{
     unmet_has_no_layout,
 };
 pub use least::smallest;
-pub use order::grids;
 pub use outcome::{Early, Layout, RuledOut, Small, Smallest};
 pub use preferring::{priorities_of, priorities_on};
 pub use printing::{blueprint_of, blueprint_of_small, print_none, print_small, print_smallest};

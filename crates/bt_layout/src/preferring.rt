@@ -5,10 +5,10 @@ ghost use Rattle.bt_model.specs.Laying.{Lays, LaysPreferring};
 ghost use Rattle.bt_model.specs.Requests.{IsRequest};
 ghost use Rattle.bt_lays.specs.Laid.{LaysBy, naming_of};
 ghost use Rattle.bt_write.specs.ReadBack.{SplittersPrefer};
-ghost use Rattle.bt_layout.specs.Smallest.{NamesNoCells, request_on};
+ghost use Rattle.bt_grids.specs.Asked.{NamesNoCells, request_on};
 ghost use Rattle.bt_layout.specs.inner.Bare.{PrefersNothing};
 
-use crate::least::request_on;
+use bt_grids::request_on;
 use bt_hands::Priority;
 use bt_lays::{Names, any_names, lays, priorities_by};
 use bt_model::Request;

@@ -2,16 +2,15 @@
 ghost use Rattle.std.specs.Prelude.{◌≡◌, ◌↔◌, ℕ, IfOk, IfSome, IsTrue, MatchOption, Option, unwrap_or};
 ghost use Rattle.bt_model.specs.Requests.{IsRequest, LayoutRequest};
 ghost use Rattle.bt_layout.specs.Early.{IsEarly};
-ghost use Rattle.bt_layout.specs.Grids.{area_of, IsWithin};
+ghost use Rattle.bt_grids.specs.Grids.{area_of, IsWithin};
 ghost use Rattle.bt_layout.specs.Small.{HasFewer, IsBeyond, IsSmall, MayBeAsked};
-ghost use Rattle.bt_layout.specs.Smallest.{NamesNoCells, request_on};
+ghost use Rattle.bt_grids.specs.Asked.{NamesNoCells, request_on};
 ghost use Rattle.bt_layout.specs.inner.Progressing.{AskEach};
 
 use crate::early::lay_early;
-use crate::least::request_on;
-use crate::order::grids;
 use crate::outcome::{Early, Small};
 use crate::tested::{laid_by_proposal, laid_by_sketch};
+use bt_grids::{grids, request_on};
 use bt_model::{MOST_CELLS, MOST_ENCODED, Request};
 use bt_parts::{Part, Rect};
 use hint_placement::Sketch;

@@ -1,5 +1,5 @@
 use Rattle.std.proofs.Common.{subst}
-use Rattle.bt_layout.specs.Grids.{IsWithin}
+use Rattle.bt_grids.specs.Grids.{IsWithin}
 use Rattle.bt_layout.proofs.small.small_on.Goals as goal
 
 pub sketched_on-requires-clause-may : goal.sketched_on-requires-clause-may
