@@ -5,5 +5,5 @@ mod again;
 mod order;
 
 pub use again::request_on;
-pub use order::{grids, grids_from};
+pub use order::{area, grids, grids_from, is_within};
 pub use std::alloc::AllocError as Memory;

@@ -33,8 +33,8 @@ pub record IsFirstLeft (first : Option Rect) (r : LayoutRequest) (learnt : ℕ) 
   pub ruled_out : All (IsRuledOut r learnt) earlier
 
 -- what is right to say of the grids that a search doesn't pass by: the parts lay the request of the grid, in ascending
--- order of y and then x, no more than a blueprint may have, and all those before it are ruled out; or all of them are; or those before the grid are, of
--- whose request the log has so many steps, and one more is needed
+-- order of y and then x, no more than a blueprint may have, and all those before it are ruled out; or all of them are;
+-- or those before the grid are, of whose request the log has so many steps, and one more is needed
 abbrev pub IsSmallest : Option Rect → LayoutRequest → ℕ → Smallest → Type 0
 IsSmallest first r learnt (Found earlier grid parts) =
     IsFirstLeft first r learnt earlier.items grid × Lays parts.items (request_on r grid) × AllPairs ComesAbove parts.items

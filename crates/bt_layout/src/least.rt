@@ -15,8 +15,8 @@ use bt_model::Request;
 use bt_parts::Rect;
 use std::alloc::{AllocError, Global};
 
-/// Searches for the least grid, of at most as many cells each way as the request's rectangle and from the first on where
-/// one is named, on which parts lay the request, with a log of at most so many steps for each grid by itself. The
+/// Searches for the least grid, of at most as many cells each way as the request's rectangle and from the first on
+/// where one is named, on which parts lay the request, with a log of at most so many steps for each grid by itself. The
 /// request names no cells, and its rectangle has at most `MOST_CELLS` cells.
 pub fn smallest(
     alloc: Global,

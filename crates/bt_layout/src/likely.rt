@@ -12,7 +12,7 @@ use bt_parts::Part;
 use bt_place::{Numbers, decode, encode_place, narrow};
 use bt_sat::{Answer, Solver};
 use hint_seeking::plan_of_attempt;
-use hint_streamlining::{Attempt, narrowings};
+use hint_streamlining::{Attempt, narrowings, whole};
 use std::alloc::{AllocError, Global};
 
 /// What a search for a layout where one is likely comes to.
@@ -68,20 +68,6 @@ pub fn planned(
     Solver::by_plan(alloc, formula, choosers, steps, plan)
 }
 
-/// The search of an attempt, where the facts have these numbers.
-fn solver_by(
-    alloc: Global,
-    request: &Request,
-    numbers: &Numbers,
-    attempt: Attempt,
-) -> Result<Solver<Active>, AllocError>
-    ensures { IfOk result (λ solver. IsNarrowedSearch request.now attempt.steps solver.kernel) }
-{
-    let formula = narrowed(alloc, request, numbers)?;
-    let plan = plan_of_attempt(alloc, &formula, numbers, request, attempt)?;
-    planned(alloc, formula, plan, attempt.steps)
-}
-
 /// The search of an attempt.
 pub fn solver_of(
     alloc: Global,
@@ -91,7 +77,9 @@ pub fn solver_of(
     ensures { IfOk result (λ solver. IsNarrowedSearch request.now attempt.steps solver.kernel) }
 {
     let numbers = Numbers::new(alloc, request)?;
-    solver_by(alloc, request, &numbers, attempt)
+    let formula = narrowed(alloc, request, &numbers)?;
+    let plan = plan_of_attempt(alloc, &formula, &numbers, request, attempt)?;
+    planned(alloc, formula, plan, attempt.steps)
 }
 
 /// What a search comes to, and the steps that it takes, of those that it may take.
@@ -110,11 +98,15 @@ pub fn trial_by(
     Ok(Tried { trial, steps })
 }
 
-/// Searches for a layout of a request where one is likely in a window of its rectangle. What is found is a layout; where
-/// none is found, nothing is said.
-pub fn look_in(alloc: Global, request: &Request, attempt: Attempt) -> Result<Tried, AllocError>
-    ensures { IfOk result (IsTried request.now attempt.steps) }
+/// Looks for a layout of a request where one is likely in its rectangle, with at most so many steps. What is found is a
+/// layout; where none is found, nothing is said.
+pub fn look_where_likely(alloc: Global, request: &Request, steps: u64) -> Result<Tried, AllocError>
+    ensures { IfOk result (IsTried request.now steps) }
 {
+    let attempt = Attempt {
+        steps,
+        ..whole(alloc, request, steps)?
+    };
     let mut solver = solver_of(alloc, request, attempt)?;
     trial_by(alloc, request, &mut solver)
 }

@@ -1,17 +1,19 @@
-//! Layouts that sketches show: the parts of a sketch lay the request, or the placement formula is searched with these parts
-//! chosen first.
-ghost use Rattle.std.specs.Prelude.{IfOk};
+//! Layouts that sketches show: the parts of a sketch lay the request, or the placement formula is searched with these
+//! parts chosen first.
+ghost use Rattle.std.specs.Prelude.{IfOk, IfSome};
 ghost use Rattle.bt_place.specs.Narrowed.{IsNarrowed};
 ghost use Rattle.bt_place.specs.PlaceFormula.{place_formula};
-ghost use Rattle.bt_layout.specs.inner.Likely.{IsNarrowedSearch, IsTrial, IsTried};
+ghost use Rattle.bt_layout.specs.inner.Likely.{IsLaidOut, IsNarrowedSearch, IsTried};
 
 use crate::likely::{Trial, Tried, planned, solver_of, trial_by};
-use crate::tested::laid_by_sketch;
+use crate::tested::laid_by;
 use bt_choosers::Active;
 use bt_cnf::Formula;
 use bt_model::Request;
+use bt_parts::Part;
 use bt_place::encode_place;
 use bt_sat::Solver;
+use hint_layouts::name_sketch;
 use hint_placement::Sketch;
 use hint_seeking::{Search, plan_of_sketch, seek_by_sketch, seek_where_likely};
 use hint_streamlining::Attempt;
@@ -64,21 +66,8 @@ impl Search for PlacementSearch {
     }
 }
 
-/// What the search with a sketch comes to.
-fn trial_with(
-    alloc: Global,
-    request: &Request,
-    sketch: &Sketch,
-    steps: u64,
-) -> Result<Tried, AllocError>
-    ensures { IfOk result (IsTried request.now steps) }
-{
-    let mut solver = solver_with(alloc, request, sketch, steps)?;
-    trial_by(alloc, request, &mut solver)
-}
-
-/// Looks for the layout that a sketch of the request shows: its parts, or what a search with them finds by at most so many
-/// steps. What is found is a layout; where none is found, nothing is said.
+/// Looks for the layout that a sketch of the request shows: its parts, or what a search with them finds by at most so
+/// many steps. What is found is a layout; where none is found, nothing is said.
 pub fn look_at_sketch(
     alloc: Global,
     request: &Request,
@@ -87,7 +76,8 @@ pub fn look_at_sketch(
 ) -> Result<Tried, AllocError>
     ensures { IfOk result (IsTried request.now steps) }
 {
-    match laid_by_sketch(alloc, request, sketch)? {
+    let proposal = name_sketch(alloc, request, sketch)?;
+    match laid_by(alloc, request, proposal)? {
         Some(parts) => Ok(Tried {
             trial: Trial::Found(parts),
             steps: 0,
@@ -105,11 +95,12 @@ fn search_with(
 ) -> Result<Tried, AllocError>
     ensures { IfOk result (IsTried request.now steps) }
 {
-    trial_with(alloc, request, sketch, steps.min(SKETCHED_STEPS))
+    let mut solver = solver_with(alloc, request, sketch, steps.min(SKETCHED_STEPS))?;
+    trial_by(alloc, request, &mut solver)
 }
 
-/// Looks for a layout that a sketch of the request shows, by at most so many steps. What is found is a layout; where none is
-/// found, nothing is said.
+/// Looks for a layout that a sketch of the request shows, by at most so many steps. What is found is a layout; where
+/// none is found, nothing is said.
 pub fn look_by_sketch(alloc: Global, request: &Request, steps: u64) -> Result<Tried, AllocError>
     ensures { IfOk result (IsTried request.now steps) }
 {
@@ -122,21 +113,32 @@ pub fn look_by_sketch(alloc: Global, request: &Request, steps: u64) -> Result<Tr
     }
 }
 
-/// Whether a sketch lays the request.
-fn laid_by(alloc: Global, request: &Request, sketch: &Sketch) -> Result<Trial, AllocError>
-    ensures { IfOk result (IsTrial request.now) }
+/// The layout that a sketch of the request shows.
+fn shown_by(
+    alloc: Global,
+    request: &Request,
+    sketch: &Sketch,
+) -> Result<Option<Vec<Part>>, AllocError>
+    ensures { IfOk result (λ found. IfSome found (λ parts. IsLaidOut request.now parts.items)) }
 {
     let Tried { trial, .. } = look_at_sketch(alloc, request, sketch, SKETCHED_STEPS)?;
-    Ok(trial)
+    match trial {
+        Trial::Found(parts) => Ok(Some(parts)),
+        Trial::Refuted | Trial::Spent => Ok(None),
+    }
 }
 
-/// Looks for a layout of a request where one is likely, by at most so many steps of all windows together. What is found is
-/// a layout; where none is found, nothing is said.
-pub fn look_in_windows(alloc: Global, request: &Request, steps: u64) -> Result<Trial, AllocError>
-    ensures { IfOk result (IsTrial request.now) }
+/// A layout of a request that is found where one is likely, by at most so many steps of all windows together. Where
+/// none is found, nothing is said.
+pub fn laid_in_windows(
+    alloc: Global,
+    request: &Request,
+    steps: u64,
+) -> Result<Option<Vec<Part>>, AllocError>
+    ensures { IfOk result (λ found. IfSome found (λ parts. IsLaidOut request.now parts.items)) }
 {
     match seek_where_likely(alloc, request, steps, &PlacementSearch)? {
-        Some(sketch) => laid_by(alloc, request, &sketch),
-        None => Ok(Trial::Spent),
+        Some(sketch) => shown_by(alloc, request, &sketch),
+        None => Ok(None),
     }
 }

@@ -1,5 +1,5 @@
-//! Grounds of searches: a request in which its structure gives the numbers, in a rectangle that may be smaller, and what is
-//! found there, told as a sketch of the first request.
+//! Grounds of searches: a request in which its structure gives the numbers, in a rectangle that may be smaller, and
+//! what is found there, told as a sketch of the first request.
 
 use crate::search::Search;
 use crate::turning::{add_stretched, turned_part, turned_rect};

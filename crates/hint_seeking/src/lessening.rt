@@ -18,8 +18,8 @@ const GREATEST: Rect = Rect {
 /// Layouts are made smaller only to rectangles that have so many cells for each splitter.
 const LEAST_ROOM: u64 = 9;
 
-/// Layouts begin in rectangles that are a column or a row greater only where these have so many cells for each splitter: in
-/// lesser ones sketches find hardly any.
+/// Layouts begin in rectangles that are a column or a row greater only where these have so many cells for each
+/// splitter: in lesser ones sketches find hardly any.
 const SKETCH_ROOM: u64 = 15;
 
 /// How often a layout is made smaller, and for about as long as how many conflicts take for each cell.
@@ -48,8 +48,8 @@ struct Beginning {
     runs: Runs,
 }
 
-/// For about so many conflicts of a light search a layout is looked for that half a turn maps onto itself: it takes few or
-/// very many.
+/// For about so many conflicts of a light search a layout is looked for that half a turn maps onto itself: it takes few
+/// or very many.
 const TURN_EFFORT: u64 = 40_000;
 
 /// Of how many rectangles such layouts are looked for by turns.
@@ -88,8 +88,8 @@ fn names_cells(request: &Request) -> bool {
     !request.blocks().is_empty()
 }
 
-/// A plan of a layout that lies in the rectangle of a request, from the parts of one in a greater rectangle that is made
-/// smaller.
+/// A plan of a layout that lies in the rectangle of a request, from the parts of one in a greater rectangle that is
+/// made smaller.
 fn lessened_into<S: Search>(
     alloc: Global,
     request: &Request,
@@ -109,8 +109,8 @@ fn lessened_into<S: Search>(
     }
 }
 
-/// A layout in the rectangle of a request from a sketch in a greater rectangle, which is made smaller more than once. Other
-/// places begin other searches.
+/// A layout in the rectangle of a request from a sketch in a greater rectangle, which is made smaller more than once.
+/// Other places begin other searches.
 fn seek_from<S: Search>(
     alloc: Global,
     request: &Request,
@@ -154,8 +154,8 @@ fn grown(rect: Rect, columns: u32, rows: u32) -> Rect {
     }
 }
 
-/// Where a layout begins that is made smaller to the rectangle of a request: in those that are a column or a row greater,
-/// where there is room, and in the greatest.
+/// Where a layout begins that is made smaller to the rectangle of a request: in those that are a column or a row
+/// greater, where there is room, and in the greatest.
 fn beginnings(alloc: Global, request: &Request) -> Result<Vec<Beginning>, AllocError> {
     let first = great_rect(request);
     let mut beginnings = Vec::new(alloc);
@@ -172,8 +172,8 @@ fn beginnings(alloc: Global, request: &Request) -> Result<Vec<Beginning>, AllocE
     Ok(beginnings)
 }
 
-/// Searches for a layout of a request by making one smaller that lies in a greater rectangle, more than once. Other places
-/// begin other searches.
+/// Searches for a layout of a request by making one smaller that lies in a greater rectangle, more than once. Other
+/// places begin other searches.
 pub fn seek_by_lessening<S: Search>(
     alloc: Global,
     request: &Request,
@@ -193,8 +193,8 @@ pub fn seek_by_lessening<S: Search>(
     Ok(None)
 }
 
-/// Whether halves of splitters and ends take at most two thirds of the cells of a request's rectangle, which is no wider
-/// than high and at most twice as high.
+/// Whether halves of splitters and ends take at most two thirds of the cells of a request's rectangle, which is no
+/// wider than high and at most twice as high.
 fn may_be_turned(request: &Request, rect: Rect) -> bool {
     let Rect { width, height } = rect;
     width <= height
@@ -228,8 +228,8 @@ fn is_wide(request: &Request) -> bool {
     taken_in(request).saturating_mul(2) <= cells_in(request.rect())
 }
 
-/// Of the first requests, of those whose rectangles are squarish, by turns one of the least that are wide; or the last one,
-/// where none is.
+/// Of the first requests, of those whose rectangles are squarish, by turns one of the least that are wide; or the last
+/// one, where none is.
 fn to_turn(requests: &[Request], end: usize, number: u64) -> Option<&Request> {
     let mut last = None;
     let mut left = number % TURNS;
@@ -248,7 +248,8 @@ fn to_turn(requests: &[Request], end: usize, number: u64) -> Option<&Request> {
     last
 }
 
-/// Looks for a layout of one of the first requests that half a turn maps onto itself. Other numbers begin other searches.
+/// Looks for a layout of one of the first requests that half a turn maps onto itself. Other numbers begin other
+/// searches.
 fn seek_turned_below(
     alloc: Global,
     requests: &[Request],
@@ -317,8 +318,8 @@ fn seek_shrunk(
     }
 }
 
-/// Looks for a layout that half a turn maps onto itself; or makes the layout smaller that was found, or a plan where none
-/// was.
+/// Looks for a layout that half a turn maps onto itself; or makes the layout smaller that was found, or a plan where
+/// none was.
 pub fn seek_lesser(
     alloc: Global,
     requests: &[Request],

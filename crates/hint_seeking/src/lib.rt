@@ -1,12 +1,13 @@
-//! The strategy of a search for layouts: which sketches, windows, half turns and greater layouts are tried for a request, in
-//! which order and for how long, and by which plans a search of the placement formula makes its choices.
+//! The strategy of a search for layouts: which sketches, windows, half turns and greater layouts are tried for a
+//! request, in which order and for how long, and by which plans a search of the placement formula makes its choices.
 //!
-//! It is handed the searches (`Search`), and tells what they find as a sketch of the request. Nothing is claimed of that:
-//! whoever takes a sketch tests it, or shows it by a search.
+//! It is handed the searches (`Search`), and tells what they find as a sketch of the request. Nothing is claimed of
+//! that: whoever takes a sketch tests it, or shows it by a search.
 #![tactic(auto)]
 
 mod ground;
 mod lessening;
+mod means;
 mod own;
 mod plans;
 mod room;
@@ -16,6 +17,7 @@ mod showing;
 mod turning;
 
 pub use lessening::{Least, seek_lesser};
+pub use means::Means;
 pub use own::{OwnLayout, narrow_own};
 pub use plans::{plan_of_attempt, plan_of_whole};
 pub use room::is_tight;

@@ -17,8 +17,8 @@ pub struct OwnLayout {
     pub sketch: Sketch,
 }
 
-/// A design's own parts, which show the network of the request with its numbers, made smaller for about as long as so many
-/// conflicts take.
+/// A design's own parts, which show the network of the request with its numbers, made smaller for about as long as so
+/// many conflicts take.
 pub fn narrow_own(
     alloc: Global,
     request: &Request,

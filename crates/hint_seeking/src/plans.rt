@@ -96,8 +96,8 @@ fn straight(
     Ok(plan)
 }
 
-/// The plan that all but what leads back goes from the south to the north, as long as that can be, and that the splitters
-/// are placed then and the ways back: by turns in several orders.
+/// The plan that all but what leads back goes from the south to the north, as long as that can be, and that the
+/// splitters are placed then and the ways back: by turns in several orders.
 fn looped(
     alloc: Global,
     formula: &Formula,
@@ -134,9 +134,9 @@ pub fn plan_of_attempt(
     }
 }
 
-/// The plan of a search of a whole placement formula: of a large one its conflicts decide, by which eight to eight in 7x7 is
-/// refuted in less than half the steps; of a small one the splitters are placed first, by which four to four in 5x5 takes a
-/// quarter of them.
+/// The plan of a search of a whole placement formula: of a large one its conflicts decide, by which eight to eight in
+/// 7x7 is refuted in less than half the steps; of a small one the splitters are placed first, by which four to four in
+/// 5x5 takes a quarter of them.
 pub fn plan_of_whole(
     alloc: Global,
     formula: &Formula,
@@ -149,8 +149,8 @@ pub fn plan_of_whole(
     }
 }
 
-/// Whether the cells of the rectangle times the splitters are so many that conflicts decide best. Six splitters in 6x6 are
-/// refuted in the same time by either plan.
+/// Whether the cells of the rectangle times the splitters are so many that conflicts decide best. Six splitters in 6x6
+/// are refuted in the same time by either plan.
 fn is_large(request: &Request) -> bool {
     let splitters = u64::from(request.net().splitters());
     cells_in(request.rect()).saturating_mul(splitters) >= LARGE

@@ -15,8 +15,8 @@ pub fn taken_in(request: &Request) -> u64 {
     halves.saturating_add(ends)
 }
 
-/// Whether halves of splitters and ends take more than three quarters of the cells of a request's rectangle. Where they do,
-/// there is mostly no layout.
+/// Whether halves of splitters and ends take more than three quarters of the cells of a request's rectangle. Where they
+/// do, there is mostly no layout.
 pub fn is_tight(request: &Request) -> bool {
     taken_in(request).saturating_mul(4) > cells_in(request.rect()).saturating_mul(3)
 }

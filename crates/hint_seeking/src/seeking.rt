@@ -1,5 +1,5 @@
-//! Which searches for a layout of a request are made, one after another: by a sketch, and by turns in windows, by a half
-//! turn and by making a greater layout smaller.
+//! Which searches for a layout of a request are made, one after another: by a sketch, and by turns in windows, by a
+//! half turn and by making a greater layout smaller.
 
 use crate::ground::{Sought, great_rect, ground_in};
 use crate::lessening::{seek_by_lessening, seek_by_turning};
@@ -58,8 +58,8 @@ fn seek_without_steps<S: Search>(
     seek_by_lessening(alloc, request, place, search)
 }
 
-/// Searches for a layout of a request where one is likely, with at most so many steps of all windows together. Where none
-/// of the whole rectangle is as was looked for, none of a window is.
+/// Searches for a layout of a request where one is likely, with at most so many steps of all windows together. Where
+/// none of the whole rectangle is as was looked for, none of a window is.
 pub fn seek_where_likely<S: Search>(
     alloc: Global,
     request: &Request,

@@ -62,8 +62,8 @@ fn hands_ahead(part: Part) -> bool {
     }
 }
 
-/// Adds a belt or an underground piece of a layout in the small rectangle. Where an input begins there or an output ends,
-/// belts lead there from the border of the great one, or from there to it.
+/// Adds a belt or an underground piece of a layout in the small rectangle. Where an input begins there or an output
+/// ends, belts lead there from the border of the great one, or from there to it.
 pub fn add_stretched(
     others: &mut Vec<Part>,
     small: Rect,

@@ -2,7 +2,7 @@ use Rattle.std.proofs.Common.{◌≡◌}
 use Rattle.std.proofs.lemmas.Result.{IfOk-weaker}
 use Rattle.bt_sat.specs.Solving.{begun}
 use Rattle.bt_layout.specs.inner.Likely.{IsNarrowedSearch}
-use Rattle.bt_layout.proofs.likely.solver_by.Goals as goal
+use Rattle.bt_layout.proofs.likely.solver_of.Goals as goal
 
 pub returns : goal.returns
 returns c =
