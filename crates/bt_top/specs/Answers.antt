@@ -28,7 +28,7 @@ use Rattle.bt_words.specs.declared.command.NetworkFamily.TheVariants.{Butterfly,
 use Rattle.bt_words.specs.declared.command.BuiltText.{BuiltText}
 use Rattle.bt_words.specs.declared.command.BuiltText.TheVariants as built
 use Rattle.bt_print.specs.NetTexts.{text_with}
-use Rattle.bt_top.specs.declared.make.Made as making
+use Rattle.bt_top.specs.declared.made.Made as making
 use Rattle.bt_extend.specs.Texts.{definitions_text}
 use Rattle.bt_extend.specs.declared.definition.Definition.{Definition}
 use Rattle.bt_top.specs.declared.answer.Answer.{Answer}

@@ -3,7 +3,7 @@ ghost use Rattle.std.specs.Prelude.{◌≡◌};
 ghost use Rattle.bt_top.specs.Answers.{brief_status, gave_up_status, least_status, small_status, status_of};
 ghost use Rattle.bt_top.specs.Replies.{design_told};
 
-use crate::make::Made;
+use crate::made::Made;
 use bt_cert::Cause;
 use bt_cnf::Formula;
 use bt_designs::{DesignFault, Refusal};

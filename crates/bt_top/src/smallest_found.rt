@@ -99,9 +99,8 @@ fn found_of(
     requires cells { NamesNoCells request.now }
     ensures { UnlessMemory alloc_error (IsFound bytes.now learnt request.now) result }
 {
-    let cells = own_cells(alloc, bytes)?;
-    let own = own_parts(alloc, bytes)?;
-    small_of(alloc, learnt, request, cells, &own)
+    let own = own_design(alloc, bytes)?;
+    small_of(alloc, learnt, request, own.cells, &own.parts)
 }
 
 /// The answer to a request on the greatest grid, where the number of cells of a design that is laid out is given, and its
@@ -153,13 +152,24 @@ fn priorities_in(
     }
 }
 
-/// How many cells a design has where it is laid out: those of the least rectangle that holds its parts. The bytes
-/// are a design, which was read of them before.
-fn own_cells(alloc: Global, bytes: &[u8]) -> Result<Option<u64>, AllocError>
-    ensures { IfOk result (IsOwn bytes.now) }
+/// What a search takes of a design.
+#[derive(Drop)]
+pub struct OwnDesign {
+    /// How many cells it has where it is laid out: those of the least rectangle that holds its parts.
+    pub cells: Option<u64>,
+    /// Its parts where it is laid out, from which a search may begin.
+    pub parts: Vec<Part>,
+}
+
+/// What a search takes of the design that the bytes are, which was read of them before.
+fn own_design(alloc: Global, bytes: &[u8]) -> Result<OwnDesign, AllocError>
+    ensures { IfOk result (λ own. IsOwn bytes.now own.cells) }
 {
     if !is_json(bytes) {
-        return Ok(None);
+        return Ok(OwnDesign {
+            cells: None,
+            parts: Vec::new(alloc),
+        });
     }
     let Ok((tree, _)) = bt_json::read(alloc, bytes) else {
         return Err(AllocError);
@@ -167,21 +177,10 @@ fn own_cells(alloc: Global, bytes: &[u8]) -> Result<Option<u64>, AllocError>
     let read = parts_and_priorities(alloc, &tree);
     drop(tree);
     match read {
-        Ok(read) => Ok(Some(spanned(&read.parts))),
-        Err(_) => Err(AllocError),
-    }
-}
-
-/// The parts of a design that is laid out, from which a search may begin: nothing is claimed of them.
-fn own_parts(alloc: Global, bytes: &[u8]) -> Result<Vec<Part>, AllocError> {
-    if !is_json(bytes) {
-        return Ok(Vec::new(alloc));
-    }
-    let Ok((tree, _)) = bt_json::read(alloc, bytes) else {
-        return Err(AllocError);
-    };
-    match parts_and_priorities(alloc, &tree) {
-        Ok(read) => Ok(read.parts),
+        Ok(read) => Ok(OwnDesign {
+            cells: Some(spanned(&read.parts)),
+            parts: read.parts,
+        }),
         Err(_) => Err(AllocError),
     }
 }

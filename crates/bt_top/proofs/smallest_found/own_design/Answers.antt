@@ -1,6 +1,6 @@
 use Rattle.std.proofs.Common.{subst}
 use Rattle.bt_top.specs.Finding.{IsSpanned}
-use Rattle.bt_top.proofs.smallest_found.own_cells.Goals as goal
+use Rattle.bt_top.proofs.smallest_found.own_design.Goals as goal
 
 pub returns-in-Ok-read : goal.returns-in-Ok-read
 returns-in-Ok-read c =
