@@ -1,3 +1,4 @@
 pub mod Grids
 pub mod Asked
+pub mod SmallestText
 pub mod inner

@@ -13,8 +13,8 @@ use Rattle.bt_entities.specs.Answers.{IsPrioritisedOf}
 use Rattle.bt_model.specs.Laying.{LaysPreferring}
 use Rattle.bt_model.specs.Requests.{LayoutRequest}
 use Rattle.bt_write.specs.ReadBack.{IsReadBack}
-use Rattle.bt_layout.specs.declared.outcome.Small.{Small}
-use Rattle.bt_layout.specs.declared.outcome.Small.TheVariants.{Found, Spent}
+use Rattle.bt_grids.specs.declared.outcome.Small.{Small}
+use Rattle.bt_grids.specs.declared.outcome.Small.TheVariants.{Found, Spent}
 use Rattle.bt_grids.specs.Grids.{area_of}
 use Rattle.bt_layout.specs.Small.{IsBeyond, IsSmall}
 use Rattle.bt_grids.specs.Asked.{request_on}

@@ -10,7 +10,7 @@ use bt_designs::{DesignFault, Refusal};
 use bt_extend::Definition;
 use bt_flow::{Property, State, Test};
 use bt_hands::Priority;
-use bt_layout::{Small, Smallest};
+use bt_grids::{Small, Smallest};
 use bt_log::Log;
 use bt_net::Net;
 use bt_parts::{Part, Rect};

@@ -4,8 +4,8 @@ use Rattle.std.proofs.lemmas.Result.{err_from_is_err_and}
 use Rattle.bt_text.specs.Lines.{line}
 use Rattle.bt_io.proofs.Pieces.{first_failed, second_failed, three_written}
 use Rattle.bt_log.specs.LogText.{log_text}
-use Rattle.bt_layout.specs.SmallestText.{grid_line}
-use Rattle.bt_layout.proofs.printing.print_spent.Goals as goal
+use Rattle.bt_grids.specs.SmallestText.{grid_line}
+use Rattle.bt_grids.proofs.printing.print_spent.Goals as goal
 
 pub returns-in_err-write_pieces : goal.returns-in_err-write_pieces
 returns-in_err-write_pieces g c =

@@ -1,7 +1,7 @@
 use Rattle.std.proofs.lemmas.Result.{err_from_is_err_and}
 use Rattle.bt_io.proofs.Pieces.{first_failed, second_failed, three_written}
-use Rattle.bt_layout.specs.SmallestText.{earlier_text, grid_line}
-use Rattle.bt_layout.proofs.printing.print_found.Goals as goal
+use Rattle.bt_grids.specs.SmallestText.{earlier_text, grid_line}
+use Rattle.bt_grids.proofs.printing.print_found.Goals as goal
 
 pub returns-in_err-print_earlier : goal.returns-in_err-print_earlier
 returns-in_err-print_earlier g c =

@@ -3,8 +3,8 @@ use Rattle.bt_text.specs.Lines.{line}
 use Rattle.bt_io.specs.Passages.{passage}
 use Rattle.bt_io.proofs.Written.{writes_both, writes_no_more}
 use Rattle.bt_log.specs.LogText.{log_text}
-use Rattle.bt_layout.specs.SmallestText.{none_word}
-use Rattle.bt_layout.proofs.printing.print_none.Goals as goal
+use Rattle.bt_grids.specs.SmallestText.{none_word}
+use Rattle.bt_grids.proofs.printing.print_none.Goals as goal
 
 pub returns-in_err-write_all_of : goal.returns-in_err-write_all_of
 returns-in_err-write_all_of g c =

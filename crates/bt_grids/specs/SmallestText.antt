@@ -7,11 +7,11 @@ use Rattle.bt_parts.specs.declared.part.Rect.{Rect}
 use Rattle.bt_log.specs.Logs.{Step}
 use Rattle.bt_log.specs.LogText.{log_text}
 use Rattle.bt_write.specs.Written.{blueprint_text}
-use Rattle.bt_layout.specs.declared.outcome.RuledOut.{RuledOut}
-use Rattle.bt_layout.specs.declared.outcome.Small.{Small}
-use Rattle.bt_layout.specs.declared.outcome.Small.TheVariants as small
-use Rattle.bt_layout.specs.declared.outcome.Smallest.{Smallest}
-use Rattle.bt_layout.specs.declared.outcome.Smallest.TheVariants.{Found, Nowhere, Spent}
+use Rattle.bt_grids.specs.declared.outcome.RuledOut.{RuledOut}
+use Rattle.bt_grids.specs.declared.outcome.Small.{Small}
+use Rattle.bt_grids.specs.declared.outcome.Small.TheVariants as small
+use Rattle.bt_grids.specs.declared.outcome.Smallest.{Smallest}
+use Rattle.bt_grids.specs.declared.outcome.Smallest.TheVariants.{Found, Nowhere, Spent}
 
 -- the word of a certificate that no layout lays a request
 abbrev pub none_word : List ℕ

@@ -1,8 +1,8 @@
 use Rattle.std.proofs.Common.{[], refl}
 use Rattle.std.proofs.lemmas.Result.{err_from_is_err_and}
 use Rattle.bt_io.proofs.Pieces.{last_failed}
-use Rattle.bt_layout.specs.SmallestText.{ruled_out_text}
-use Rattle.bt_layout.proofs.printing.print_earlier.Goals as goal
+use Rattle.bt_grids.specs.SmallestText.{ruled_out_text}
+use Rattle.bt_grids.proofs.printing.print_earlier.Goals as goal
 
 pub returns-in_err-print_ruled_out : goal.returns-in_err-print_ruled_out
 returns-in_err-print_ruled_out g c =

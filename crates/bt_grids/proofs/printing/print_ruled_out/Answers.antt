@@ -1,8 +1,8 @@
 use Rattle.std.proofs.lemmas.Result.{err_from_is_err_and}
 use Rattle.bt_io.specs.Passages.{passage}
 use Rattle.bt_io.proofs.Written.{writes_both, writes_no_more}
-use Rattle.bt_layout.specs.SmallestText.{grid_line, nowhere_text}
-use Rattle.bt_layout.proofs.printing.print_ruled_out.Goals as goal
+use Rattle.bt_grids.specs.SmallestText.{grid_line, nowhere_text}
+use Rattle.bt_grids.proofs.printing.print_ruled_out.Goals as goal
 
 pub returns-in_err-print_grid : goal.returns-in_err-print_grid
 returns-in_err-print_grid g c =

@@ -2,9 +2,9 @@
 ghost use Rattle.std.specs.Prelude.{◌≡◌, ◌++◌, IfOk, List};
 ghost use Rattle.bt_io.specs.Bytes.{WritesText};
 ghost use Rattle.bt_io.specs.Passages.{passage};
-ghost use Rattle.bt_layout.specs.SmallestText.{blueprint_of, earlier_text, from_line, grid_line, nowhere_text};
-ghost use Rattle.bt_layout.specs.SmallestText.{least_text, rect_line, ruled_out_text, smallest_text, spent_on_text};
-ghost use Rattle.bt_layout.specs.SmallestText.{blueprint_of_small, found_none_text, small_text};
+ghost use Rattle.bt_grids.specs.SmallestText.{blueprint_of, earlier_text, from_line, grid_line, nowhere_text};
+ghost use Rattle.bt_grids.specs.SmallestText.{least_text, rect_line, ruled_out_text, smallest_text, spent_on_text};
+ghost use Rattle.bt_grids.specs.SmallestText.{blueprint_of_small, found_none_text, small_text};
 
 use crate::outcome::{RuledOut, Small, Smallest};
 use bt_hands::Priority;

@@ -1,8 +1,8 @@
 use Rattle.std.proofs.Common.{◌++◌, sym, ◌∙◌, ap, subst}
 use Rattle.bt_io.specs.Bytes.{WritesText}
 use Rattle.bt_io.specs.Passages.{passage}
-use Rattle.bt_layout.specs.SmallestText.{blueprint_of, earlier_text, grid_line, least_text}
-use Rattle.bt_layout.proofs.printing.print_least.Goals as goal
+use Rattle.bt_grids.specs.SmallestText.{blueprint_of, earlier_text, grid_line, least_text}
+use Rattle.bt_grids.proofs.printing.print_least.Goals as goal
 
 pub returns-in-Found : goal.returns-in-Found
 returns-in-Found g c = λ priorities is.
