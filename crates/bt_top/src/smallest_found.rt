@@ -1,22 +1,19 @@
 //! `smallest --found`: small grids on which parts that show a design's network are found.
-ghost use Rattle.std.specs.Prelude.{[], ◌∷◌, ◌++◌, ℕ, Contains, IfOk, IfSome, List, Option, alloc_error};
+ghost use Rattle.std.specs.Prelude.{ℕ, IfOk, IfSome, Option, alloc_error};
 ghost use Rattle.bt_answers.specs.Answers.{UnlessMemory};
-ghost use Rattle.bt_parts.specs.Cells.{IsInRange};
-ghost use Rattle.bt_parts.specs.Layouts.{AreInRange};
-ghost use Rattle.bt_parts.specs.declared.part.Part.{Part as APart};
 ghost use Rattle.bt_model.specs.Requests.{IsGrid, IsRequest};
 ghost use Rattle.bt_grids.specs.Asked.{NamesNoCells};
 ghost use Rattle.bt_layout.specs.Small.{IsSmall};
-ghost use Rattle.bt_top.specs.Finding.{IsDesignRequest, IsDrawnRequest, IsFound, IsFoundAgain, IsFoundFrom, IsOwn, IsPreferred, IsSmallFound, IsSmallTold, IsSpanned};
-ghost use Rattle.bt_top.specs.inner.Spans.{Encloses, IsNear, IsSpanOf};
+ghost use Rattle.bt_top.specs.Finding.{IsDesignRequest, IsDrawnRequest, IsFound, IsFoundAgain, IsFoundFrom, IsOwn, IsPreferred, IsSmallFound, IsSmallTold};
 
 use crate::answer::{Answer, refused};
 use bt_designs::{DesignFault, is_json, read_kept_request, read_lone_request, read_sided_request};
 use bt_entities::parts_and_priorities;
+use bt_grids::spanned;
 use bt_hands::Priority;
 use bt_layout::{Small, find_small, priorities_on};
 use bt_model::{MOST_ACROSS, Request};
-use bt_parts::{Cell, Part, Rect, Tier, cells_of};
+use bt_parts::{Part, Rect, Tier};
 use bt_words::{AskedSides, USUAL_ACROSS};
 use std::alloc::{AllocError, Global};
 
@@ -182,70 +179,5 @@ fn own_design(alloc: Global, bytes: &[u8]) -> Result<OwnDesign, AllocError>
             parts: read.parts,
         }),
         Err(_) => Err(AllocError),
-    }
-}
-
-/// The least and the greatest coordinates of cells.
-#[derive(Clone, Copy)]
-pub struct Span {
-    pub least: Cell,
-    pub greatest: Cell,
-}
-
-/// The cells of the least rectangle that holds the parts.
-fn spanned(parts: &[Part]) -> u64
-    requires { AreInRange parts.now }
-    ensures { IsSpanned result parts.now }
-{
-    let Some(first) = parts.first() else {
-        return 0;
-    };
-    let mut span = Span {
-        least: first.cell,
-        greatest: first.cell,
-    };
-    for part in parts {
-        span = with_part(span, part);
-    }
-    span.cells()
-}
-
-/// With the cells of one part more.
-fn with_part(span: Span, part: &Part) -> Span
-    requires part { IsInRange part.now.cell }
-    requires least { IsNear span.least }
-    requires greatest { IsNear span.greatest }
-    ensures least { IsNear result.least }
-    ensures greatest { IsNear result.greatest }
-    ensures within { (parts : List APart) → IsSpanOf parts span → Contains parts part.now
-        → IsSpanOf parts result }
-    ensures encloses { (seen : List APart) → Encloses span seen → Encloses result (seen ++ part.now ∷ []) }
-{
-    let (first, second) = cells_of(part);
-    let last = second.unwrap_or(first);
-    Span {
-        least: Cell {
-            x: span.least.x.min(first.x),
-            y: span.least.y.min(first.y),
-        },
-        greatest: Cell {
-            x: span.greatest.x.max(last.x),
-            y: span.greatest.y.max(last.y),
-        },
-    }
-}
-
-impl Span {
-    /// How many cells there are from the one to the other.
-    fn cells(self) -> u64
-        requires least { IsNear self.least }
-        requires greatest { IsNear self.greatest }
-        ensures { (parts : List APart) → IsSpanOf parts self → Encloses self parts
-            → IsSpanned result parts }
-    {
-        let Span { least, greatest } = self;
-        let across = u64::from(least.x.abs_diff(greatest.x)) + 1;
-        let down = u64::from(least.y.abs_diff(greatest.y)) + 1;
-        across.saturating_mul(down)
     }
 }

@@ -1,5 +1,5 @@
 use Rattle.std.proofs.Common.{subst}
-use Rattle.bt_top.specs.Finding.{IsSpanned}
+use Rattle.bt_grids.specs.Spanned.{IsSpanned}
 use Rattle.bt_top.proofs.smallest_found.own_design.Goals as goal
 
 pub returns-in-Ok-read : goal.returns-in-Ok-read

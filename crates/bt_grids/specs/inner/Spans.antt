@@ -5,8 +5,8 @@ use Rattle.bt_parts.specs.declared.part.Cell.{Cell}
 use Rattle.bt_parts.specs.declared.part.Part.{Part}
 use Rattle.bt_parts.specs.declared.part.Rect.{Rect}
 use Rattle.bt_parts.specs.Cells.{Covers, IsInside}
-use Rattle.bt_top.specs.declared.smallest_found.Span.{Span}
-use Rattle.bt_top.specs.Finding.{Holds}
+use Rattle.bt_grids.specs.declared.span.Span.{Span}
+use Rattle.bt_grids.specs.Spanned.{Holds}
 
 -- both cells of a span lie in each rectangle that holds the parts
 abbrev pub IsSpanOf : List Part → Span → Type 0

@@ -1,9 +1,9 @@
 use Rattle.std.proofs.Common.{subst, sym, arith}
 use Rattle.std.proofs.lemmas.Int.{ints, clamps}
 use Rattle.bt_parts.specs.Cells.{IsInside}
-use Rattle.bt_top.specs.inner.Spans.{IsNear}
-use Rattle.bt_top.proofs.Spanning.{encloses_more, first_inside, last_inside, least_inside, greatest_inside, near_last, from}
-use Rattle.bt_top.proofs.smallest_found.with_part.Goals as goal
+use Rattle.bt_grids.specs.inner.Spans.{IsNear}
+use Rattle.bt_grids.proofs.Spanning.{encloses_more, first_inside, last_inside, least_inside, greatest_inside, near_last, from}
+use Rattle.bt_grids.proofs.span.with_part.Goals as goal
 
 pub returns-clause-least : goal.returns-clause-least
 returns-clause-least c =

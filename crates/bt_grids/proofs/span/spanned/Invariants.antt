@@ -1,6 +1,6 @@
 use Rattle.std.proofs.Common.{take}
-use Rattle.bt_top.specs.inner.Spans.{Encloses, IsNear, IsSpanOf}
-use Rattle.bt_top.proofs.smallest_found.spanned.Given as goal
+use Rattle.bt_grids.specs.inner.Spans.{Encloses, IsNear, IsSpanOf}
+use Rattle.bt_grids.proofs.span.spanned.Given as goal
 
 -- the span of the parts so far encloses these, and lies in each rectangle that holds all of them
 abbrev pub invariant-loop-part : goal.invariant-loop-part

@@ -3,10 +3,10 @@ use Rattle.std.specs.Option.{option_copied}
 use Rattle.std.specs.Prelude.{None, slice_get}
 use Rattle.std.proofs.lemmas.List.{take_all, take_more}
 use Rattle.std.proofs.lemmas.List.Elements.{Contains-get_or}
-use Rattle.bt_top.specs.inner.Spans.{Encloses}
-use Rattle.bt_top.specs.Finding.{IsSpanned}
-use Rattle.bt_top.proofs.Spanning.{none_first, none_spanned}
-use Rattle.bt_top.proofs.smallest_found.spanned.Goals as goal
+use Rattle.bt_grids.specs.inner.Spans.{Encloses}
+use Rattle.bt_grids.specs.Spanned.{IsSpanned}
+use Rattle.bt_grids.proofs.Spanning.{none_first, none_spanned}
+use Rattle.bt_grids.proofs.span.spanned.Goals as goal
 
 pub loop-part-preserved : goal.loop-part-preserved
 loop-part-preserved c =

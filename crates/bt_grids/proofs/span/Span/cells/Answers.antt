@@ -1,7 +1,7 @@
 use Rattle.std.proofs.Common.{arith}
 use Rattle.std.proofs.lemmas.Int.{ints}
-use Rattle.bt_top.proofs.Spanning.{least_holding}
-use Rattle.bt_top.proofs.smallest_found.Span.cells.Goals as goal
+use Rattle.bt_grids.proofs.Spanning.{least_holding}
+use Rattle.bt_grids.proofs.span.Span.cells.Goals as goal
 
 pub returns : goal.returns
 returns c = λ parts within encloses.
