@@ -1,4 +1,3 @@
-use Rattle.std.proofs.Common.{◌<◌}
 use Rattle.bt_layout.proofs.Ascending.{AreAbove}
 use Rattle.bt_layout.proofs.tested.are_in_order.Given as goal
 
