@@ -1,8 +1,9 @@
 //! A design's own parts, made smaller by windows and seams. Nothing is claimed of what is found.
 use bt_model::Request;
 use bt_parts::{Part, Rect};
+use hint_boards::{Plan, own_of};
 use hint_placement::Sketch;
-use hint_windows::{Plan, narrow, own_of};
+use hint_windows::narrow;
 use std::alloc::{AllocError, Global};
 
 /// A layout of more cells than these isn't made smaller.
