@@ -7,7 +7,6 @@ pub mod Written
 pub mod Sizes
 pub mod Certified
 pub mod Answering
-mod Ranks
 pub mod Passed
 pub mod Passing
 mod Taken
@@ -15,9 +14,7 @@ mod Through
 mod Told
 mod Sweeps
 mod Smaller
-mod Skipping
 pub mod Narrow
 mod Ending
 mod Bare
-mod Copied
 mod Laid

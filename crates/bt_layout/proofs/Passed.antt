@@ -9,8 +9,9 @@ use Rattle.bt_model.specs.Requests.{LayoutRequest}
 use Rattle.bt_layout.specs.Layouts.{HasNoLayout}
 use Rattle.bt_layout.specs.declared.outcome.RuledOut.{RuledOut}
 use Rattle.bt_layout.specs.declared.outcome.Smallest.TheVariants.{Found, Nowhere, Spent}
-use Rattle.bt_layout.specs.Grids.{AreGridsFrom, ComesBefore, IsSkipped, IsWithin}
-use Rattle.bt_layout.specs.Smallest.{IsFirstLeft, IsRuledOut, PassedHasNoLayout, grids_of, request_on}
+use Rattle.bt_grids.specs.Grids.{AreGridsFrom, ComesBefore, IsSkipped, IsWithin}
+use Rattle.bt_grids.specs.Asked.{request_on}
+use Rattle.bt_layout.specs.Smallest.{IsFirstLeft, IsRuledOut, PassedHasNoLayout, grids_of}
 
 -- no two grids come before each other
 not_both : (one other : Rect) → ComesBefore one other → ComesBefore other one → ⊥

@@ -15,8 +15,9 @@ use Rattle.bt_model.specs.Requests.{LayoutRequest, IsRequest, IsPinnedInside, bl
 use Rattle.bt_layout.specs.inner.Ends.{IsSought}
 use Rattle.bt_layout.specs.declared.outcome.Layout.TheVariants as layout
 use Rattle.bt_layout.specs.declared.outcome.RuledOut.{RuledOut}
-use Rattle.bt_layout.specs.Grids.{AreGridsFrom, IsWithin}
-use Rattle.bt_layout.specs.Smallest.{IsFirstLeft, IsRuledOut, NamesNoCell, NamesNoCells, grids_of, request_on}
+use Rattle.bt_grids.specs.Grids.{AreGridsFrom, IsWithin}
+use Rattle.bt_grids.specs.Asked.{NamesNoCell, NamesNoCells, request_on}
+use Rattle.bt_layout.specs.Smallest.{IsFirstLeft, IsRuledOut, grids_of}
 use Rattle.bt_layout.specs.inner.Passing.{ArePassed}
 
 -- a line that names no cell names none outside

@@ -14,9 +14,9 @@ use Rattle.bt_model.specs.Requests.{LayoutRequest}
 use Rattle.bt_layout.specs.declared.outcome.Small.TheVariants.{Found, Spent}
 use Rattle.bt_layout.specs.declared.outcome.Early.TheVariants as early
 use Rattle.bt_layout.specs.Early.{AreRefuted, IsEarly, IsLaid}
-use Rattle.bt_layout.specs.Grids.{AreGrids, ComesBefore, area_of}
+use Rattle.bt_grids.specs.Grids.{AreGrids, ComesBefore, area_of}
 use Rattle.bt_layout.specs.Small.{HasFewer, IsBeyond, IsSmall, MayBeAsked}
-use Rattle.bt_layout.specs.Smallest.{request_on}
+use Rattle.bt_grids.specs.Asked.{request_on}
 use Rattle.bt_layout.specs.inner.Progressing.{AskEach, AskSmall}
 use Rattle.bt_layout.proofs.Written.{laid_within}
 
@@ -117,12 +117,3 @@ module _ (r : LayoutRequest) (cells : Option ℕ) where
     only = ask.only;
     all = λ grid may. ask.all grid (are.all grid may.0) may.1;
   }
-
--- the grids before one come before it
-pub come_before : (grids : List Rect) (place : ℕ) (grid : Rect) → place < length grids → AllPairs ComesBefore grids → grid ≡ get_or grids place grid
-    → All (λ other. ComesBefore other grid) (take place grids)
-come_before grids place grid inside in_order is = λ i d within.
-    let size = length-take place grids in
-    let below : i < place = omega (arith, size, within) in
-    subst (λ other. ComesBefore other grid) (sym (get_or-take place grids i d below))
-    (subst (ComesBefore (get_or grids i d)) (get_or_default grids place d grid inside ∙ sym is) (in_order i place d below inside))

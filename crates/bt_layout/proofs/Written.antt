@@ -27,10 +27,10 @@ use Rattle.bt_rules.proofs.CountStay.{room_there}
 use Rattle.bt_place.specs.PlaceFormula.{HasFormula}
 use Rattle.bt_place.specs.inner.Grid.{spot_in, spots_in, cell_numbered}
 use Rattle.bt_place.proofs.Cells.{cell_of, spot_within, spot_numbered}
-use Rattle.bt_layout.specs.Grids.{area_of, IsWithin}
+use Rattle.bt_grids.specs.Grids.{area_of, IsWithin}
 use Rattle.bt_layout.specs.Layouts.{IsLayout}
 use Rattle.bt_layout.specs.Laws.{LaidIsReadBack}
-use Rattle.bt_layout.specs.Smallest.{request_on}
+use Rattle.bt_grids.specs.Asked.{request_on}
 use Rattle.bt_layout.specs.declared.outcome.Layout.{Layout}
 use Rattle.bt_layout.specs.declared.outcome.Layout.TheVariants.{Found, Nowhere, Spent}
 use Rattle.bt_layout.specs.inner.Ends.{IsSought}

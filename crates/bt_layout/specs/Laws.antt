@@ -29,8 +29,8 @@ abbrev pub NowhereIsCertificate : Type 0
 NowhereIsCertificate = (r : LayoutRequest) (steps : List Step) → IsRequest r → IsRefutation (place_formula r) steps → length steps < 10 ^ 17
     → IsCertificate (place_formula r) (log_text steps)
 
--- what is written of parts that lay a request is read as the same parts with the same priorities, where they are no more
--- than a blueprint may have, and splitters alone prefer anything
+-- what is written of parts that lay a request is read as the same parts with the same priorities, where they are no
+-- more than a blueprint may have, and splitters alone prefer anything
 abbrev pub LaidIsReadBack : Type 0
 LaidIsReadBack = (r : LayoutRequest) (parts : List Part) (priorities : List Priority) → IsRequest r → length parts ≤ MOST_ENTITIES
     → Lays parts r → SplittersPrefer parts priorities → IsReadBack parts priorities

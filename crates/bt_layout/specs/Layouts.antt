@@ -16,8 +16,8 @@ abbrev pub HasNoLayout : LayoutRequest → Type 0
 HasNoLayout r = (parts : List Part) → Lays parts r → ⊥
 
 -- what is right to say: the parts lay the request, in ascending order of y and then x, and are no more than a blueprint
--- may have; or the request has a formula and no parts lay it, and the log, which has at most so many steps, each but the
--- last needed, refutes the formula; or it has a formula, of which the log has so many steps, and one more is needed
+-- may have; or the request has a formula and no parts lay it, and the log, which has at most so many steps, each but
+-- the last needed, refutes the formula; or it has a formula, of which the log has so many steps, and one more is needed
 abbrev pub IsLayout : LayoutRequest → ℕ → Layout → Type 0
 IsLayout r learnt (Found parts) = Lays parts.items r × AllPairs ComesAbove parts.items × (length parts.items ≤ MOST_ENTITIES)
 IsLayout r learnt (Nowhere log) =

@@ -1,6 +1,5 @@
 pub mod Layouts
 pub mod Laws
-pub mod Grids
 pub mod Smallest
 pub mod SmallestText
 pub mod Early

@@ -9,8 +9,8 @@ use Rattle.bt_place.specs.Solutions.{ComesAbove}
 use Rattle.bt_layout.specs.declared.outcome.Small.{Small}
 use Rattle.bt_layout.specs.declared.outcome.Small.TheVariants.{Found, Spent}
 use Rattle.bt_layout.specs.Early.{AreRefuted}
-use Rattle.bt_layout.specs.Grids.{area_of, IsWithin}
-use Rattle.bt_layout.specs.Smallest.{request_on}
+use Rattle.bt_grids.specs.Grids.{area_of, IsWithin}
+use Rattle.bt_grids.specs.Asked.{request_on}
 
 -- the grid has fewer cells than so many, where a number is given
 abbrev pub HasFewer : Option ℕ → Rect → Type 0

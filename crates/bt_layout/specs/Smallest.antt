@@ -1,11 +1,9 @@
 -- What is right to say of the least grid on which parts lay a request.
-use Rattle.std.specs.Prelude.{◌≡◌, ℕ, ◌≤◌, List, [], ◌∷◌, ◌++◌, All, AllPairs, Option, length, map}
+use Rattle.std.specs.Prelude.{ℕ, ◌≤◌, List, ◌∷◌, ◌++◌, All, AllPairs, Option, length, map}
 use Rattle.bt_parts.specs.declared.part.Rect.{Rect}
 use Rattle.bt_entities.specs.declared.blueprint.TheConstants.{MOST_ENTITIES}
-use Rattle.bt_net.specs.declared.network.Demand.{Demand}
-use Rattle.bt_net.specs.declared.network.Demand.TheVariants as demand
 use Rattle.bt_model.specs.Laying.{Lays}
-use Rattle.bt_model.specs.Requests.{LayoutRequest, request_of}
+use Rattle.bt_model.specs.Requests.{LayoutRequest}
 use Rattle.bt_place.specs.PlaceFormula.{place_formula}
 use Rattle.bt_place.specs.Solutions.{ComesAbove}
 use Rattle.bt_theory.specs.Outcomes.{IsRefutation, IsUsedUp}
@@ -14,22 +12,7 @@ use Rattle.bt_layout.specs.Layouts.{HasNoLayout}
 use Rattle.bt_layout.specs.declared.outcome.RuledOut.{RuledOut}
 use Rattle.bt_layout.specs.declared.outcome.Smallest.{Smallest}
 use Rattle.bt_layout.specs.declared.outcome.Smallest.TheVariants.{Found, Nowhere, Spent}
-use Rattle.bt_layout.specs.Grids.{AreGridsFrom, ComesBefore, IsSkipped, IsWithin}
-
--- the line names no cell
-abbrev pub NamesNoCell : Demand → Type 0
-NamesNoCell (demand.Pin pin) = ⊥
-NamesNoCell (demand.Side side) = Unit {0}
-NamesNoCell (demand.Row row) = Unit {0}
-
--- a request that names no cells, which so may be asked of any grid: its sides are those of the grid
-pub record NamesNoCells (r : LayoutRequest) : Type 0 where
-  pub demands : All NamesNoCell r.demands
-  pub blocks : r.blocks ≡ []
-
--- the same request on another grid
-abbrev pub request_on : LayoutRequest → Rect → LayoutRequest
-request_on r grid = request_of r.net grid r.tier r.demands r.blocks
+use Rattle.bt_grids.specs.Grids.{AreGridsFrom, ComesBefore, IsSkipped, IsWithin}
 
 -- no parts lay the request on the grid: the log, which has at most so many steps, each but the last needed, refutes the
 -- placement formula
@@ -50,8 +33,8 @@ pub record IsFirstLeft (first : Option Rect) (r : LayoutRequest) (learnt : ℕ) 
   pub ruled_out : All (IsRuledOut r learnt) earlier
 
 -- what is right to say of the grids that a search doesn't pass by: the parts lay the request of the grid, in ascending
--- order of y and then x, no more than a blueprint may have, and all those before it are ruled out; or all of them are; or those before the grid are, of
--- whose request the log has so many steps, and one more is needed
+-- order of y and then x, no more than a blueprint may have, and all those before it are ruled out; or all of them are;
+-- or those before the grid are, of whose request the log has so many steps, and one more is needed
 abbrev pub IsSmallest : Option Rect → LayoutRequest → ℕ → Smallest → Type 0
 IsSmallest first r learnt (Found earlier grid parts) =
     IsFirstLeft first r learnt earlier.items grid × Lays parts.items (request_on r grid) × AllPairs ComesAbove parts.items

@@ -1,8 +1,6 @@
 -- Definitions that private functions alone cite.
 pub mod Bare
 pub mod Ends
-pub mod Ranks
-pub mod Skipping
 pub mod Passing
 pub mod Progressing
 pub mod Likely

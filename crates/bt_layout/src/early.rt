@@ -4,13 +4,13 @@ ghost use Rattle.bt_model.specs.Requests.{LayoutRequest};
 ghost use Rattle.bt_layout.specs.Early.{IsEarly};
 ghost use Rattle.bt_layout.specs.inner.Progressing.{ArePassed, IsProgress, IsSweep};
 
-use crate::lessening::seek_lesser;
 use crate::outcome::Early;
 use crate::progress::{Laid, Progress, first_progress};
-use crate::sweep::{Means, Sweep, after_search, after_sketch, first_sweep};
+use crate::sweep::{Sweep, after_search, after_sketch, first_sweep};
 use crate::whole::after_all;
 use bt_model::Request;
 use bt_parts::Rect;
+use hint_seeking::{Least, Means, seek_lesser};
 use hint_shrinking::Shrunk;
 use hint_streamlining::is_likely;
 use std::alloc::{AllocError, Global};
@@ -30,18 +30,12 @@ const FIRST_STEPS: u64 = 128;
 /// How many rounds there are at most: in the last one a search may take more steps than a log may have.
 const ROUNDS: u32 = 24;
 
-/// How many requests in a row a round passes before it ends.
-const MOST_PASSED: usize = 8;
-
-/// How many it passes where it makes sketches.
-const MOST_SKETCHED: usize = 3;
-
 /// Looks for a layout of one of the requests, with so many steps of all searches together. Each layout that is
 /// found lets it go on to the requests before that one, where an earlier request is the better one.
 ///
 /// First come rounds in which layouts are looked for that are likely. Finding one takes few steps or very many, so a
-/// request of which none is found at once is passed, and one further to the front may be laid before it. At last all steps
-/// that are left serve searches of the requests' placement formulas.
+/// request of which none is found at once is passed, and one further to the front may be laid before it. At last all
+/// steps that are left serve searches of the requests' placement formulas.
 pub fn lay_early(alloc: Global, requests: &[Request], learnt: u64) -> Result<Early, AllocError>
     ensures { IfOk result (IsEarly requests.now learnt) }
 {
@@ -50,8 +44,8 @@ pub fn lay_early(alloc: Global, requests: &[Request], learnt: u64) -> Result<Ear
     Ok(told(progress))
 }
 
-/// With rounds of searches for layouts that are likely: at first by sketches; then of those requests in whose rectangles
-/// a layout is likely, and then of all.
+/// With rounds of searches for layouts that are likely: at first by sketches; then of those requests in whose
+/// rectangles a layout is likely, and then of all.
 fn after_rounds(
     alloc: Global,
     requests: &[Request],
@@ -69,14 +63,6 @@ fn after_rounds(
         sweep = after_round(alloc, requests, learnt, sweep, means)?;
     }
     Ok(sweep.progress)
-}
-
-/// How many requests in a row a round passes before it ends.
-fn most_passed(means: Means) -> usize {
-    match means {
-        Means::Sketch => MOST_SKETCHED,
-        Means::Search(_) => MOST_PASSED,
-    }
 }
 
 /// An index that is at most so great.
@@ -122,6 +108,17 @@ fn after_runs(
     Ok(Sweep { runs, ..sweep })
 }
 
+/// The layout that was found.
+fn least_of(progress: &Progress) -> Option<Least> {
+    match &progress.found {
+        Some(laid) => Some(Least {
+            place: laid.place,
+            parts: &laid.parts,
+        }),
+        None => None,
+    }
+}
+
 /// With the layout that was found made smaller.
 fn after_lesser(
     alloc: Global,
@@ -133,13 +130,8 @@ fn after_lesser(
     requires { IsSweep requests.now learnt sweep }
     ensures { IfOk result (IsSweep requests.now learnt) }
 {
-    match seek_lesser(
-        alloc,
-        requests,
-        sweep.progress.found.as_ref(),
-        RUN_EFFORT,
-        number,
-    )? {
+    let least = least_of(&sweep.progress);
+    match seek_lesser(alloc, requests, least, RUN_EFFORT, number)? {
         Some(shrunk) => after_shrunk(alloc, requests, learnt, sweep, &shrunk),
         None => Ok(sweep),
     }
@@ -166,11 +158,9 @@ fn after_shrunk(
 
 /// The index of the place of a request with this rectangle.
 fn index_with(requests: &[Request], places: &[usize], rect: Rect) -> Option<usize> {
-    for at in 0..places.len() {
-        if let Some(request) = requests.get(places[at]) {
-            if request.rect() == rect {
-                return Some(at);
-            }
+    for (at, place) in places.iter().enumerate() {
+        if requests.get(*place)?.rect() == rect {
+            return Some(at);
         }
     }
     None
@@ -234,7 +224,7 @@ fn after_round(
         ..begun
     };
     let mut at = sweep.places.len();
-    while at > 0 && sweep.progress.steps < learnt && sweep.passed < most_passed(means) {
+    while at > 0 && sweep.progress.steps < learnt && sweep.passed < means.most_passed() {
         at -= 1;
         sweep = after_turn(alloc, requests, learnt, sweep, at, means)?;
         at = within(at, sweep.places.len()).saturating_sub(sweep.skipped);

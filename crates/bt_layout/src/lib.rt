@@ -5,22 +5,16 @@
 mod early;
 mod law;
 mod least;
-mod lessening;
 mod likely;
-mod order;
 mod outcome;
-mod own;
 mod preferring;
 mod printing;
 mod progress;
 mod searching;
-mod seeking;
 mod sketched;
 mod small;
 mod sweep;
 mod tested;
-mod tight;
-mod turning;
 mod whole;
 
 pub use early::lay_early;
@@ -29,7 +23,6 @@ pub use law::{
     unmet_has_no_layout,
 };
 pub use least::smallest;
-pub use order::grids;
 pub use outcome::{Early, Layout, RuledOut, Small, Smallest};
 pub use preferring::{priorities_of, priorities_on};
 pub use printing::{blueprint_of, blueprint_of_small, print_none, print_small, print_smallest};

@@ -7,8 +7,8 @@ use bt_parts::{Part, Rect};
 pub enum Layout {
     /// The parts lay the request. They come in ascending order of y and then x of their cells.
     Found(Vec<Part>),
-    /// No parts lay the request: the log refutes its placement formula, and each of its steps but the last is a hint of a
-    /// later one.
+    /// No parts lay the request: the log refutes its placement formula, and each of its steps but the last is a hint of
+    /// a later one.
     Nowhere(Log),
     /// The log has as many steps as it may, and one more is needed.
     Spent(Log),
@@ -57,6 +57,7 @@ pub enum Early {
 pub enum Small {
     /// The parts show the network on this grid. They come in ascending order of y and then x of their cells.
     Found { grid: Rect, parts: Vec<Part> },
-    /// None was found in so many steps. Where they are fewer than may be taken, on no grid do any parts show the network.
+    /// None was found in so many steps. Where they are fewer than may be taken, on no grid do any parts show the
+    /// network.
     Spent(u64),
 }

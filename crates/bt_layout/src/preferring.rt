@@ -5,10 +5,10 @@ ghost use Rattle.bt_model.specs.Laying.{Lays, LaysPreferring};
 ghost use Rattle.bt_model.specs.Requests.{IsRequest};
 ghost use Rattle.bt_lays.specs.Laid.{LaysBy, naming_of};
 ghost use Rattle.bt_write.specs.ReadBack.{SplittersPrefer};
-ghost use Rattle.bt_layout.specs.Smallest.{NamesNoCells, request_on};
+ghost use Rattle.bt_grids.specs.Asked.{NamesNoCells, request_on};
 ghost use Rattle.bt_layout.specs.inner.Bare.{PrefersNothing};
 
-use crate::least::request_on;
+use bt_grids::request_on;
 use bt_hands::Priority;
 use bt_lays::{Names, any_names, lays, priorities_by};
 use bt_model::Request;
@@ -17,8 +17,8 @@ use bt_parts::{Part, Rect};
 use hint_naming::name_parts;
 use std::alloc::{AllocError, Global};
 
-/// The priorities with which parts that lay a request but for what its splitters prefer lay it with that too: those of the
-/// parts in their order, or none where no splitter prefers anything. There are some for all such parts.
+/// The priorities with which parts that lay a request but for what its splitters prefer lay it with that too: those of
+/// the parts in their order, or none where no splitter prefers anything. There are some for all such parts.
 ///
 /// # Errors
 ///
@@ -39,7 +39,12 @@ pub fn priorities_of(
     priorities_by(alloc, parts, &names, request)
 }
 
-/// The same for parts that lay a request on another grid than its own.
+/// The priorities with which parts that lay a request on another grid than its own, but for what its splitters prefer,
+/// lay it with that too: those of the parts in their order, or none where no splitter prefers anything.
+///
+/// # Errors
+///
+/// Only want of memory.
 pub fn priorities_on(
     alloc: Global,
     request: &Request,
@@ -71,26 +76,18 @@ fn proposed(alloc: Global, request: &Request, parts: &[Part]) -> Result<Option<N
     }
 }
 
-/// The first names of all by which the parts lay the request.
-fn searched(alloc: Global, request: &Request, parts: &[Part]) -> Result<Names, AllocError>
-    requires { Lays parts.now request.now }
-    ensures { IfOk result (λ names. LaysBy parts.now (naming_of names) request.now) }
-{
-    match any_names(alloc, parts, request)? {
-        Some(names) => Ok(names),
-        None => unreachable!(),
-    }
-}
-
-/// Names by which parts that lay a request lay it: those that a hint proposes, where they hold, or else the first of all
-/// that do. No layout is known of which the hint proposes none.
+/// Names by which parts that lay a request lay it: those that a hint proposes, where they hold, or else the first of
+/// all that do. No layout is known of which the hint proposes none.
 fn names_of(alloc: Global, request: &Request, parts: &[Part]) -> Result<Names, AllocError>
     requires { Lays parts.now request.now }
     ensures { IfOk result (λ names. LaysBy parts.now (naming_of names) request.now) }
 {
-    match proposed(alloc, request, parts)? {
+    if let Some(names) = proposed(alloc, request, parts)? {
+        return Ok(names);
+    }
+    match any_names(alloc, parts, request)? {
         Some(names) => Ok(names),
-        None => searched(alloc, request, parts),
+        None => unreachable!(),
     }
 }
 

@@ -28,8 +28,8 @@ pub fn blueprint_of(
     }
 }
 
-/// Writes the text of what a search comes to, which begins with the first grid where one is named, and where this is the
-/// blueprint of the parts that were found.
+/// Writes the text of what a search comes to, which begins with the first grid where one is named, and where this is
+/// the blueprint of the parts that were found.
 ///
 /// Where the sink fails, which its count of faults shows, a proper prefix of the text was written.
 pub fn print_smallest<K: Sink>(

@@ -7,33 +7,31 @@ ghost use Rattle.bt_layout.specs.inner.Ends.{EndsWithin, EndsWith, IsOver, IsSou
 ghost use Rattle.bt_layout.specs.inner.Likely.{IsLaidOut};
 ghost use Rattle.bt_layout.specs.inner.Progressing.{HasLog, IsWhole};
 
-use crate::likely::{Trial, Tried, placing};
+use crate::likely::{Trial, Tried};
 use crate::outcome::Layout;
-use crate::sketched::{look_by_sketch, look_in_windows};
-use crate::tested::{laid_by_proposal, laid_by_stages};
-use crate::tight::is_tight;
-use bt_choosers::{Highest, Plan};
-use bt_cnf::{Chooser, Formula};
+use crate::sketched::{laid_in_windows, look_by_sketch};
+use crate::tested::laid_by;
+use bt_choosers::Highest;
+use bt_cnf::Chooser;
 use bt_log::Log;
 use bt_model::Request;
 use bt_parts::Part;
 use bt_place::{decode, encode_place, has_formula};
 use bt_sat::{Answer, Solver};
 use bt_trim::trimmed;
+use hint_layouts::{propose, propose_stages};
+use hint_seeking::{is_tight, plan_of_whole};
 use std::alloc::{AllocError, Global};
 
-/// Where a placement formula is small, it is searched alone first, with at most so many steps: that shows in milliseconds
-/// of most requests that they have no layout, where to look for one takes a second.
+/// Where a placement formula is small, it is searched alone first, with at most so many steps: that shows in
+/// milliseconds of most requests that they have no layout, where to look for one takes a second.
 const SOON_STEPS: u64 = 500;
 
 /// A formula is small where the cells of the rectangle times the edges and splitters are at most so many.
 const SMALL: u64 = 160;
 
-/// From so many on, the cells of the rectangle times the splitters are many.
-const LARGE: u64 = 216;
-
-/// At most so many steps look for a layout where one is likely, before the whole formula is searched: enough for each window
-/// by turns, and for the whole rectangle; where there is none, the budget is to serve the refutation.
+/// At most so many steps look for a layout where one is likely, before the whole formula is searched: enough for each
+/// window by turns, and for the whole rectangle; where there is none, the budget is to serve the refutation.
 const LIKELY_STEPS: u64 = 65_536;
 
 /// What a search of a placement formula comes to, and how many steps it took.
@@ -43,16 +41,18 @@ pub struct Searched {
     pub steps: u64,
 }
 
-/// Searches for a layout of a request, with a log of at most so many steps. The choosers are told of the steps, and asked
-/// where conflicts propose nothing; the search is right whatever they answer.
+/// Searches for a layout of a request, with a log of at most so many steps. The choosers are told of the steps, and
+/// asked where conflicts propose nothing; the search is right whatever they answer.
 ///
-/// Of a request without a formula it is what hints propose that is tested, and where that lays nothing, there is no answer.
+/// Of a request without a formula it is what hints propose that is tested, and where that lays nothing, there is no
+/// answer.
 ///
-/// Of one that has a formula, at first the formula is searched by few steps, where it is small. Then a network with stages is
-/// laid stage by stage; then a sketch of a layout is made, which may show one; then a layout is searched where one is
-/// likely, by at most 65,536 steps; where none is found, the log of that search is dropped, and the formula is searched from
-/// the start. It has no atoms, so a model of its clauses meets it. Of a log that refutes it the steps that the last one
-/// doesn't need are left out. What splitters prefer isn't asked here: `priorities_of` gives it to what was laid.
+/// Of one that has a formula, at first the formula is searched by few steps, where it is small. Then a network with
+/// stages is laid stage by stage; then a sketch of a layout is made, which may show one; then a layout is searched
+/// where one is likely, by at most 65,536 steps; where none is found, the log of that search is dropped, and the
+/// formula is searched from the start. It has no atoms, so a model of its clauses meets it. Of a log that refutes it
+/// the steps that the last one doesn't need are left out. What splitters prefer isn't asked here: `priorities_of` gives
+/// it to what was laid.
 pub fn layout<C: Chooser>(
     alloc: Global,
     request: &Request,
@@ -76,7 +76,8 @@ fn proposed(alloc: Global, request: &Request, learnt: u64) -> Result<Option<Layo
     ensures { IfOk result (λ answer.
         MatchOption answer (HasFormula request.now → ⊥) (IsLayout request.now learnt)) }
 {
-    match laid_by_proposal(alloc, request, learnt)? {
+    let proposal = propose(alloc, request, learnt)?;
+    match laid_by(alloc, request, proposal)? {
         Some(parts) => Ok(Some(Layout::Found(parts))),
         None => Ok(None),
     }
@@ -147,25 +148,6 @@ pub fn look_alone(alloc: Global, request: &Request, steps: u64) -> Result<Search
     search_whole(alloc, request, steps, choosers)
 }
 
-/// The plan of a search of a whole placement formula: of a large one its conflicts decide, by which eight to eight in 7x7 is
-/// refuted in less than half the steps; of a small one the splitters are placed first, by which four to four in 5x5 takes a
-/// quarter of them.
-fn whole_plan(alloc: Global, formula: &Formula, request: &Request) -> Result<Plan, AllocError> {
-    if is_large(request) {
-        Plan::by_conflicts(alloc, formula.vars())
-    } else {
-        placing(alloc, formula, request)
-    }
-}
-
-/// Whether the cells of the rectangle times the splitters are so many that conflicts decide best. Six splitters in 6x6 are
-/// refuted in the same time by either plan.
-fn is_large(request: &Request) -> bool {
-    let (net, rect) = (request.net(), request.rect());
-    let cells = u64::from(rect.width).saturating_mul(u64::from(rect.height));
-    cells.saturating_mul(u64::from(net.splitters())) >= LARGE
-}
-
 /// Searches the placement formula of a request alone, with a log of at most so many steps.
 pub fn search_whole<C: Chooser>(
     alloc: Global,
@@ -176,7 +158,7 @@ pub fn search_whole<C: Chooser>(
     ensures { IfOk result (IsWhole request.now learnt) }
 {
     let formula = encode_place(alloc, request)?;
-    let plan = whole_plan(alloc, &formula, request)?;
+    let plan = plan_of_whole(alloc, &formula, request)?;
     let mut solver = Solver::by_plan(alloc, formula, choosers, learnt, plan)?;
     let answer = solver.next_model()?;
     searched_of(alloc, request, answer, solver.into_log())
@@ -199,8 +181,8 @@ fn searched_of(
     Ok(Searched { layout, steps })
 }
 
-/// A layout of a request that is laid stage by stage, that a sketch shows, or that is found where one is likely. What has
-/// stages is told at once, and a search finds such layouts in small rectangles alone.
+/// A layout of a request that is laid stage by stage, that a sketch shows, or that is found where one is likely. What
+/// has stages is told at once, and a search finds such layouts in small rectangles alone.
 fn early_layout(
     alloc: Global,
     request: &Request,
@@ -208,7 +190,8 @@ fn early_layout(
 ) -> Result<Option<Vec<Part>>, AllocError>
     ensures { IfOk result (λ found. IfSome found (λ parts. IsLaidOut request.now parts.items)) }
 {
-    match laid_by_stages(alloc, request)? {
+    let proposal = propose_stages(alloc, request)?;
+    match laid_by(alloc, request, proposal)? {
         Some(parts) => Ok(Some(parts)),
         None => sketched_layout(alloc, request, learnt),
     }
@@ -228,21 +211,7 @@ fn sketched_layout(
     let Tried { trial, .. } = look_by_sketch(alloc, request, learnt)?;
     match trial {
         Trial::Found(parts) => Ok(Some(parts)),
-        Trial::Refuted | Trial::Spent => likely_layout(alloc, request, learnt),
-    }
-}
-
-/// A layout of a request that is found where one is likely.
-fn likely_layout(
-    alloc: Global,
-    request: &Request,
-    learnt: u64,
-) -> Result<Option<Vec<Part>>, AllocError>
-    ensures { IfOk result (λ found. IfSome found (λ parts. IsLaidOut request.now parts.items)) }
-{
-    match look_in_windows(alloc, request, learnt)? {
-        Trial::Found(parts) => Ok(Some(parts)),
-        Trial::Refuted | Trial::Spent => Ok(None),
+        Trial::Refuted | Trial::Spent => laid_in_windows(alloc, request, learnt),
     }
 }
 

@@ -1,86 +1,26 @@
-//! Layouts that sketches show: the parts of a sketch lay the request, or the placement formula is searched with these parts
-//! chosen first.
-ghost use Rattle.std.specs.Prelude.{IfOk};
+//! Layouts that sketches show: the parts of a sketch lay the request, or the placement formula is searched with these
+//! parts chosen first.
+ghost use Rattle.std.specs.Prelude.{IfOk, IfSome};
 ghost use Rattle.bt_place.specs.Narrowed.{IsNarrowed};
 ghost use Rattle.bt_place.specs.PlaceFormula.{place_formula};
-ghost use Rattle.bt_layout.specs.inner.Likely.{IsNarrowedSearch, IsTrial, IsTried};
+ghost use Rattle.bt_layout.specs.inner.Likely.{IsLaidOut, IsNarrowedSearch, IsTried};
 
-use crate::likely::{Trial, Tried, planned, push_choices, trial_by};
-use crate::seeking::{seek_by_sketch, seek_where_likely};
-use crate::tested::laid_by_sketch;
-use bt_choosers::{Active, Plan, Turn};
+use crate::likely::{Trial, Tried, planned, solver_of, trial_by};
+use crate::tested::laid_by;
+use bt_choosers::Active;
 use bt_cnf::Formula;
-use bt_facts::{Content, Fact, Shape, cells_of, holds};
 use bt_model::Request;
-use bt_parts::{Kind, Part};
-use bt_place::{Numbers, encode_place};
+use bt_parts::Part;
+use bt_place::encode_place;
 use bt_sat::Solver;
+use hint_layouts::name_sketch;
 use hint_placement::Sketch;
-use hint_streamlining::Choice;
+use hint_seeking::{Search, plan_of_sketch, seek_by_sketch, seek_where_likely};
+use hint_streamlining::Attempt;
 use std::alloc::{AllocError, Global};
 
 /// The most steps of a search with a sketch. One that shows a layout takes none.
-pub const SKETCHED_STEPS: u64 = 64;
-
-/// That a belt or an underground piece stands where a sketch has it.
-fn standing(part: &Part) -> Option<Choice> {
-    let shape = match part.kind {
-        Kind::Belt => Shape::Belt,
-        Kind::Entrance => Shape::Entrance,
-        Kind::Exit => Shape::Exit,
-        Kind::Splitter => return None,
-    };
-    Some(Choice {
-        fact: holds(part.cell, shape, part.dir),
-        holds: true,
-    })
-}
-
-/// That the parts of a sketch stand where it has them.
-fn shown(alloc: Global, sketch: &Sketch) -> Result<Vec<Choice>, AllocError> {
-    let mut choices = Vec::new(alloc);
-    for (splitter, part) in &sketch.splitters {
-        choices.push(Choice {
-            fact: Fact::At(*splitter, part.cell, part.dir),
-            holds: true,
-        })?;
-    }
-    for part in &sketch.others {
-        if let Some(choice) = standing(part) {
-            choices.push(choice)?;
-        }
-    }
-    Ok(choices)
-}
-
-/// That nothing stands on any cell.
-fn nothing(alloc: Global, request: &Request) -> Result<Vec<Choice>, AllocError> {
-    let mut choices = Vec::new(alloc);
-    for cell in &cells_of(alloc, request.rect())? {
-        choices.push(Choice {
-            fact: Fact::Kind(*cell, Content::Empty),
-            holds: true,
-        })?;
-    }
-    Ok(choices)
-}
-
-/// The plan that the parts of a sketch stand where it has them, and nothing on other cells.
-fn plan_of(
-    alloc: Global,
-    formula: &Formula,
-    request: &Request,
-    sketch: &Sketch,
-) -> Result<Plan, AllocError> {
-    let numbers = Numbers::new(alloc, request)?;
-    let mut plan = Plan::new(alloc, 0);
-    let always = Turn::always();
-    let parts = shown(alloc, sketch)?;
-    push_choices(alloc, &mut plan, formula, &numbers, &parts, always, true)?;
-    let rest = nothing(alloc, request)?;
-    push_choices(alloc, &mut plan, formula, &numbers, &rest, always, false)?;
-    Ok(plan)
-}
+const SKETCHED_STEPS: u64 = 64;
 
 /// The placement formula, without more clauses.
 fn bare(alloc: Global, request: &Request) -> Result<Formula, AllocError>
@@ -90,7 +30,7 @@ fn bare(alloc: Global, request: &Request) -> Result<Formula, AllocError>
 }
 
 /// The search with a sketch.
-pub fn solver_with(
+fn solver_with(
     alloc: Global,
     request: &Request,
     sketch: &Sketch,
@@ -99,25 +39,35 @@ pub fn solver_with(
     ensures { IfOk result (λ solver. IsNarrowedSearch request.now steps solver.kernel) }
 {
     let formula = bare(alloc, request)?;
-    let plan = plan_of(alloc, &formula, request, sketch)?;
+    let plan = plan_of_sketch(alloc, &formula, request, sketch)?;
     planned(alloc, formula, plan, steps)
 }
 
-/// What the search with a sketch comes to.
-fn trial_with(
-    alloc: Global,
-    request: &Request,
-    sketch: &Sketch,
-    steps: u64,
-) -> Result<Tried, AllocError>
-    ensures { IfOk result (IsTried request.now steps) }
-{
-    let mut solver = solver_with(alloc, request, sketch, steps)?;
-    trial_by(alloc, request, &mut solver)
+/// The searches of placement formulas that the strategy is handed, which looks for layouts by them.
+struct PlacementSearch;
+
+impl Search for PlacementSearch {
+    fn by_attempt(
+        &self,
+        alloc: Global,
+        request: &Request,
+        attempt: Attempt,
+    ) -> Result<Solver<Active>, AllocError> {
+        solver_of(alloc, request, attempt)
+    }
+
+    fn by_sketch(
+        &self,
+        alloc: Global,
+        request: &Request,
+        sketch: &Sketch,
+    ) -> Result<Solver<Active>, AllocError> {
+        solver_with(alloc, request, sketch, SKETCHED_STEPS)
+    }
 }
 
-/// Looks for the layout that a sketch of the request shows: its parts, or what a search with them finds by at most so many
-/// steps. What is found is a layout; where none is found, nothing is said.
+/// Looks for the layout that a sketch of the request shows: its parts, or what a search with them finds by at most so
+/// many steps. What is found is a layout; where none is found, nothing is said.
 pub fn look_at_sketch(
     alloc: Global,
     request: &Request,
@@ -126,7 +76,8 @@ pub fn look_at_sketch(
 ) -> Result<Tried, AllocError>
     ensures { IfOk result (IsTried request.now steps) }
 {
-    match laid_by_sketch(alloc, request, sketch)? {
+    let proposal = name_sketch(alloc, request, sketch)?;
+    match laid_by(alloc, request, proposal)? {
         Some(parts) => Ok(Tried {
             trial: Trial::Found(parts),
             steps: 0,
@@ -144,11 +95,12 @@ fn search_with(
 ) -> Result<Tried, AllocError>
     ensures { IfOk result (IsTried request.now steps) }
 {
-    trial_with(alloc, request, sketch, steps.min(SKETCHED_STEPS))
+    let mut solver = solver_with(alloc, request, sketch, steps.min(SKETCHED_STEPS))?;
+    trial_by(alloc, request, &mut solver)
 }
 
-/// Looks for a layout that a sketch of the request shows, by at most so many steps. What is found is a layout; where none is
-/// found, nothing is said.
+/// Looks for a layout that a sketch of the request shows, by at most so many steps. What is found is a layout; where
+/// none is found, nothing is said.
 pub fn look_by_sketch(alloc: Global, request: &Request, steps: u64) -> Result<Tried, AllocError>
     ensures { IfOk result (IsTried request.now steps) }
 {
@@ -161,21 +113,32 @@ pub fn look_by_sketch(alloc: Global, request: &Request, steps: u64) -> Result<Tr
     }
 }
 
-/// Whether a sketch lays the request.
-fn laid_by(alloc: Global, request: &Request, sketch: &Sketch) -> Result<Trial, AllocError>
-    ensures { IfOk result (IsTrial request.now) }
+/// The layout that a sketch of the request shows.
+fn shown_by(
+    alloc: Global,
+    request: &Request,
+    sketch: &Sketch,
+) -> Result<Option<Vec<Part>>, AllocError>
+    ensures { IfOk result (λ found. IfSome found (λ parts. IsLaidOut request.now parts.items)) }
 {
     let Tried { trial, .. } = look_at_sketch(alloc, request, sketch, SKETCHED_STEPS)?;
-    Ok(trial)
+    match trial {
+        Trial::Found(parts) => Ok(Some(parts)),
+        Trial::Refuted | Trial::Spent => Ok(None),
+    }
 }
 
-/// Looks for a layout of a request where one is likely, by at most so many steps of all windows together. What is found is
-/// a layout; where none is found, nothing is said.
-pub fn look_in_windows(alloc: Global, request: &Request, steps: u64) -> Result<Trial, AllocError>
-    ensures { IfOk result (IsTrial request.now) }
+/// A layout of a request that is found where one is likely, by at most so many steps of all windows together. Where
+/// none is found, nothing is said.
+pub fn laid_in_windows(
+    alloc: Global,
+    request: &Request,
+    steps: u64,
+) -> Result<Option<Vec<Part>>, AllocError>
+    ensures { IfOk result (λ found. IfSome found (λ parts. IsLaidOut request.now parts.items)) }
 {
-    match seek_where_likely(alloc, request, steps)? {
-        Some(sketch) => laid_by(alloc, request, &sketch),
-        None => Ok(Trial::Spent),
+    match seek_where_likely(alloc, request, steps, &PlacementSearch)? {
+        Some(sketch) => shown_by(alloc, request, &sketch),
+        None => Ok(None),
     }
 }

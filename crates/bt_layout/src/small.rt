@@ -2,20 +2,20 @@
 ghost use Rattle.std.specs.Prelude.{◌≡◌, ◌↔◌, ℕ, IfOk, IfSome, IsTrue, MatchOption, Option, unwrap_or};
 ghost use Rattle.bt_model.specs.Requests.{IsRequest, LayoutRequest};
 ghost use Rattle.bt_layout.specs.Early.{IsEarly};
-ghost use Rattle.bt_layout.specs.Grids.{area_of, IsWithin};
+ghost use Rattle.bt_grids.specs.Grids.{area_of};
 ghost use Rattle.bt_layout.specs.Small.{HasFewer, IsBeyond, IsSmall, MayBeAsked};
-ghost use Rattle.bt_layout.specs.Smallest.{NamesNoCells, request_on};
+ghost use Rattle.bt_grids.specs.Asked.{NamesNoCells, request_on};
 ghost use Rattle.bt_layout.specs.inner.Progressing.{AskEach};
 
 use crate::early::lay_early;
-use crate::least::request_on;
-use crate::order::grids;
 use crate::outcome::{Early, Small};
-use crate::own::{OwnLayout, narrow_own};
-use crate::tested::{laid_by_proposal, laid_by_sketch};
+use crate::tested::laid_by;
+use bt_grids::{area, grids, is_within, request_on};
 use bt_model::{MOST_CELLS, MOST_ENCODED, Request};
 use bt_parts::{Part, Rect};
+use hint_layouts::{name_sketch, propose};
 use hint_placement::Sketch;
+use hint_seeking::{OwnLayout, narrow_own};
 use std::alloc::{AllocError, Global};
 
 /// A network of so many splitters is large: the formulas of grids that hold it have from a million clauses on.
@@ -29,9 +29,9 @@ const MOST_PROPOSED: usize = 20;
 /// all searches together. Where none is found and not all of them were taken, on no such grid do any parts lay the
 /// request. Of grids other than the one that is told nothing is said.
 ///
-/// Where the network, or the number of cells of such grids, is beyond those of which formulas are written, it is what hints
-/// propose that is tested, and there may be no answer. There, and where a network is large, what is tested first are the
-/// own parts of a design that is laid out, made smaller by windows and seams; of other designs there are none.
+/// Where the network, or the number of cells of such grids, is beyond those of which formulas are written, it is what
+/// hints propose that is tested, and there may be no answer. There, and where a network is large, what is tested first
+/// are the own parts of a design that is laid out, made smaller by windows and seams; of other designs there are none.
 ///
 /// The request names no cells.
 pub fn find_small(
@@ -81,10 +81,7 @@ fn small_anew(
 fn most_cells(rect: Rect, cells: Option<u64>) -> u64
     ensures { result ≡ unwrap_or cells (area_of rect) }
 {
-    match cells {
-        Some(cells) => cells,
-        None => u64::from(rect.width) * u64::from(rect.height),
-    }
+    cells.unwrap_or(area(rect))
 }
 
 /// Whether the network or the number of cells is beyond those of which formulas are written.
@@ -130,13 +127,6 @@ fn narrowed_small(
     }
 }
 
-/// Whether a grid has cells, and at most as many each way as the greatest one.
-fn is_within(most: Rect, grid: Rect) -> bool
-    ensures { IsTrue result → IsWithin most grid }
-{
-    1 <= grid.width && grid.width <= most.width && 1 <= grid.height && grid.height <= most.height
-}
-
 /// A layout that was made smaller, where its grid may be asked and it lays the request there.
 fn small_on(
     alloc: Global,
@@ -171,7 +161,8 @@ fn sketched_on(
     ensures { IfOk result (λ answer. IfSome answer (IsSmall request.now cells learnt)) }
 {
     let again = request_on(alloc, request, grid)?;
-    match laid_by_sketch(alloc, &again, sketch)? {
+    let proposal = name_sketch(alloc, &again, sketch)?;
+    match laid_by(alloc, &again, proposal)? {
         Some(parts) => Ok(Some(Small::Found { grid, parts })),
         None => Ok(None),
     }
@@ -215,7 +206,8 @@ fn proposed_on(
     ensures { IfOk result (λ answer. IfSome answer (IsSmall request.now cells learnt)) }
 {
     let again = request_on(alloc, request, grid)?;
-    match laid_by_proposal(alloc, &again, learnt)? {
+    let proposal = propose(alloc, &again, learnt)?;
+    match laid_by(alloc, &again, proposal)? {
         Some(parts) => Ok(Some(Small::Found { grid, parts })),
         None => Ok(None),
     }
@@ -246,7 +238,7 @@ fn has_fewer(cells: Option<u64>, grid: Rect) -> bool
     ensures { IsTrue result ↔ HasFewer cells grid }
 {
     match cells {
-        Some(cells) => u64::from(grid.width) * u64::from(grid.height) < cells,
+        Some(cells) => area(grid) < cells,
         None => true,
     }
 }

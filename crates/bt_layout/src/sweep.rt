@@ -5,23 +5,14 @@ ghost use Rattle.bt_layout.specs.Early.{IsLaid};
 ghost use Rattle.bt_layout.specs.inner.Likely.{IsTried};
 ghost use Rattle.bt_layout.specs.inner.Progressing.{ArePaid, IsProgress, IsSearched, IsSweep, at_index};
 
-use crate::likely::{Trial, Tried, look_in};
+use crate::likely::{Trial, Tried, look_where_likely};
 use crate::progress::{Laid, Progress, lesser, with_layout, with_steps};
 use crate::sketched::{look_at_sketch, look_by_sketch};
 use bt_model::Request;
 use bt_parts::Part;
 use hint_placement::Sketch;
-use hint_streamlining::{Attempt, whole};
+use hint_seeking::Means;
 use std::alloc::{AllocError, Global};
-
-/// How a layout of a request is looked for.
-#[derive(Clone, Copy)]
-pub enum Means {
-    /// By a sketch of one.
-    Sketch,
-    /// By a search where one is likely, with at most so many steps.
-    Search(u64),
-}
 
 /// The requests that searches for likely layouts may still lay, and what was found so far.
 #[derive(Drop)]
@@ -62,17 +53,6 @@ fn look_by(alloc: Global, request: &Request, means: Means, left: u64) -> Result<
         Means::Sketch => look_by_sketch(alloc, request, left),
         Means::Search(steps) => look_where_likely(alloc, request, steps.min(left)),
     }
-}
-
-/// Looks for a layout of a request where one is likely in its rectangle, with at most so many steps.
-fn look_where_likely(alloc: Global, request: &Request, steps: u64) -> Result<Tried, AllocError>
-    ensures { IfOk result (IsTried request.now steps) }
-{
-    let attempt = Attempt {
-        steps,
-        ..whole(alloc, request, steps)?
-    };
-    look_in(alloc, request, attempt)
 }
 
 /// Looks by some means for a layout of the request whose place is at this index, with steps of those that are left of
@@ -190,19 +170,11 @@ fn after_giving_up(sweep: Sweep, steps: u64) -> Sweep
         → ArePaid learnt sweep.progress.steps steps → IsSweep requests learnt result }
     ensures places { result.places ≡ sweep.places }
 {
-    let Sweep {
-        progress,
-        places,
-        passed,
-        runs,
-        ..
-    } = sweep;
     Sweep {
-        progress: with_steps(progress, steps),
-        places,
+        progress: with_steps(sweep.progress, steps),
         skipped: 0,
-        passed: passed.saturating_add(1),
-        runs,
+        passed: sweep.passed.saturating_add(1),
+        ..sweep
     }
 }
 

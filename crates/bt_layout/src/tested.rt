@@ -8,8 +8,7 @@ use bt_entities::MOST_ENTITIES;
 use bt_lays::{Names, lays};
 use bt_model::Request;
 use bt_parts::{Cell, Part};
-use hint_layouts::{Proposal, name_sketch, propose, propose_stages};
-use hint_placement::Sketch;
+use hint_layouts::Proposal;
 use std::alloc::{AllocError, Global};
 
 /// Whether the one part comes before the other: by y and then by x of their cells.
@@ -73,42 +72,16 @@ fn taken(
     }
 }
 
-/// The parts of a sketch of a request, where they lay it.
-pub fn laid_by_sketch(
+/// The parts that are proposed, if any are, where they lay the request. It needs no formula.
+pub fn laid_by(
     alloc: Global,
     request: &Request,
-    sketch: &Sketch,
+    proposal: Option<Proposal>,
 ) -> Result<Option<Vec<Part>>, AllocError>
     ensures { IfOk result (λ found. IfSome found (λ parts.
         IsLaidOut request.now parts.items × (length parts.items ≤ MOST_ENTITIES))) }
 {
-    match name_sketch(alloc, request, sketch)? {
-        Some(proposal) => taken(alloc, request, proposal),
-        None => Ok(None),
-    }
-}
-
-/// The parts that hints propose stage by stage, where they lay the request.
-pub fn laid_by_stages(alloc: Global, request: &Request) -> Result<Option<Vec<Part>>, AllocError>
-    ensures { IfOk result (λ found. IfSome found (λ parts.
-        IsLaidOut request.now parts.items × (length parts.items ≤ MOST_ENTITIES))) }
-{
-    match propose_stages(alloc, request)? {
-        Some(proposal) => taken(alloc, request, proposal),
-        None => Ok(None),
-    }
-}
-
-/// The parts that hints propose with so many steps at most, where they lay the request. It needs no formula.
-pub fn laid_by_proposal(
-    alloc: Global,
-    request: &Request,
-    steps: u64,
-) -> Result<Option<Vec<Part>>, AllocError>
-    ensures { IfOk result (λ found. IfSome found (λ parts.
-        IsLaidOut request.now parts.items × (length parts.items ≤ MOST_ENTITIES))) }
-{
-    match propose(alloc, request, steps)? {
+    match proposal {
         Some(proposal) => taken(alloc, request, proposal),
         None => Ok(None),
     }

@@ -10,7 +10,7 @@ use Rattle.std.specs.List.{All as Each}
 use Rattle.std.proofs.lemmas.List.Elements.{All-nil}
 use Rattle.bt_net.specs.declared.network.Admitted.TheVariants.{Sides}
 use Rattle.bt_model.specs.Requests.{LayoutRequest, IsGrid, IsRequest}
-use Rattle.bt_layout.specs.Smallest.{NamesNoCell, NamesNoCells}
+use Rattle.bt_grids.specs.Asked.{NamesNoCell, NamesNoCells}
 use Rattle.bt_words.specs.declared.command.AskedSides.{AskedSides}
 use Rattle.bt_words.specs.declared.command.AskedSides.TheVariants.{Any, Kept}
 use Rattle.bt_designs.specs.Alone.{IsAlone}

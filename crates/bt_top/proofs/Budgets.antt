@@ -34,8 +34,9 @@ use Rattle.bt_layout.specs.declared.outcome.Layout.TheVariants as layout
 use Rattle.bt_layout.specs.Layouts.{IsLayout}
 use Rattle.bt_layout.specs.declared.outcome.Smallest.{Smallest as ASmallest}
 use Rattle.bt_layout.specs.declared.outcome.Smallest.TheVariants as smallest
-use Rattle.bt_layout.specs.Grids.{IsSkipped, IsWithin}
-use Rattle.bt_layout.specs.Smallest.{IsSmallest, request_on}
+use Rattle.bt_grids.specs.Grids.{IsSkipped, IsWithin}
+use Rattle.bt_grids.specs.Asked.{request_on}
+use Rattle.bt_layout.specs.Smallest.{IsSmallest}
 use Rattle.bt_layout.proofs.Passed.{left_taken, left_within}
 use Rattle.bt_model.specs.Requests.{LayoutRequest}
 use Rattle.bt_place.specs.PlaceFormula.{place_formula}

@@ -19,8 +19,8 @@ use Rattle.bt_demands.proofs.Fitting.{distinct_made, enough_for, from_enough, no
 use Rattle.bt_rules.proofs.kept.Geometry.{across, border_inside, inside_true}
 use Rattle.bt_place.specs.PlaceFormula.{HasFormula}
 use Rattle.bt_place.proofs.Cells.{cell_of}
-use Rattle.bt_layout.specs.Grids.{IsWithin}
-use Rattle.bt_layout.specs.Smallest.{request_on}
+use Rattle.bt_grids.specs.Grids.{IsWithin}
+use Rattle.bt_grids.specs.Asked.{request_on}
 
 -- a place on a line, on one at least as long: the last is the last there, too
 abbrev stretched : ℕ → ℕ → ℕ → ℕ

@@ -7,7 +7,7 @@ use Rattle.bt_net.specs.declared.network.Demand.{Demand}
 use Rattle.bt_net.specs.declared.network.End.{End}
 use Rattle.bt_net.specs.declared.network.End.TheVariants.{Input, Output}
 use Rattle.bt_recover.specs.Sides.{IsStayOf, AreStaysOf}
-use Rattle.bt_layout.specs.Smallest.{NamesNoCell}
+use Rattle.bt_grids.specs.Asked.{NamesNoCell}
 use Rattle.bt_designs.specs.Kept.{AreOwnSides}
 
 -- no line of them names a cell

@@ -15,8 +15,9 @@ use Rattle.bt_place.specs.PlaceFormula.{HasFormula}
 use Rattle.bt_layout.specs.declared.outcome.RuledOut.{RuledOut}
 use Rattle.bt_layout.specs.declared.outcome.Smallest.{Smallest}
 use Rattle.bt_layout.specs.declared.outcome.Smallest.TheVariants.{Found, Nowhere, Spent}
-use Rattle.bt_layout.specs.Grids.{IsWithin}
-use Rattle.bt_layout.specs.Smallest.{IsRuledOut, IsSmallest, NamesNoCells, grids_of, request_on}
+use Rattle.bt_grids.specs.Grids.{IsWithin}
+use Rattle.bt_grids.specs.Asked.{NamesNoCells, request_on}
+use Rattle.bt_layout.specs.Smallest.{IsRuledOut, IsSmallest, grids_of}
 use Rattle.bt_layout.specs.SmallestText.{nowhere_text, earlier_text, from_line, grid_line, spent_on_text}
 use Rattle.bt_layout.proofs.Passing.{asked_on}
 use Rattle.bt_write.specs.Written.{blueprint_text}

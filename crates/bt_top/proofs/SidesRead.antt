@@ -9,7 +9,7 @@ use Rattle.bt_net.specs.declared.network.Demand.TheVariants as demand
 use Rattle.bt_net.specs.Network.{Network, network_of}
 use Rattle.bt_net.specs.PinText.{AreLinesFrom, Admits, IsDemandHere, IsBlockHere}
 use Rattle.bt_net.specs.Readings.{Reading, IsNetRead}
-use Rattle.bt_layout.specs.Smallest.{NamesNoCell}
+use Rattle.bt_grids.specs.Asked.{NamesNoCell}
 
 -- where sides alone may stand, no cells are named
 no_cell : (d : Demand) → Admits Sides d → NamesNoCell d

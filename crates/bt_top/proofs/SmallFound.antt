@@ -13,7 +13,7 @@ use Rattle.bt_layout.proofs.Passing.{asked_on}
 use Rattle.bt_layout.proofs.Written.{laid_is_read_back}
 use Rattle.bt_layout.specs.declared.outcome.Small.TheVariants.{Found}
 use Rattle.bt_layout.specs.Small.{IsSmall}
-use Rattle.bt_layout.specs.Smallest.{NamesNoCells, request_on}
+use Rattle.bt_grids.specs.Asked.{NamesNoCells, request_on}
 
 module _ (cells : Option ℕ) (learnt : ℕ) (r : LayoutRequest) (grid : Rect) (parts : Vec Part) (is : IsRequest r) (none : NamesNoCells r)
     (h : IsSmall r cells learnt (Found grid parts)) where

@@ -12,7 +12,7 @@ use Rattle.bt_parts.specs.declared.part.Rect.{Rect}
 use Rattle.bt_parts.specs.declared.part.Dir.{Dir}
 use Rattle.bt_parts.specs.declared.part.Dir.TheVariants.{North, East, South, West}
 use Rattle.bt_parts.specs.Cells.{Covers, IsGreaterHalf, IsInRange, IsInside, beside}
-use Rattle.bt_layout.specs.Grids.{area_of}
+use Rattle.bt_grids.specs.Grids.{area_of}
 use Rattle.bt_top.specs.Finding.{Holds, IsSpanned}
 use Rattle.bt_top.specs.declared.smallest_found.Span.{Span}
 use Rattle.bt_top.specs.inner.Spans.{Encloses, IsBetween, IsNear, IsSpanOf}

@@ -15,8 +15,8 @@ use Rattle.bt_theory.specs.Reaching.{atom_rows, columns_of}
 use Rattle.bt_model.specs.Requests.{LayoutRequest}
 use Rattle.bt_place.specs.PlaceFormula.{place_formula}
 use Rattle.bt_parts.specs.declared.part.Rect.{Rect}
-use Rattle.bt_layout.specs.Grids.{IsSkipped, IsWithin}
-use Rattle.bt_layout.specs.Smallest.{request_on}
+use Rattle.bt_grids.specs.Grids.{IsSkipped, IsWithin}
+use Rattle.bt_grids.specs.Asked.{request_on}
 use Rattle.bt_words.specs.declared.command.Command.{Command}
 use Rattle.bt_words.specs.declared.command.Command.TheVariants.{Decide, Make, Layout, Smallest, Same}
 use Rattle.bt_words.specs.declared.command.NetworkFamily.TheVariants.{Butterfly, Chain}

@@ -15,9 +15,9 @@ use Rattle.bt_model.specs.Requests.{LayoutRequest}
 use Rattle.bt_write.specs.ReadBack.{IsReadBack}
 use Rattle.bt_layout.specs.declared.outcome.Small.{Small}
 use Rattle.bt_layout.specs.declared.outcome.Small.TheVariants.{Found, Spent}
-use Rattle.bt_layout.specs.Grids.{area_of}
+use Rattle.bt_grids.specs.Grids.{area_of}
 use Rattle.bt_layout.specs.Small.{IsBeyond, IsSmall}
-use Rattle.bt_layout.specs.Smallest.{request_on}
+use Rattle.bt_grids.specs.Asked.{request_on}
 use Rattle.bt_model.specs.declared.request.TheConstants.{MOST_ACROSS}
 use Rattle.bt_words.specs.Commands.{usual_grid}
 use Rattle.bt_words.specs.declared.command.AskedSides.{AskedSides}

@@ -5,7 +5,7 @@ ghost use Rattle.bt_parts.specs.Cells.{IsInRange};
 ghost use Rattle.bt_parts.specs.Layouts.{AreInRange};
 ghost use Rattle.bt_parts.specs.declared.part.Part.{Part as APart};
 ghost use Rattle.bt_model.specs.Requests.{IsGrid, IsRequest};
-ghost use Rattle.bt_layout.specs.Smallest.{NamesNoCells};
+ghost use Rattle.bt_grids.specs.Asked.{NamesNoCells};
 ghost use Rattle.bt_layout.specs.Small.{IsSmall};
 ghost use Rattle.bt_top.specs.Finding.{IsDesignRequest, IsDrawnRequest, IsFound, IsFoundAgain, IsFoundFrom, IsOwn, IsPreferred, IsSmallFound, IsSmallTold, IsSpanned};
 ghost use Rattle.bt_top.specs.inner.Spans.{Encloses, IsNear, IsSpanOf};

@@ -11,7 +11,7 @@ use Rattle.bt_layout.specs.declared.searching.Searched.{Searched}
 use Rattle.bt_layout.specs.declared.sweep.Sweep.{Sweep}
 use Rattle.bt_layout.specs.Early.{AreRefuted, IsLaid}
 use Rattle.bt_layout.specs.Small.{HasFewer, MayBeAsked}
-use Rattle.bt_layout.specs.Smallest.{request_on}
+use Rattle.bt_grids.specs.Asked.{request_on}
 use Rattle.bt_layout.specs.inner.Ends.{IsSought}
 use Rattle.bt_layout.specs.inner.Likely.{IsTried}
 

@@ -1,8 +1,8 @@
 use Rattle.std.proofs.Common.{◌+◌, ◌<◌, length, sym, subst, arith}
 use Rattle.std.proofs.lemmas.List.Elements.{All-get_or}
 use Rattle.bt_layout.specs.inner.Ends.{IsSought}
-use Rattle.bt_layout.specs.Grids.{AreGridsFrom, IsWithin}
-use Rattle.bt_layout.specs.Smallest.{request_on}
+use Rattle.bt_grids.specs.Grids.{AreGridsFrom, IsWithin}
+use Rattle.bt_grids.specs.Asked.{request_on}
 use Rattle.bt_layout.specs.inner.Passing.{ArePassed}
 use Rattle.bt_layout.proofs.Passing.{first_left, one_passed}
 use Rattle.bt_layout.proofs.Written.{found_few}

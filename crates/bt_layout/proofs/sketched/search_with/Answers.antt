@@ -5,5 +5,5 @@ use Rattle.bt_layout.proofs.sketched.search_with.Goals as goal
 
 pub returns : goal.returns
 returns c =
-    IfOk-weaker c.trial_with.result (IsTried c.args.request.now c.min.result) (IsTried c.args.request.now c.args.steps)
-    (λ tried is. let few = is.1 in (is.0, omega (arith, c.min.ensures, few))) c.trial_with.ensures
+    IfOk-weaker c.trial_by.result (IsTried c.args.request.now c.min.result) (IsTried c.args.request.now c.args.steps)
+    (λ tried is. let few = is.1 in (is.0, omega (arith, c.min.ensures, few))) (c.trial_by.ensures c.min.result c.in_ok-solver.ensures)

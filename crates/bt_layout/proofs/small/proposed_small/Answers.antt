@@ -1,6 +1,6 @@
 use Rattle.std.proofs.Common.{◌<◌, length, sym, subst, arith}
 use Rattle.std.proofs.lemmas.List.Elements.{All-get_or}
-use Rattle.bt_layout.specs.Grids.{AreGrids, IsWithin}
+use Rattle.bt_grids.specs.Grids.{AreGrids, IsWithin}
 use Rattle.bt_layout.proofs.small.proposed_small.Goals as goal
 
 pub proposed_on-requires-clause-may : goal.proposed_on-requires-clause-may

@@ -1,7 +1,7 @@
 use Rattle.std.proofs.Common.{◌≡◌, ◌+◌, ◌<◌, true, false, ◌∷◌, ◌++◌, [], length, sym, subst, ap, ◌∙◌, arith, take}
 use Rattle.std.proofs.lemmas.List.{take_all, take_more}
 use Rattle.std.proofs.lemmas.List.Elements.{All-get_or}
-use Rattle.bt_layout.specs.Grids.{AreGrids, IsWithin}
+use Rattle.bt_grids.specs.Grids.{AreGrids, IsWithin}
 use Rattle.bt_layout.specs.inner.Progressing.{AskSmall}
 use Rattle.bt_layout.proofs.Smaller.{ask_each, ask_more, ask_none, ask_same}
 use Rattle.bt_layout.proofs.small.small_requests.Goals.{then-has_fewer+in_ok-request_on+in_ok-push, else-has_fewer}

@@ -2,7 +2,7 @@ use Rattle.std.proofs.Common.{◌≤◌, refl, sym, subst, alloc_error}
 use Rattle.bt_designs.specs.declared.fault.DesignFault.TheVariants.{Memory}
 use Rattle.bt_parts.specs.declared.part.Rect.{Rect}
 use Rattle.bt_model.specs.declared.request.TheConstants.{MOST_CELLS}
-use Rattle.bt_layout.specs.Grids.{area_of}
+use Rattle.bt_grids.specs.Grids.{area_of}
 use Rattle.bt_top.specs.Replies.{UnlessLarge, design_told}
 use Rattle.bt_designs.specs.Requested.{IsSidedRequest}
 use Rattle.bt_top.specs.Searching.{IsSearched}

@@ -3,7 +3,7 @@ use Rattle.std.specs.Prelude.{IfOk}
 use Rattle.bt_model.specs.Laying.{LaysPreferring}
 use Rattle.bt_write.specs.ReadBack.{SplittersPrefer}
 use Rattle.bt_layout.specs.Small.{IsSmall}
-use Rattle.bt_layout.specs.Smallest.{request_on}
+use Rattle.bt_grids.specs.Asked.{request_on}
 use Rattle.bt_top.specs.Finding.{IsFoundAgain, IsPreferred}
 use Rattle.bt_top.proofs.SmallFound.{found_told}
 use Rattle.bt_top.proofs.smallest_found.priorities_in.Goals as goal

@@ -1,0 +1,3 @@
+pub mod Grids
+pub mod Asked
+pub mod inner

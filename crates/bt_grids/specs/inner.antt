@@ -1,0 +1,3 @@
+-- Definitions that private functions alone cite.
+pub mod Ranks
+pub mod Skipping
