@@ -1,5 +1,5 @@
-//! A design's own parts, made smaller by windows and seams, or its network laid anew stage by stage. Nothing is claimed of what
-//! is found.
+//! A design's own parts, made smaller by windows and seams, or its network laid anew stage by stage. Nothing is claimed of
+//! what is found.
 use bt_model::Request;
 use bt_parts::{Part, Rect};
 use hint_boards::{Own, Plan, own_of};
@@ -26,7 +26,7 @@ fn cells_in(rect: Rect) -> u64 {
 }
 
 /// The network of a request, laid stage by stage in the least rectangle.
-fn anew(alloc: Global, request: &Request) -> Result<Option<Own>, AllocError> {
+fn laid_anew(alloc: Global, request: &Request) -> Result<Option<Own>, AllocError> {
     let tier = request.tier();
     match find_least(alloc, request)? {
         Some(LeastPlan { rect, sketch }) => {
@@ -38,39 +38,51 @@ fn anew(alloc: Global, request: &Request) -> Result<Option<Own>, AllocError> {
     }
 }
 
-/// The one of two layouts that has fewer cells.
-fn lesser(one: Narrowed, other: Narrowed) -> Narrowed {
-    if cells_in(other.rect) < cells_in(one.rect) {
-        other
-    } else {
-        one
-    }
+/// Whether a rectangle that lies in the greatest one is to be taken in place of another, which has more cells or doesn't
+/// lie there.
+fn is_better(rect: Rect, other: Rect, most: Rect) -> bool {
+    other.width > most.width || other.height > most.height || cells_in(rect) < cells_in(other)
 }
 
-/// A layout as small as it gets; where it is laid anew in fewer cells, each of the two gets half the effort.
+/// A layout as small as it gets; where the one that is laid anew is the better one, each of the two gets half of the
+/// effort.
 fn narrowed(
     alloc: Global,
     most: Rect,
-    own: Option<Own>,
-    anew: Option<Own>,
+    own: Option<&Own>,
+    anew: Option<&Own>,
     effort: u64,
 ) -> Result<Option<Narrowed>, AllocError> {
     match (own, anew) {
-        (Some(own), Some(anew)) if cells_in(anew.rect) < cells_in(own.rect) => {
-            let first = narrow(alloc, &own, most, effort / 2, 0)?;
-            let second = narrow(alloc, &anew, most, effort / 2, 0)?;
-            Ok(Some(lesser(first, second)))
+        (Some(own), Some(anew)) if is_better(anew.rect, own.rect, most) => {
+            narrowed_both(alloc, most, own, anew, effort / 2)
         }
-        (Some(layout), _) | (None, Some(layout)) => {
-            let layout = narrow(alloc, &layout, most, effort, 0)?;
-            Ok(Some(layout))
-        }
-        (None, None) => Ok(None),
+        _ => match own.or(anew) {
+            Some(layout) => Ok(Some(narrow(alloc, layout, most, effort, 0)?)),
+            None => Ok(None),
+        },
     }
 }
 
-/// A design's own parts, which show the network of the request with its numbers, made smaller for about as long as so many
-/// conflicts take; or the network laid anew, where it has stages and that takes fewer cells. There may be no parts.
+/// The better one of two layouts as small as they get.
+fn narrowed_both(
+    alloc: Global,
+    most: Rect,
+    own: &Own,
+    anew: &Own,
+    effort: u64,
+) -> Result<Option<Narrowed>, AllocError> {
+    let first = narrow(alloc, own, most, effort, 0)?;
+    let second = narrow(alloc, anew, most, effort, 0)?;
+    if is_better(second.rect, first.rect, most) {
+        Ok(Some(second))
+    } else {
+        Ok(Some(first))
+    }
+}
+
+/// A design's own parts, which show the network of the request with its numbers, made smaller for about as long as so
+/// many conflicts take; or the network laid anew, where it has stages and that takes fewer cells. There may be no parts.
 pub fn narrow_own(
     alloc: Global,
     request: &Request,
@@ -78,8 +90,9 @@ pub fn narrow_own(
     effort: u64,
 ) -> Result<Option<OwnLayout>, AllocError> {
     let own = own_of(alloc, parts, request.tier(), MOST_CELLS)?;
-    let anew = anew(alloc, request)?;
-    match narrowed(alloc, request.rect(), own, anew, effort)? {
+    let anew = laid_anew(alloc, request)?;
+    let most = request.rect();
+    match narrowed(alloc, most, own.as_ref(), anew.as_ref(), effort)? {
         Some(Narrowed { rect, plan }) => {
             let Plan { splitters, others } = plan;
             Ok(Some(OwnLayout {
