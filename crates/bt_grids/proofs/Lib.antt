@@ -1,3 +1,4 @@
 mod Ranks
 mod Skipping
 mod Copied
+mod Spanning

@@ -1,3 +1,5 @@
 pub mod Grids
 pub mod Asked
+pub mod Spanned
+pub mod SmallestText
 pub mod inner

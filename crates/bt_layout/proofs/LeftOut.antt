@@ -12,8 +12,8 @@ use Rattle.bt_place.specs.PlaceFormula.{place_formula}
 use Rattle.bt_trim.proofs.Left.{is_short}
 use Rattle.bt_theory.proofs.Trimmed.{trimmed_refutation}
 use Rattle.bt_layout.specs.inner.Ends.{EndsWith, IsOver, IsSought, IsTrimmedTo}
-use Rattle.bt_layout.specs.declared.outcome.Layout.{Layout}
-use Rattle.bt_layout.specs.declared.outcome.Layout.TheVariants as layout
+use Rattle.bt_grids.specs.declared.outcome.Layout.{Layout}
+use Rattle.bt_grids.specs.declared.outcome.Layout.TheVariants as layout
 use Rattle.bt_layout.specs.inner.Progressing.{HasLog}
 
 -- the log of a search is over the clauses of its formula

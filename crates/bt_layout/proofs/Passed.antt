@@ -7,8 +7,8 @@ use Rattle.bt_parts.specs.declared.part.Rect.{Rect}
 use Rattle.bt_model.proofs.Sorted.{contains_cases, contains_none, pairs_head, pairs_tail}
 use Rattle.bt_model.specs.Requests.{LayoutRequest}
 use Rattle.bt_layout.specs.Layouts.{HasNoLayout}
-use Rattle.bt_layout.specs.declared.outcome.RuledOut.{RuledOut}
-use Rattle.bt_layout.specs.declared.outcome.Smallest.TheVariants.{Found, Nowhere, Spent}
+use Rattle.bt_grids.specs.declared.outcome.RuledOut.{RuledOut}
+use Rattle.bt_grids.specs.declared.outcome.Smallest.TheVariants.{Found, Nowhere, Spent}
 use Rattle.bt_grids.specs.Grids.{AreGridsFrom, ComesBefore, IsSkipped, IsWithin}
 use Rattle.bt_grids.specs.Asked.{request_on}
 use Rattle.bt_layout.specs.Smallest.{IsFirstLeft, IsRuledOut, PassedHasNoLayout, grids_of}

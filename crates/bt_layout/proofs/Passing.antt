@@ -13,8 +13,8 @@ use Rattle.bt_net.specs.Network.{Network}
 use Rattle.bt_log.specs.declared.log.Log.{Log}
 use Rattle.bt_model.specs.Requests.{LayoutRequest, IsRequest, IsPinnedInside, blocked}
 use Rattle.bt_layout.specs.inner.Ends.{IsSought}
-use Rattle.bt_layout.specs.declared.outcome.Layout.TheVariants as layout
-use Rattle.bt_layout.specs.declared.outcome.RuledOut.{RuledOut}
+use Rattle.bt_grids.specs.declared.outcome.Layout.TheVariants as layout
+use Rattle.bt_grids.specs.declared.outcome.RuledOut.{RuledOut}
 use Rattle.bt_grids.specs.Grids.{AreGridsFrom, IsWithin}
 use Rattle.bt_grids.specs.Asked.{NamesNoCell, NamesNoCells, request_on}
 use Rattle.bt_layout.specs.Smallest.{IsFirstLeft, IsRuledOut, grids_of}

@@ -11,8 +11,8 @@ use Rattle.bt_parts.specs.declared.part.Part.{Part}
 use Rattle.bt_parts.specs.declared.part.Rect.{Rect}
 use Rattle.bt_model.specs.Laying.{Lays}
 use Rattle.bt_model.specs.Requests.{LayoutRequest}
-use Rattle.bt_layout.specs.declared.outcome.Small.TheVariants.{Found, Spent}
-use Rattle.bt_layout.specs.declared.outcome.Early.TheVariants as early
+use Rattle.bt_grids.specs.declared.outcome.Small.TheVariants.{Found, Spent}
+use Rattle.bt_grids.specs.declared.outcome.Early.TheVariants as early
 use Rattle.bt_layout.specs.Early.{AreRefuted, IsEarly, IsLaid}
 use Rattle.bt_grids.specs.Grids.{AreGrids, ComesBefore, area_of}
 use Rattle.bt_layout.specs.Small.{HasFewer, IsBeyond, IsSmall, MayBeAsked}

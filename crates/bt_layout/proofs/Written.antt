@@ -31,8 +31,8 @@ use Rattle.bt_grids.specs.Grids.{area_of, IsWithin}
 use Rattle.bt_layout.specs.Layouts.{IsLayout}
 use Rattle.bt_layout.specs.Laws.{LaidIsReadBack}
 use Rattle.bt_grids.specs.Asked.{request_on}
-use Rattle.bt_layout.specs.declared.outcome.Layout.{Layout}
-use Rattle.bt_layout.specs.declared.outcome.Layout.TheVariants.{Found, Nowhere, Spent}
+use Rattle.bt_grids.specs.declared.outcome.Layout.{Layout}
+use Rattle.bt_grids.specs.declared.outcome.Layout.TheVariants.{Found, Nowhere, Spent}
 use Rattle.bt_layout.specs.inner.Ends.{IsSought}
 use Rattle.bt_layout.proofs.Few.{few_apart}
 

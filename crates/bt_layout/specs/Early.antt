@@ -10,8 +10,8 @@ use Rattle.bt_place.specs.PlaceFormula.{place_formula}
 use Rattle.bt_place.specs.Solutions.{ComesAbove}
 use Rattle.bt_theory.specs.Outcomes.{IsRefutation}
 use Rattle.bt_layout.specs.Layouts.{HasNoLayout}
-use Rattle.bt_layout.specs.declared.outcome.Early.{Early}
-use Rattle.bt_layout.specs.declared.outcome.Early.TheVariants.{Laid, Spent}
+use Rattle.bt_grids.specs.declared.outcome.Early.{Early}
+use Rattle.bt_grids.specs.declared.outcome.Early.TheVariants.{Laid, Spent}
 
 -- the parts lay the request at this place of the list, and come in ascending order of y and then x
 pub record IsLaid (requests : List LayoutRequest) (place : ℕ) (parts : Vec Part Global) : Type 0 where

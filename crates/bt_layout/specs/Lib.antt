@@ -1,7 +1,6 @@
 pub mod Layouts
 pub mod Laws
 pub mod Smallest
-pub mod SmallestText
 pub mod Early
 pub mod Small
 pub mod inner

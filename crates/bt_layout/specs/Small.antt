@@ -6,8 +6,8 @@ use Rattle.bt_entities.specs.declared.blueprint.TheConstants.{MOST_ENTITIES}
 use Rattle.bt_model.specs.Requests.{LayoutRequest}
 use Rattle.bt_model.specs.declared.request.TheConstants.{MOST_CELLS, MOST_ENCODED}
 use Rattle.bt_place.specs.Solutions.{ComesAbove}
-use Rattle.bt_layout.specs.declared.outcome.Small.{Small}
-use Rattle.bt_layout.specs.declared.outcome.Small.TheVariants.{Found, Spent}
+use Rattle.bt_grids.specs.declared.outcome.Small.{Small}
+use Rattle.bt_grids.specs.declared.outcome.Small.TheVariants.{Found, Spent}
 use Rattle.bt_layout.specs.Early.{AreRefuted}
 use Rattle.bt_grids.specs.Grids.{area_of, IsWithin}
 use Rattle.bt_grids.specs.Asked.{request_on}

@@ -9,9 +9,9 @@ use Rattle.bt_place.specs.Solutions.{ComesAbove}
 use Rattle.bt_theory.specs.Outcomes.{IsRefutation, IsUsedUp}
 use Rattle.bt_trim.specs.Trimming.{IsTightOver}
 use Rattle.bt_layout.specs.Layouts.{HasNoLayout}
-use Rattle.bt_layout.specs.declared.outcome.RuledOut.{RuledOut}
-use Rattle.bt_layout.specs.declared.outcome.Smallest.{Smallest}
-use Rattle.bt_layout.specs.declared.outcome.Smallest.TheVariants.{Found, Nowhere, Spent}
+use Rattle.bt_grids.specs.declared.outcome.RuledOut.{RuledOut}
+use Rattle.bt_grids.specs.declared.outcome.Smallest.{Smallest}
+use Rattle.bt_grids.specs.declared.outcome.Smallest.TheVariants.{Found, Nowhere, Spent}
 use Rattle.bt_grids.specs.Grids.{AreGridsFrom, ComesBefore, IsSkipped, IsWithin}
 
 -- no parts lay the request on the grid: the log, which has at most so many steps, each but the last needed, refutes the

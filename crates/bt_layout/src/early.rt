@@ -4,10 +4,10 @@ ghost use Rattle.bt_model.specs.Requests.{LayoutRequest};
 ghost use Rattle.bt_layout.specs.Early.{IsEarly};
 ghost use Rattle.bt_layout.specs.inner.Progressing.{ArePassed, IsProgress, IsSweep};
 
-use crate::outcome::Early;
 use crate::progress::{Laid, Progress, first_progress};
 use crate::sweep::{Sweep, after_search, after_sketch, first_sweep};
 use crate::whole::after_all;
+use bt_grids::Early;
 use bt_model::Request;
 use bt_parts::Rect;
 use hint_seeking::{Least, Means, seek_lesser};

@@ -7,10 +7,9 @@ ghost use Rattle.bt_grids.specs.Asked.{NamesNoCells, request_on};
 ghost use Rattle.bt_layout.specs.Smallest.{IsSmallest};
 ghost use Rattle.bt_layout.specs.inner.Ends.{IsSought};
 
-use crate::outcome::{Layout, RuledOut, Smallest};
 use crate::searching::search;
 use bt_choosers::Highest;
-use bt_grids::{grids_from, request_on};
+use bt_grids::{Layout, RuledOut, Smallest, grids_from, request_on};
 use bt_model::Request;
 use bt_parts::Rect;
 use std::alloc::{AllocError, Global};

@@ -6,9 +6,7 @@ mod early;
 mod law;
 mod least;
 mod likely;
-mod outcome;
 mod preferring;
-mod printing;
 mod progress;
 mod searching;
 mod sketched;
@@ -17,15 +15,14 @@ mod sweep;
 mod tested;
 mod whole;
 
+pub use bt_grids::{Early, Layout, Small, Smallest};
 pub use early::lay_early;
 pub use law::{
     laid_is_read_back, nowhere_is_certificate, passed_has_no_layout, refuted_has_no_layout,
     unmet_has_no_layout,
 };
 pub use least::smallest;
-pub use outcome::{Early, Layout, RuledOut, Small, Smallest};
 pub use preferring::{priorities_of, priorities_on};
-pub use printing::{blueprint_of, blueprint_of_small, print_none, print_small, print_smallest};
 pub use searching::layout;
 pub use small::find_small;
 pub use std::alloc::AllocError as Memory;

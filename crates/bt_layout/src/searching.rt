@@ -8,11 +8,11 @@ ghost use Rattle.bt_layout.specs.inner.Likely.{IsLaidOut};
 ghost use Rattle.bt_layout.specs.inner.Progressing.{HasLog, IsWhole};
 
 use crate::likely::{Trial, Tried};
-use crate::outcome::Layout;
 use crate::sketched::{laid_in_windows, look_by_sketch};
 use crate::tested::laid_by;
 use bt_choosers::Highest;
 use bt_cnf::Chooser;
+use bt_grids::Layout;
 use bt_log::Log;
 use bt_model::Request;
 use bt_parts::Part;

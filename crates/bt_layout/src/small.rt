@@ -8,9 +8,8 @@ ghost use Rattle.bt_grids.specs.Asked.{NamesNoCells, request_on};
 ghost use Rattle.bt_layout.specs.inner.Progressing.{AskEach};
 
 use crate::early::lay_early;
-use crate::outcome::{Early, Small};
 use crate::tested::laid_by;
-use bt_grids::{area, grids, is_within, request_on};
+use bt_grids::{Early, Small, area, grids, is_within, request_on};
 use bt_model::{MOST_CELLS, MOST_ENCODED, Request};
 use bt_parts::{Part, Rect};
 use hint_layouts::{name_sketch, propose};

@@ -3,9 +3,9 @@ ghost use Rattle.std.specs.Prelude.{◌+◌, ◌≤◌, ◌<◌, ℕ, List, IfOk
 ghost use Rattle.bt_model.specs.Requests.{LayoutRequest};
 ghost use Rattle.bt_layout.specs.inner.Progressing.{ArePassed, IsEnded, IsProgress, lesser_of};
 
-use crate::outcome::Layout;
 use crate::progress::{Laid, Progress, lesser, with_layout, with_steps};
 use crate::searching::{Searched, look_alone};
+use bt_grids::Layout;
 use bt_model::Request;
 use std::alloc::{AllocError, Global};
 

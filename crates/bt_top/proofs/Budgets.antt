@@ -29,11 +29,11 @@ use Rattle.bt_decide.specs.declared.verdict.Verdict.TheVariants as verdict
 use Rattle.bt_decide.specs.declared.verdict.SameVerdict.{SameVerdict}
 use Rattle.bt_decide.specs.declared.verdict.SameVerdict.TheVariants as of_same
 use Rattle.bt_decide.specs.Verdicts.{IsGivenUpBy, IsVerdict, IsSameVerdict, splitters_of_both}
-use Rattle.bt_layout.specs.declared.outcome.Layout.{Layout as ALayout}
-use Rattle.bt_layout.specs.declared.outcome.Layout.TheVariants as layout
+use Rattle.bt_grids.specs.declared.outcome.Layout.{Layout as ALayout}
+use Rattle.bt_grids.specs.declared.outcome.Layout.TheVariants as layout
 use Rattle.bt_layout.specs.Layouts.{IsLayout}
-use Rattle.bt_layout.specs.declared.outcome.Smallest.{Smallest as ASmallest}
-use Rattle.bt_layout.specs.declared.outcome.Smallest.TheVariants as smallest
+use Rattle.bt_grids.specs.declared.outcome.Smallest.{Smallest as ASmallest}
+use Rattle.bt_grids.specs.declared.outcome.Smallest.TheVariants as smallest
 use Rattle.bt_grids.specs.Grids.{IsSkipped, IsWithin}
 use Rattle.bt_grids.specs.Asked.{request_on}
 use Rattle.bt_layout.specs.Smallest.{IsSmallest}

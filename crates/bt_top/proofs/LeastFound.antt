@@ -11,8 +11,8 @@ use Rattle.bt_model.specs.Laying.{LaysPreferring}
 use Rattle.bt_model.specs.Requests.{LayoutRequest, IsRequest}
 use Rattle.bt_write.specs.ReadBack.{IsReadBack, SplittersPrefer}
 use Rattle.bt_layout.proofs.Written.{laid_is_read_back}
-use Rattle.bt_layout.specs.declared.outcome.RuledOut.{RuledOut}
-use Rattle.bt_layout.specs.declared.outcome.Smallest.TheVariants.{Found}
+use Rattle.bt_grids.specs.declared.outcome.RuledOut.{RuledOut}
+use Rattle.bt_grids.specs.declared.outcome.Smallest.TheVariants.{Found}
 use Rattle.bt_grids.specs.Asked.{NamesNoCells, request_on}
 use Rattle.bt_layout.specs.Smallest.{IsSmallest}
 use Rattle.bt_layout.proofs.Passed.{left_within}

@@ -31,12 +31,12 @@ use Rattle.bt_decide.specs.declared.verdict.Verdict.{Verdict}
 use Rattle.bt_decide.specs.declared.verdict.Verdict.TheVariants as verdict
 use Rattle.bt_decide.specs.declared.verdict.SameVerdict.{SameVerdict}
 use Rattle.bt_decide.specs.declared.verdict.SameVerdict.TheVariants as of_same
-use Rattle.bt_layout.specs.declared.outcome.Layout.{Layout as ALayout}
-use Rattle.bt_layout.specs.declared.outcome.Layout.TheVariants as layout
-use Rattle.bt_layout.specs.declared.outcome.Small.{Small as ASmall}
-use Rattle.bt_layout.specs.declared.outcome.Small.TheVariants as small
-use Rattle.bt_layout.specs.declared.outcome.Smallest.{Smallest as ASmallest}
-use Rattle.bt_layout.specs.declared.outcome.Smallest.TheVariants as smallest
+use Rattle.bt_grids.specs.declared.outcome.Layout.{Layout as ALayout}
+use Rattle.bt_grids.specs.declared.outcome.Layout.TheVariants as layout
+use Rattle.bt_grids.specs.declared.outcome.Small.{Small as ASmall}
+use Rattle.bt_grids.specs.declared.outcome.Small.TheVariants as small
+use Rattle.bt_grids.specs.declared.outcome.Smallest.{Smallest as ASmallest}
+use Rattle.bt_grids.specs.declared.outcome.Smallest.TheVariants as smallest
 use Rattle.bt_gen.specs.declared.butterflies.TheConstants.{MOST_STAGES}
 use Rattle.bt_gen.specs.declared.chains.TheConstants.{MOST_IN_CHAIN}
 use Rattle.bt_gen.specs.Butterfly.{butterfly_net}

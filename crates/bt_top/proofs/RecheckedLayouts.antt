@@ -6,8 +6,8 @@ use Rattle.bt_log.specs.declared.log.Log.{Log}
 use Rattle.bt_log.specs.LogText.{log_text}
 use Rattle.bt_model.specs.Requests.{LayoutRequest}
 use Rattle.bt_theory.specs.declared.outcome.GaveUp.TheVariants as gave
-use Rattle.bt_layout.specs.declared.outcome.Layout.{Layout}
-use Rattle.bt_layout.specs.declared.outcome.Layout.TheVariants as layout
+use Rattle.bt_grids.specs.declared.outcome.Layout.{Layout}
+use Rattle.bt_grids.specs.declared.outcome.Layout.TheVariants as layout
 use Rattle.bt_layout.specs.Layouts.{IsLayout}
 use Rattle.bt_layout.proofs.Certified.{nowhere_is_certificate}
 use Rattle.bt_top.specs.declared.answer.Answer.TheVariants as answer

@@ -12,13 +12,13 @@ use Rattle.bt_parts.specs.declared.part.Rect.{Rect}
 use Rattle.bt_parts.specs.declared.part.Tier.{Tier}
 use Rattle.bt_model.specs.Requests.{LayoutRequest, IsRequest}
 use Rattle.bt_place.specs.PlaceFormula.{HasFormula}
-use Rattle.bt_layout.specs.declared.outcome.RuledOut.{RuledOut}
-use Rattle.bt_layout.specs.declared.outcome.Smallest.{Smallest}
-use Rattle.bt_layout.specs.declared.outcome.Smallest.TheVariants.{Found, Nowhere, Spent}
+use Rattle.bt_grids.specs.declared.outcome.RuledOut.{RuledOut}
+use Rattle.bt_grids.specs.declared.outcome.Smallest.{Smallest}
+use Rattle.bt_grids.specs.declared.outcome.Smallest.TheVariants.{Found, Nowhere, Spent}
 use Rattle.bt_grids.specs.Grids.{IsWithin}
 use Rattle.bt_grids.specs.Asked.{NamesNoCells, request_on}
 use Rattle.bt_layout.specs.Smallest.{IsRuledOut, IsSmallest, grids_of}
-use Rattle.bt_layout.specs.SmallestText.{nowhere_text, earlier_text, from_line, grid_line, spent_on_text}
+use Rattle.bt_grids.specs.SmallestText.{nowhere_text, earlier_text, from_line, grid_line, spent_on_text}
 use Rattle.bt_layout.proofs.Passing.{asked_on}
 use Rattle.bt_write.specs.Written.{blueprint_text}
 use Rattle.bt_top.specs.declared.answer.Answer.TheVariants as answer

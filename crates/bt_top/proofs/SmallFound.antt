@@ -11,7 +11,7 @@ use Rattle.bt_model.specs.Requests.{LayoutRequest, IsRequest}
 use Rattle.bt_write.specs.ReadBack.{IsReadBack, SplittersPrefer}
 use Rattle.bt_layout.proofs.Passing.{asked_on}
 use Rattle.bt_layout.proofs.Written.{laid_is_read_back}
-use Rattle.bt_layout.specs.declared.outcome.Small.TheVariants.{Found}
+use Rattle.bt_grids.specs.declared.outcome.Small.TheVariants.{Found}
 use Rattle.bt_layout.specs.Small.{IsSmall}
 use Rattle.bt_grids.specs.Asked.{NamesNoCells, request_on}
 

@@ -14,12 +14,12 @@ use Rattle.bt_theory.specs.declared.outcome.GaveUp as gave
 use Rattle.bt_theory.specs.declared.outcome.GaveUp.TheVariants.{Spent, Pivots, Wide}
 use Rattle.bt_same.specs.declared.pair.Which.{Which}
 use Rattle.bt_same.specs.declared.pair.Which.TheVariants.{First, Second, Kept}
-use Rattle.bt_layout.specs.declared.outcome.Smallest as smallest
-use Rattle.bt_layout.specs.declared.outcome.Smallest.TheVariants.{Found, Nowhere as NoGrid, Spent as SpentOn}
-use Rattle.bt_layout.specs.declared.outcome.Small.{Small as ASmall}
-use Rattle.bt_layout.specs.declared.outcome.Small.TheVariants as small
-use Rattle.bt_layout.specs.SmallestText.{small_text, smallest_text}
-pub use Rattle.bt_layout.specs.SmallestText.{none_word, nowhere_text}
+use Rattle.bt_grids.specs.declared.outcome.Smallest as smallest
+use Rattle.bt_grids.specs.declared.outcome.Smallest.TheVariants.{Found, Nowhere as NoGrid, Spent as SpentOn}
+use Rattle.bt_grids.specs.declared.outcome.Small.{Small as ASmall}
+use Rattle.bt_grids.specs.declared.outcome.Small.TheVariants as small
+use Rattle.bt_grids.specs.SmallestText.{small_text, smallest_text}
+pub use Rattle.bt_grids.specs.SmallestText.{none_word, nowhere_text}
 use Rattle.bt_print.specs.Legends.{flow_formula_text, place_formula_text}
 use Rattle.bt_print.specs.TrailText.{pivots_text, wide_text}
 use Rattle.bt_write.specs.Written.{blueprint_text}
@@ -28,7 +28,7 @@ use Rattle.bt_words.specs.declared.command.NetworkFamily.TheVariants.{Butterfly,
 use Rattle.bt_words.specs.declared.command.BuiltText.{BuiltText}
 use Rattle.bt_words.specs.declared.command.BuiltText.TheVariants as built
 use Rattle.bt_print.specs.NetTexts.{text_with}
-use Rattle.bt_top.specs.declared.make.Made as making
+use Rattle.bt_top.specs.declared.made.Made as making
 use Rattle.bt_extend.specs.Texts.{definitions_text}
 use Rattle.bt_extend.specs.declared.definition.Definition.{Definition}
 use Rattle.bt_top.specs.declared.answer.Answer.{Answer}

@@ -1,21 +1,19 @@
 -- What `smallest --found` answers.
-use Rattle.std.specs.Prelude.{◌≡◌, ℕ, ◌≤◌, ◌-ℤ◌, ◌⊎◌, List, [], All, unwrap_or, Option, Some, None, Result, Ok}
+use Rattle.std.specs.Prelude.{◌≡◌, ℕ, ◌⊎◌, List, [], unwrap_or, Option, Some, None, Result, Ok}
 use Rattle.std.specs.Global.{Vec}
 use Rattle.bt_hands.specs.declared.hand.Priority.{Priority}
-use Rattle.bt_parts.specs.declared.part.Cell.{Cell}
 use Rattle.bt_parts.specs.declared.part.Part.{Part}
 use Rattle.bt_parts.specs.declared.part.Rect.{Rect}
 use Rattle.bt_parts.specs.declared.part.Tier.{Tier}
-use Rattle.bt_parts.specs.Cells.{Covers, IsInside}
 use Rattle.bt_json.specs.Json.{Json}
 use Rattle.bt_json.specs.Answers.{IsRead}
 use Rattle.bt_entities.specs.Answers.{IsPrioritisedOf}
 use Rattle.bt_model.specs.Laying.{LaysPreferring}
 use Rattle.bt_model.specs.Requests.{LayoutRequest}
 use Rattle.bt_write.specs.ReadBack.{IsReadBack}
-use Rattle.bt_layout.specs.declared.outcome.Small.{Small}
-use Rattle.bt_layout.specs.declared.outcome.Small.TheVariants.{Found, Spent}
-use Rattle.bt_grids.specs.Grids.{area_of}
+use Rattle.bt_grids.specs.declared.outcome.Small.{Small}
+use Rattle.bt_grids.specs.declared.outcome.Small.TheVariants.{Found, Spent}
+use Rattle.bt_grids.specs.Spanned.{IsSpanned}
 use Rattle.bt_layout.specs.Small.{IsBeyond, IsSmall}
 use Rattle.bt_grids.specs.Asked.{request_on}
 use Rattle.bt_model.specs.declared.request.TheConstants.{MOST_ACROSS}
@@ -49,18 +47,6 @@ IsDesignRequest sides most tier bytes answer = (IsJsonText bytes × IsDrawnReque
 -- the JSON value at the front of the bytes is a blueprint of these parts, whatever their priorities
 abbrev pub AreLaidOut : List ℕ → List Part → Type 0
 AreLaidOut bytes parts = (read : Json × ℕ) × IsRead bytes (Ok read) × (priorities : List Priority) × IsPrioritisedOf read.0 (Ok (parts, priorities))
-
--- all cells of the parts lie in the rectangle, where its first cell is this corner
-abbrev pub Holds : Cell → Rect → List Part → Type 0
-Holds corner rect parts = All (λ part. (cell : Cell) → Covers part cell → IsInside rect (record { x = cell.x -ℤ corner.x; y = cell.y -ℤ corner.y })) parts
-
--- the least rectangle of the parts has so many cells: some rectangle of so many holds them all, and none of fewer does
-pub record IsSpanned (cells : ℕ) (parts : List Part) : Type 0 where
-  pub corner : Cell
-  pub rect : Rect
-  pub holds : Holds corner rect parts
-  pub area : area_of rect ≡ cells
-  pub least : (at : Cell) (other : Rect) → Holds at other parts → cells ≤ area_of other
 
 -- how many cells a grid has to have fewer of: of a blueprint, those of its least rectangle; of a network text there is
 -- no such number

@@ -8,8 +8,8 @@ use Rattle.bt_model.specs.Laying.{LaysPreferring}
 use Rattle.bt_model.specs.Requests.{LayoutRequest}
 use Rattle.bt_write.specs.ReadBack.{IsReadBack}
 use Rattle.bt_theory.specs.declared.outcome.GaveUp.TheVariants as gave
-use Rattle.bt_layout.specs.declared.outcome.Layout.{Layout}
-use Rattle.bt_layout.specs.declared.outcome.Layout.TheVariants.{Found, Nowhere, Spent}
+use Rattle.bt_grids.specs.declared.outcome.Layout.{Layout}
+use Rattle.bt_grids.specs.declared.outcome.Layout.TheVariants.{Found, Nowhere, Spent}
 use Rattle.bt_layout.specs.Layouts.{IsLayout}
 use Rattle.bt_place.specs.PlaceFormula.{HasFormula}
 use Rattle.bt_top.specs.declared.answer.Answer.TheVariants as answer

@@ -4,10 +4,10 @@ use Rattle.std.specs.Global.{Vec}
 use Rattle.bt_hands.specs.declared.hand.Priority.{Priority}
 use Rattle.bt_parts.specs.declared.part.Rect.{Rect}
 use Rattle.bt_parts.specs.declared.part.Tier.{Tier}
-use Rattle.bt_layout.specs.declared.outcome.RuledOut.{RuledOut}
-use Rattle.bt_layout.specs.declared.outcome.Smallest.{Smallest}
-use Rattle.bt_layout.specs.declared.outcome.Smallest.TheVariants.{Found, Nowhere, Spent}
-use Rattle.bt_layout.specs.SmallestText.{nowhere_text, earlier_text, from_line}
+use Rattle.bt_grids.specs.declared.outcome.RuledOut.{RuledOut}
+use Rattle.bt_grids.specs.declared.outcome.Smallest.{Smallest}
+use Rattle.bt_grids.specs.declared.outcome.Smallest.TheVariants.{Found, Nowhere, Spent}
+use Rattle.bt_grids.specs.SmallestText.{nowhere_text, earlier_text, from_line}
 use Rattle.bt_top.specs.declared.answer.Answer.TheVariants as answer
 use Rattle.bt_top.specs.declared.answer.Brief.TheVariants as brief
 use Rattle.bt_designs.specs.declared.held.TheConstants.{MOST_CHECKED}

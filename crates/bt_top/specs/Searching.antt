@@ -7,8 +7,8 @@ use Rattle.bt_parts.specs.declared.part.Tier.{Tier}
 use Rattle.bt_model.specs.Laying.{LaysPreferring}
 use Rattle.bt_model.specs.Requests.{LayoutRequest}
 use Rattle.bt_write.specs.ReadBack.{IsReadBack}
-use Rattle.bt_layout.specs.declared.outcome.Smallest.{Smallest}
-use Rattle.bt_layout.specs.declared.outcome.Smallest.TheVariants.{Found, Nowhere, Spent}
+use Rattle.bt_grids.specs.declared.outcome.Smallest.{Smallest}
+use Rattle.bt_grids.specs.declared.outcome.Smallest.TheVariants.{Found, Nowhere, Spent}
 use Rattle.bt_grids.specs.Asked.{request_on}
 use Rattle.bt_layout.specs.Smallest.{IsSmallest}
 use Rattle.bt_top.specs.declared.answer.Answer.TheVariants as answer

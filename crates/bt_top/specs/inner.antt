@@ -6,5 +6,4 @@ pub mod Grids
 pub mod Lines
 pub mod PairParts
 pub mod RequestParts
-pub mod Spans
 pub mod Telling

@@ -3,14 +3,14 @@ ghost use Rattle.std.specs.Prelude.{◌≡◌};
 ghost use Rattle.bt_top.specs.Answers.{brief_status, gave_up_status, least_status, small_status, status_of};
 ghost use Rattle.bt_top.specs.Replies.{design_told};
 
-use crate::make::Made;
+use crate::made::Made;
 use bt_cert::Cause;
 use bt_cnf::Formula;
 use bt_designs::{DesignFault, Refusal};
 use bt_extend::Definition;
 use bt_flow::{Property, State, Test};
+use bt_grids::{Small, Smallest};
 use bt_hands::Priority;
-use bt_layout::{Small, Smallest};
 use bt_log::Log;
 use bt_net::Net;
 use bt_parts::{Part, Rect};

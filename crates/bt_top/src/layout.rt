@@ -5,7 +5,7 @@ ghost use Rattle.bt_model.specs.Requests.{IsGrid, IsRequest};
 ghost use Rattle.bt_entities.specs.declared.blueprint.TheConstants.{MOST_ENTITIES};
 ghost use Rattle.bt_model.specs.Laying.{Lays};
 ghost use Rattle.bt_layout.specs.Layouts.{IsLayout};
-ghost use Rattle.bt_layout.specs.declared.outcome.Layout.TheVariants.{Found};
+ghost use Rattle.bt_grids.specs.declared.outcome.Layout.TheVariants.{Found};
 ghost use Rattle.bt_top.specs.LayingOut.{IsLaidOut, IsLaidOutFrom, IsLayoutTold};
 
 use crate::answer::{Answer, refused};

@@ -22,6 +22,7 @@ mod input;
 mod law;
 mod layout;
 mod layout_front;
+mod made;
 mod make;
 mod pair_check;
 mod printing;
@@ -42,6 +43,6 @@ pub use law::{
     laid_out_is_checked, least_is_checked, longer_is_read, none_is_accepted, numbers_are,
     one_right_answer,
 };
-pub use make::Made;
+pub use made::Made;
 pub use program::{NO_MEMORY, READ_FAULT, WRITE_FAULT, run};
 pub use std::alloc::AllocError as Memory;

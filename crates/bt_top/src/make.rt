@@ -4,11 +4,11 @@ ghost use Rattle.bt_answers.specs.Answers.{UnlessMemory};
 ghost use Rattle.bt_gen.specs.Butterfly.{butterfly_net};
 ghost use Rattle.bt_gen.specs.Chain.{chain_net};
 ghost use Rattle.bt_gen.specs.Orders.{IsGenerated};
-ghost use Rattle.bt_top.specs.Answers.{made_status};
 ghost use Rattle.bt_top.specs.Making.{IsMade, IsBalanceDecided, IsSaidBalanced, balance_told, gen_told, made_of};
 ghost use Rattle.bt_designs.specs.Steps.{InTurn};
 
 use crate::answer::{Answer, Brief};
+use crate::made::Made;
 use bt_cnf::{Chooser, Limits};
 use bt_decide::{Verdict, decide};
 use bt_designs::Refusal;
@@ -17,27 +17,6 @@ use bt_gen::{GenFault, MOST_IN_CHAIN, MOST_STAGES, butterfly, chain};
 use bt_net::Net;
 use bt_words::NetworkFamily;
 use std::alloc::{AllocError, Global};
-
-/// A network that is made by a rule, and whether it is balanced.
-#[derive(Clone, Copy)]
-pub struct Made {
-    pub family: NetworkFamily,
-    pub order: u32,
-    /// How many edges the network has.
-    pub edges: usize,
-    /// How many outputs the network has.
-    pub outputs: u32,
-    pub balanced: bool,
-}
-
-impl Made {
-    /// The status of the answer: 0 where the network is balanced, and 1 where it isn't.
-    pub fn status(&self) -> u8
-        ensures { result ≡ made_status self.now }
-    {
-        if self.balanced { 0 } else { 1 }
-    }
-}
 
 /// The answer of `make` to a kind of network and an order. Each butterfly is balanced, so none is searched.
 pub fn make(

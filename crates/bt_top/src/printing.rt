@@ -4,7 +4,7 @@ ghost use Rattle.bt_io.specs.Passages.{passage};
 ghost use Rattle.std.specs.Prelude.{◌≡◌};
 ghost use Rattle.bt_top.specs.Answers.{balance_word, built_text, family_name, gave_up_text, made_text, proved_text, same_text, spent_text, steps_text};
 
-use crate::make::Made;
+use crate::made::Made;
 use bt_extend::{Definition, print_definitions};
 use bt_flow::Property;
 use bt_io::{Sink, WriteFault, write_all_of, write_pieces};

@@ -30,8 +30,8 @@ use crate::smallest::smallest;
 use crate::smallest_found::smallest_found;
 use crate::text::formed_of;
 use bt_flow::print_state;
+use bt_grids::print_none;
 use bt_io::{ReadAll, Sink, Source, WriteFault, write_all_of};
-use bt_layout::print_none;
 use bt_print::{print, print_flow_formula, print_place_formula};
 use bt_same::print_pair;
 use bt_words::{Command, command_of};
@@ -208,8 +208,8 @@ fn print_answer<K: Sink>(answer: &Answer, formed: &[u8], sink: &mut K) -> Result
     match answer {
         Answer::Brief(_) => write_all_of(sink, formed),
         Answer::LaidOut(..) => write_all_of(sink, formed),
-        Answer::Least(first, found, _) => bt_layout::print_smallest(*first, found, formed, sink),
-        Answer::Small(found, _) => bt_layout::print_small(found, formed, sink),
+        Answer::Least(first, found, _) => bt_grids::print_smallest(*first, found, formed, sink),
+        Answer::Small(found, _) => bt_grids::print_small(found, formed, sink),
         Answer::Usage => write_all_of(sink, b"usage\n"),
         Answer::TooLong => write_all_of(sink, b"too long\n"),
         Answer::NotFound => write_all_of(sink, b"not found\n"),

@@ -1,22 +1,19 @@
 //! `smallest --found`: small grids on which parts that show a design's network are found.
-ghost use Rattle.std.specs.Prelude.{[], ◌∷◌, ◌++◌, ℕ, Contains, IfOk, IfSome, List, Option, alloc_error};
+ghost use Rattle.std.specs.Prelude.{ℕ, IfOk, IfSome, Option, alloc_error};
 ghost use Rattle.bt_answers.specs.Answers.{UnlessMemory};
-ghost use Rattle.bt_parts.specs.Cells.{IsInRange};
-ghost use Rattle.bt_parts.specs.Layouts.{AreInRange};
-ghost use Rattle.bt_parts.specs.declared.part.Part.{Part as APart};
 ghost use Rattle.bt_model.specs.Requests.{IsGrid, IsRequest};
 ghost use Rattle.bt_grids.specs.Asked.{NamesNoCells};
 ghost use Rattle.bt_layout.specs.Small.{IsSmall};
-ghost use Rattle.bt_top.specs.Finding.{IsDesignRequest, IsDrawnRequest, IsFound, IsFoundAgain, IsFoundFrom, IsOwn, IsPreferred, IsSmallFound, IsSmallTold, IsSpanned};
-ghost use Rattle.bt_top.specs.inner.Spans.{Encloses, IsNear, IsSpanOf};
+ghost use Rattle.bt_top.specs.Finding.{IsDesignRequest, IsDrawnRequest, IsFound, IsFoundAgain, IsFoundFrom, IsOwn, IsPreferred, IsSmallFound, IsSmallTold};
 
 use crate::answer::{Answer, refused};
 use bt_designs::{DesignFault, is_json, read_kept_request, read_lone_request, read_sided_request};
 use bt_entities::parts_and_priorities;
+use bt_grids::spanned;
 use bt_hands::Priority;
 use bt_layout::{Small, find_small, priorities_on};
 use bt_model::{MOST_ACROSS, Request};
-use bt_parts::{Cell, Part, Rect, Tier, cells_of};
+use bt_parts::{Part, Rect, Tier};
 use bt_words::{AskedSides, USUAL_ACROSS};
 use std::alloc::{AllocError, Global};
 
@@ -99,9 +96,8 @@ fn found_of(
     requires cells { NamesNoCells request.now }
     ensures { UnlessMemory alloc_error (IsFound bytes.now learnt request.now) result }
 {
-    let cells = own_cells(alloc, bytes)?;
-    let own = own_parts(alloc, bytes)?;
-    small_of(alloc, learnt, request, cells, &own)
+    let own = own_design(alloc, bytes)?;
+    small_of(alloc, learnt, request, own.cells, &own.parts)
 }
 
 /// The answer to a request on the greatest grid, where the number of cells of a design that is laid out is given, and its
@@ -153,13 +149,24 @@ fn priorities_in(
     }
 }
 
-/// How many cells a design has where it is laid out: those of the least rectangle that holds its parts. The bytes
-/// are a design, which was read of them before.
-fn own_cells(alloc: Global, bytes: &[u8]) -> Result<Option<u64>, AllocError>
-    ensures { IfOk result (IsOwn bytes.now) }
+/// What a search takes of a design.
+#[derive(Drop)]
+pub struct OwnDesign {
+    /// How many cells it has where it is laid out: those of the least rectangle that holds its parts.
+    pub cells: Option<u64>,
+    /// Its parts where it is laid out, from which a search may begin.
+    pub parts: Vec<Part>,
+}
+
+/// What a search takes of the design that the bytes are, which was read of them before.
+fn own_design(alloc: Global, bytes: &[u8]) -> Result<OwnDesign, AllocError>
+    ensures { IfOk result (λ own. IsOwn bytes.now own.cells) }
 {
     if !is_json(bytes) {
-        return Ok(None);
+        return Ok(OwnDesign {
+            cells: None,
+            parts: Vec::new(alloc),
+        });
     }
     let Ok((tree, _)) = bt_json::read(alloc, bytes) else {
         return Err(AllocError);
@@ -167,86 +174,10 @@ fn own_cells(alloc: Global, bytes: &[u8]) -> Result<Option<u64>, AllocError>
     let read = parts_and_priorities(alloc, &tree);
     drop(tree);
     match read {
-        Ok(read) => Ok(Some(spanned(&read.parts))),
+        Ok(read) => Ok(OwnDesign {
+            cells: Some(spanned(&read.parts)),
+            parts: read.parts,
+        }),
         Err(_) => Err(AllocError),
-    }
-}
-
-/// The parts of a design that is laid out, from which a search may begin: nothing is claimed of them.
-fn own_parts(alloc: Global, bytes: &[u8]) -> Result<Vec<Part>, AllocError> {
-    if !is_json(bytes) {
-        return Ok(Vec::new(alloc));
-    }
-    let Ok((tree, _)) = bt_json::read(alloc, bytes) else {
-        return Err(AllocError);
-    };
-    match parts_and_priorities(alloc, &tree) {
-        Ok(read) => Ok(read.parts),
-        Err(_) => Err(AllocError),
-    }
-}
-
-/// The least and the greatest coordinates of cells.
-#[derive(Clone, Copy)]
-pub struct Span {
-    pub least: Cell,
-    pub greatest: Cell,
-}
-
-/// The cells of the least rectangle that holds the parts.
-fn spanned(parts: &[Part]) -> u64
-    requires { AreInRange parts.now }
-    ensures { IsSpanned result parts.now }
-{
-    let Some(first) = parts.first() else {
-        return 0;
-    };
-    let mut span = Span {
-        least: first.cell,
-        greatest: first.cell,
-    };
-    for part in parts {
-        span = with_part(span, part);
-    }
-    span.cells()
-}
-
-/// With the cells of one part more.
-fn with_part(span: Span, part: &Part) -> Span
-    requires part { IsInRange part.now.cell }
-    requires least { IsNear span.least }
-    requires greatest { IsNear span.greatest }
-    ensures least { IsNear result.least }
-    ensures greatest { IsNear result.greatest }
-    ensures within { (parts : List APart) → IsSpanOf parts span → Contains parts part.now
-        → IsSpanOf parts result }
-    ensures encloses { (seen : List APart) → Encloses span seen → Encloses result (seen ++ part.now ∷ []) }
-{
-    let (first, second) = cells_of(part);
-    let last = second.unwrap_or(first);
-    Span {
-        least: Cell {
-            x: span.least.x.min(first.x),
-            y: span.least.y.min(first.y),
-        },
-        greatest: Cell {
-            x: span.greatest.x.max(last.x),
-            y: span.greatest.y.max(last.y),
-        },
-    }
-}
-
-impl Span {
-    /// How many cells there are from the one to the other.
-    fn cells(self) -> u64
-        requires least { IsNear self.least }
-        requires greatest { IsNear self.greatest }
-        ensures { (parts : List APart) → IsSpanOf parts self → Encloses self parts
-            → IsSpanned result parts }
-    {
-        let Span { least, greatest } = self;
-        let across = u64::from(least.x.abs_diff(greatest.x)) + 1;
-        let down = u64::from(least.y.abs_diff(greatest.y)) + 1;
-        across.saturating_mul(down)
     }
 }

@@ -10,8 +10,8 @@ use Rattle.bt_place.specs.Solutions.{ComesAbove, IsSolution}
 use Rattle.bt_theory.specs.Outcomes.{IsRefutation, IsUsedUp}
 use Rattle.bt_trim.specs.Trimming.{IsTightOver, IsTrimmed}
 use Rattle.bt_layout.specs.Layouts.{HasNoLayout}
-use Rattle.bt_layout.specs.declared.outcome.Layout.{Layout}
-use Rattle.bt_layout.specs.declared.outcome.Layout.TheVariants as layout
+use Rattle.bt_grids.specs.declared.outcome.Layout.{Layout}
+use Rattle.bt_grids.specs.declared.outcome.Layout.TheVariants as layout
 
 -- with a model of the placement formula; with a log that refutes it; or with a log that has so many steps, where one
 -- more is needed

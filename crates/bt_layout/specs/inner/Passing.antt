@@ -2,7 +2,7 @@
 use Rattle.std.specs.Prelude.{◌≡◌, ℕ, List, All, take}
 use Rattle.bt_parts.specs.declared.part.Rect.{Rect}
 use Rattle.bt_model.specs.Requests.{LayoutRequest}
-use Rattle.bt_layout.specs.declared.outcome.RuledOut.{RuledOut}
+use Rattle.bt_grids.specs.declared.outcome.RuledOut.{RuledOut}
 use Rattle.bt_layout.specs.Smallest.{IsRuledOut, grids_of}
 
 -- the first so many of the grids are ruled out

@@ -3,8 +3,8 @@ use Rattle.std.specs.Prelude.{◌≡◌, ◌⊎◌, ℕ, ◌+◌, ◌^◌, ◌<�
 use Rattle.bt_parts.specs.declared.part.Rect.{Rect}
 use Rattle.bt_model.specs.Requests.{LayoutRequest}
 use Rattle.bt_layout.specs.declared.likely.Tried.{Tried}
-use Rattle.bt_layout.specs.declared.outcome.Layout.{Layout}
-use Rattle.bt_layout.specs.declared.outcome.Layout.TheVariants as layout
+use Rattle.bt_grids.specs.declared.outcome.Layout.{Layout}
+use Rattle.bt_grids.specs.declared.outcome.Layout.TheVariants as layout
 use Rattle.bt_layout.specs.declared.progress.Laid.{Laid}
 use Rattle.bt_layout.specs.declared.progress.Progress.{Progress}
 use Rattle.bt_layout.specs.declared.searching.Searched.{Searched}

@@ -1,7 +1,7 @@
 -- Lines while they are formed: words, and numbers and names that are said with them.
 use Rattle.std.specs.Prelude.{ℕ, List, [], ◌++◌, codes, decimal}
 use Rattle.bt_net.specs.NetText.{line}
-use Rattle.bt_layout.specs.SmallestText.{blueprint_of, blueprint_of_small}
+use Rattle.bt_grids.specs.SmallestText.{blueprint_of, blueprint_of_small}
 use Rattle.bt_top.specs.declared.answer.Answer.{Answer}
 use Rattle.bt_top.specs.declared.answer.Answer.TheVariants.{Brief, LaidOut, Least, Small}
 use Rattle.bt_write.specs.Written.{blueprint_text}

@@ -1,6 +1,6 @@
 use Rattle.std.proofs.Common.{arith, subst}
 use Rattle.bt_layout.specs.inner.Ends.{IsSought}
-use Rattle.bt_layout.specs.declared.outcome.Layout.TheVariants.{Nowhere}
+use Rattle.bt_grids.specs.declared.outcome.Layout.TheVariants.{Nowhere}
 use Rattle.bt_layout.proofs.searching.soon_shown.Goals as goal
 
 pub returns-in-Found : goal.returns-in-Found

@@ -1,7 +1,7 @@
 use Rattle.std.proofs.Common.{refl, inl, inr, subst, alloc_error}
 use Rattle.std.specs.Prelude.{MatchOption}
 use Rattle.bt_place.specs.PlaceFormula.{HasFormula}
-use Rattle.bt_layout.specs.declared.outcome.Layout.{Layout}
+use Rattle.bt_grids.specs.declared.outcome.Layout.{Layout}
 use Rattle.bt_layout.specs.Layouts.{IsLayout}
 use Rattle.bt_top.specs.LayingOut.{IsLaidOut, IsLayoutTold}
 use Rattle.bt_designs.proofs.InTurns.{weaker}

@@ -5,6 +5,6 @@ use Rattle.bt_top.proofs.smallest_found.found_of.Goals as goal
 
 pub returns : goal.returns
 returns c =
-    let cells = c.in_ok-cells.cells in
+    let cells = c.in_ok-own.own.cells in
     let r = c.args.request.now in
-    weaker alloc_error (IsSmallFound cells c.args.learnt r) (IsFound c.args.bytes.now c.args.learnt r) _ (λ reply h. (cells, c.in_ok-cells.ensures, h)) c.small_of.ensures
+    weaker alloc_error (IsSmallFound cells c.args.learnt r) (IsFound c.args.bytes.now c.args.learnt r) _ (λ reply h. (cells, c.in_ok-own.ensures, h)) c.small_of.ensures
