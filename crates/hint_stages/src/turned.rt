@@ -76,7 +76,9 @@ fn turned_plan(alloc: Global, plan: &LeastPlan) -> Result<LeastPlan, AllocError>
         others: Vec::new(alloc),
     };
     for (splitter, part) in &plan.sketch.splitters {
-        sketch.splitters.push((*splitter, turned_part(*part, height)))?;
+        sketch
+            .splitters
+            .push((*splitter, turned_part(*part, height)))?;
     }
     for part in &plan.sketch.others {
         sketch.others.push(turned_part(*part, height))?;
