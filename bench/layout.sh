@@ -8,7 +8,8 @@
 #
 # measures the requests whose names begin so, by default all, each under three numberings of its network, of which
 # solvers get the first. It takes those of cadical, minisat and cryptominisat5 that it finds (`apt-get install minisat
-# cryptominisat`).
+# cryptominisat`). Behind them come designs that `smallest --found` makes smaller, whose names begin with `smaller`: the
+# grid that was found and the rows and seconds that are wanted.
 set -euo pipefail
 bench=$(cd "$(dirname "${BASH_SOURCE[0]}")" && pwd)
 top=$(dirname "$bench")
@@ -72,6 +73,17 @@ CASES = [
     ("scattered-20", ["160x160"], "found", 10, None),
     ("scattered-50", ["160x160"], "found", 10, None),
     ("scattered-100", ["160x160"], "found", 10, None),
+]
+
+
+# A design that is made smaller: an example, or a request and the grid in which it is laid; words; and by how many steps
+# at most how many cells and seconds are wanted.
+SMALLER = [
+    ("smaller-16x33", "row-16", "16x33", [], {20_000: (16 * 28, 10), 100_000: (16 * 23, 60)}),
+    ("smaller-16x33-sides", "row-16", "16x33", ["--sides"], {20_000: (16 * 28, 10), 100_000: (16 * 23, 60)}),
+    ("smaller-16x53", "row-16", "16x53", [], {100_000: (16 * 23, 60)}),
+    ("smaller-32x60", "row-32", "32x60", [], {100_000: (32 * 40, 60)}),
+    ("smaller-35x36", "balancer-16-to-16", None, [], {100_000: (16 * 23, 60)}),
 ]
 
 
@@ -202,6 +214,30 @@ for name, grids, wanted, most_seconds, most_times in CASES:
         print(
             f"| {name} | {grid} | {answer} | {told(ours, SECONDS)} | {memory:.0f} | "
             f"{''.join(rivals)}{', '.join(goal)} |",
+            flush=True,
+        )
+
+
+def design(name, grid):
+    """The example of this name, or the layout of a request in a grid."""
+    if grid is None:
+        return (Path(examples) / f"{name}.json").read_text()
+    return run([program, "layout", "--grid", grid], MADE[name](), 1, SECONDS)[2]
+
+
+print("\n| design | words | steps | grid | seconds | MB | goal |")
+print("|---" * 7 + "|")
+for name, request, grid, words, goals in SMALLER:
+    if wanted_names and not any(name.startswith(front) for front in wanted_names):
+        continue
+    text = design(request, grid)
+    for steps, (most_cells, most_seconds) in goals.items():
+        asked = [program, "smallest", "--found", *words, "--learnt", str(steps)]
+        seconds, memory, printed = run(asked, text, 1, SECONDS)
+        found = printed.split("\n", 1)[0].removeprefix("grid ") or "no answer"
+        print(
+            f"| {name} | {' '.join(words)} | {steps} | {found} | {told(seconds, SECONDS)} | {memory:.0f} | "
+            f"{most_cells} cells, {most_seconds} s |",
             flush=True,
         )
 PYTHON

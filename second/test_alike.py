@@ -16,7 +16,7 @@ import exhaust
 import opinion
 
 TOP = Path(__file__).resolve().parent.parent
-REQUESTS, NAMINGS = 12, 1
+REQUESTS, NAMINGS, GREAT = 12, 1, 4
 
 
 def program():
@@ -52,6 +52,24 @@ class Answers(unittest.TestCase):
         self.assertEqual(held.wrong, 0)
         found = [count for name, count in held.told.items() if name.endswith(", found")]
         self.assertTrue(0 < sum(found) < REQUESTS, held.told)
+
+    def test_great_requests(self):
+        held = alike.held(program(), 0, NAMINGS, GREAT)
+        self.assertEqual((held.wrong, sum(held.told.values())), (0, GREAT))
+
+    def test_a_layout_by_names_is_told(self):
+        class Fickle(alike.Alike):
+            def run(self, words, text):
+                self.told["asked"] += 1
+                return alike.FOUND, str(self.told["asked"])
+
+        fickle = Fickle("none")
+        fickle.fail = lambda what, text: setattr(fickle, "wrong", fickle.wrong + 1)
+        chain = exhaust.network(1, 2, 1, [(("i", 0), ("s", 0)), (("s", 0), ("o", 0)), (("s", 0), ("o", 1))])
+        sides = [opinion.Pin(("o", 0), None, 1, 0), opinion.Pin(("o", 1), None, 2, 0)]
+        for pins, wrong in ([], 0), (sides, 1):
+            fickle.great(random.Random(1), chain, pins, (4, 4), 1)
+            self.assertEqual(fickle.wrong, wrong)
 
     def test_different_answers_are_told(self):
         class Fickle(alike.Alike):

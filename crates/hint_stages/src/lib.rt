@@ -13,7 +13,9 @@ mod leading;
 mod sense;
 mod stack;
 mod stacking;
+mod turned;
 mod wiring;
 
-pub use stacking::find_stages;
+pub use stacking::{LeastPlan, find_stages};
 pub use std::alloc::AllocError as Memory;
+pub use turned::find_least;

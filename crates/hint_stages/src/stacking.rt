@@ -8,7 +8,7 @@ use crate::leading::{SEATS, lead_round};
 use crate::sense::Sense;
 use crate::stack::Stack;
 use crate::wiring::wiring_of;
-use bt_model::Request;
+use bt_model::{MOST_ACROSS, Request};
 use bt_net::Edge;
 use bt_parts::{Cell, Dir, Rect, Tier};
 use hint_numbering::goes_north;
@@ -87,6 +87,22 @@ impl Channels {
             once.saturating_mul(2).saturating_add(1)
         }
     }
+}
+
+/// A network as it is laid stage by stage.
+#[derive(Drop)]
+struct Staged {
+    arranged: Arranged,
+    channels: Channels,
+    /// The edges that lead back.
+    loops: Vec<Edge>,
+}
+
+/// A plan in the least rectangle that holds it.
+#[derive(Drop)]
+pub struct LeastPlan {
+    pub rect: Rect,
+    pub sketch: Sketch,
 }
 
 /// How many blocks of so many lines stand side by side in a row of so many splitters.
@@ -186,21 +202,22 @@ fn push_ranks(
     push_upper(stack, &arranged.upper, channels)
 }
 
-/// The plan with these rows and channels, where the rectangle is large enough: rows that are left are belts to the north.
-fn stack_of(
+/// The plan with these rows and channels in a rectangle as wide as its lines, where that is large enough: rows that are left
+/// are belts to the north.
+fn stack_in(
     alloc: Global,
-    request: &Request,
-    arranged: &Arranged,
-    channels: &Channels,
+    tier: Tier,
+    rect: Rect,
+    staged: &Staged,
 ) -> Result<Option<Sketch>, AllocError> {
-    let rect = request.rect();
-    let lines = request.net().inputs();
+    let (arranged, channels) = (&staged.arranged, &staged.channels);
+    let lines = lines_of(arranged);
     let rows = channels.rows_of(arranged);
     if rect.height < rows {
         return Ok(None);
     }
     let last = ahead(Cell { x: 0, y: -1 }, Dir::South, rect.height);
-    let mut stack = Stack::new(alloc, request.tier(), last);
+    let mut stack = Stack::new(alloc, tier, last);
     stack.push_belts(lines)?;
     push_ranks(&mut stack, arranged, channels)?;
     for _ in rows..=rect.height {
@@ -214,10 +231,9 @@ fn stack_of(
 fn stack_with_loops(
     alloc: Global,
     request: &Request,
-    arranged: &Arranged,
-    channels: &Channels,
-    loops: &[Edge],
+    staged: &Staged,
 ) -> Result<Option<Sketch>, AllocError> {
+    let (arranged, channels) = (&staged.arranged, &staged.channels);
     let block = Rect {
         width: lines_of(arranged),
         height: channels.rows_of(arranged).saturating_sub(2),
@@ -229,7 +245,8 @@ fn stack_with_loops(
         let last = ahead(first, Dir::South, block.height.saturating_sub(1));
         let mut stack = Stack::new(alloc, request.tier(), last);
         push_ranks(&mut stack, arranged, channels)?;
-        if let Some(chains) = lead_round(alloc, request, &stack.sketch, first, block, loops)? {
+        let led = lead_round(alloc, request, &stack.sketch, first, block, &staged.loops)?;
+        if let Some(chains) = led {
             stack.push_chains(&chains)?;
             return Ok(Some(stack.sketch));
         }
@@ -257,13 +274,8 @@ fn is_even(request: &Request, lines: u32, loops: &[Edge]) -> bool {
         && net.outputs() == net.inputs()
 }
 
-/// A plan of a butterfly or of a Benes network, of which a request asks nothing but that inputs are in the south and outputs
-/// in the north, or in rows, and some of whose outputs may be led back to inputs. None of other networks, or where the
-/// rectangle is too small.
-pub fn find_stages(alloc: Global, request: &Request) -> Result<Option<Sketch>, AllocError> {
-    if !goes_north(request) || !request.blocks().is_empty() {
-        return Ok(None);
-    }
+/// The stages of a network that has some, in at most so many rows; none of other networks.
+fn staged_of(alloc: Global, request: &Request, most: u32) -> Result<Option<Staged>, AllocError> {
     let Some(shape) = shape_of(request.net().splitters() as usize) else {
         return Ok(None);
     };
@@ -271,13 +283,48 @@ pub fn find_stages(alloc: Global, request: &Request) -> Result<Option<Sketch>, A
     let Some(arranged) = arrange(alloc, &wiring, shape)? else {
         return Ok(None);
     };
-    let (rect, lines) = (request.rect(), lines_of(&arranged));
-    if rect.width < lines || !is_even(request, lines, &wiring.loops) {
+    let lines = lines_of(&arranged);
+    if !is_even(request, lines, &wiring.loops) {
         return Ok(None);
     }
-    match channels_of(alloc, request.tier(), lines as usize / 2, rect.height)? {
-        Some(channels) if wiring.loops.is_empty() => stack_of(alloc, request, &arranged, &channels),
-        Some(channels) => stack_with_loops(alloc, request, &arranged, &channels, &wiring.loops),
+    match channels_of(alloc, request.tier(), lines as usize / 2, most)? {
+        Some(channels) => Ok(Some(Staged {
+            arranged,
+            channels,
+            loops: wiring.loops,
+        })),
         None => Ok(None),
+    }
+}
+
+/// A plan of a butterfly or of a Benes network, of which a request asks nothing but that inputs are in the south and outputs
+/// in the north, or in rows, and some of whose outputs may be led back to inputs. None of other networks, or where the
+/// rectangle is too small.
+pub fn find_stages(alloc: Global, request: &Request) -> Result<Option<Sketch>, AllocError> {
+    let rect = request.rect();
+    if !goes_north(request) || !request.blocks().is_empty() {
+        return Ok(None);
+    }
+    match staged_of(alloc, request, rect.height)? {
+        Some(staged) if rect.width < lines_of(&staged.arranged) => Ok(None),
+        Some(staged) if staged.loops.is_empty() => stack_in(alloc, request.tier(), rect, &staged),
+        Some(staged) => stack_with_loops(alloc, request, &staged),
+        None => Ok(None),
+    }
+}
+
+/// A plan of a butterfly or of a Benes network without loops that goes to the north, in the least rectangle. None of other
+/// networks. Where a request wants ends isn't asked.
+pub fn find_upright(alloc: Global, request: &Request) -> Result<Option<LeastPlan>, AllocError> {
+    match staged_of(alloc, request, MOST_ACROSS)? {
+        Some(staged) if staged.loops.is_empty() => {
+            let rect = Rect {
+                width: lines_of(&staged.arranged),
+                height: staged.channels.rows_of(&staged.arranged),
+            };
+            let sketch = stack_in(alloc, request.tier(), rect, &staged)?;
+            Ok(sketch.map(|sketch| LeastPlan { rect, sketch }))
+        }
+        _ => Ok(None),
     }
 }

@@ -1,10 +1,9 @@
 //! Laying a window anew.
-use crate::board::Board;
 use crate::rules::{Draft, Scene, draft_of};
-use crate::tile::{BARE, Chain, Piece, Tile};
 use crate::window::{Fact, Term, Window};
 use bt_parts::{DIRS, Dir};
 use bt_random::Random;
+use hint_boards::{BARE, Board, Chain, Piece, Tile, aside};
 use hint_solver::{Answer, Literal};
 use std::alloc::{AllocError, Global};
 
@@ -101,7 +100,7 @@ impl Reading<'_> {
         let (place, dir) = match piece {
             Piece::Lesser(dir) => (place, dir),
             Piece::Greater(dir) => {
-                let back = crate::board::aside(dir).opposite();
+                let back = aside(dir).opposite();
                 (self.board.ahead(place, back)?, dir)
             }
             _ => return None,

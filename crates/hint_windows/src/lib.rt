@@ -4,17 +4,11 @@
 //! Nothing is claimed of what is found: whoever takes it tests it.
 #![tactic(auto)]
 
-mod board;
 mod laying;
 mod mending;
-mod own;
 mod rules;
-mod seam;
 mod shrinking;
-mod tile;
 mod window;
 
-pub use board::Plan;
-pub use own::{Own, own_of};
 pub use shrinking::{Narrowed, narrow};
 pub use std::alloc::AllocError as Memory;

@@ -1,8 +1,8 @@
 //! Mending what cutting out a seam has damaged.
-use crate::board::{Board, mark};
 use crate::laying::{Trial, put_tiles};
 use crate::window::around;
 use bt_random::Random;
+use hint_boards::{Board, mark};
 use std::alloc::{AllocError, Global};
 
 /// The most conflicts of a spot.

@@ -1,8 +1,7 @@
 //! The clauses of a window: what stands in it carries the chains that come there to where they leave.
-use crate::board::{Board, Joint, aside};
-use crate::tile::{Chain, Piece};
 use crate::window::{Fact, Term, Window};
 use bt_parts::{DIRS, Dir};
+use hint_boards::{Board, Chain, Joint, Piece, aside};
 use hint_solver::{Literal, Solver};
 use std::alloc::{AllocError, Global};
 

@@ -1,13 +1,10 @@
 //! Seams and windows by turns.
-use crate::board::{Board, Plan};
 use crate::laying::{Trial, filled, put_tiles};
 use crate::mending::mend;
-use crate::own::Own;
-use crate::seam::{seam, turned, without};
-use crate::tile::{BARE, Piece};
 use crate::window::mark_box;
 use bt_parts::Rect;
 use bt_random::Random;
+use hint_boards::{BARE, Board, Own, Piece, Plan, seam, turned, without};
 use std::alloc::{AllocError, Global};
 
 /// The least width and height of a window, and how many widths and heights it may have.

@@ -1,7 +1,6 @@
 //! What of a board may be laid anew, and the numbers of the facts that are open there.
-use crate::board::{Board, mark};
-use crate::tile::{Chain, Piece};
 use bt_parts::{DIRS, Dir};
+use hint_boards::{Board, Chain, Piece, aside, mark};
 use hint_solver::Literal;
 use std::alloc::{AllocError, Global};
 
@@ -83,8 +82,8 @@ fn may_move(board: &Board, marks: &[bool], place: usize) -> bool {
         return true;
     }
     let other = match tile.piece {
-        Piece::Lesser(dir) => board.ahead(place, crate::board::aside(dir)),
-        Piece::Greater(dir) => board.ahead(place, crate::board::aside(dir).opposite()),
+        Piece::Lesser(dir) => board.ahead(place, aside(dir)),
+        Piece::Greater(dir) => board.ahead(place, aside(dir).opposite()),
         _ => return true,
     };
     match other {
