@@ -1,6 +1,6 @@
-"""Tests of certified.py: certificates of a few proofs pass both checkers, and cut ones neither. The proofs are the logs of
-`layout`, without their hints, and where cadical is installed, cadical's. BELTPROOF_PROGRAM and CERTIFY_PROGRAM may name
-other programs than those of these sources."""
+"""Tests of certified.py: certificates of a few proofs pass both checkers, and cut ones neither. The proofs are the logs
+of `layout`, without their hints, and where cadical is installed, cadical's. BELTPROOF_PROGRAM and CERTIFY_PROGRAM may
+name other programs than those of these sources."""
 
 import contextlib
 import io

@@ -99,7 +99,8 @@ class CertifyTest(unittest.TestCase):
         self.assertTrue(self.certified(CUBE, "1 2 0\n1 -2 0\n1 0\n2 0\n0\n").endswith("end\n"))
 
     def test_takes_no_more_memory_than_it_may(self):
-        proofs = {"DRAT": b"1 2 0\n" * 4 * MEGABYTE, "LRAT": b"".join(b"%d 1 2 0 1 0\n" % n for n in range(5, MEGABYTE))}
+        numbered = b"".join(b"%d 1 2 0 1 0\n" % number for number in range(5, MEGABYTE))
+        proofs = {"DRAT": b"1 2 0\n" * 4 * MEGABYTE, "LRAT": numbered}
         bound = 256 * MEGABYTE
         with tempfile.TemporaryDirectory() as room:
             formula, proof = Path(room, "formula"), Path(room, "proof")
