@@ -1,14 +1,18 @@
-"""Tests of tools/certify and tools/least."""
+"""Tests of tools/certify and tools/least. BELTPROOF_PROGRAM and CERTIFY_PROGRAM may name other programs than those of
+these sources."""
 
 import importlib.machinery
 import importlib.util
 import io
+import os
+import resource
 import subprocess
 import tempfile
 import unittest
 from pathlib import Path
 
 TOOLS = Path(__file__).resolve().parent.parent
+EXAMPLES = TOOLS.parent / "examples"
 
 
 def tool(name):
@@ -22,6 +26,16 @@ def tool(name):
 certify, least = tool("certify"), tool("least")
 
 FORMULA = "c a comment\np cnf 2 4\n1 2 0\n-1 2 0\n1 -2 0\n-1 -2 0\n"
+# All clauses of three variables.
+CUBE = "p cnf 3 8\n" + "".join(f"{a}1 {b}2 {c}3 0\n" for a in ("", "-") for b in ("", "-") for c in ("", "-"))
+MEGABYTE = 1 << 20
+
+
+def program():
+    """The path of the program of these sources, or of the one that BELTPROOF_PROGRAM names."""
+    if told := os.environ.get("BELTPROOF_PROGRAM"):
+        return told
+    return subprocess.run([TOOLS / "program"], stdout=subprocess.PIPE, text=True, check=True).stdout.strip()
 
 
 class CertifyTest(unittest.TestCase):
@@ -51,6 +65,7 @@ class CertifyTest(unittest.TestCase):
             ("3 0\n", "step 1 is no clause"),
             ("5 1 0 -1 3 0\n", "line 1 isn't shown by propagation"),
             ("5 1 0 1 3 0\n", "the proof ends, and nothing false follows"),
+            ("5 1 0 1 3 0\n6 2 0 1", "line 2 is no step"),
             (b"a\x04\0a\0", "is a binary proof"),
         ):
             with self.subTest(proof=proof):
@@ -65,6 +80,43 @@ class CertifyTest(unittest.TestCase):
         self.assertEqual(str(caught.exception), "step 2 isn't shown by propagation")
         with self.assertRaises(certify.Refused):
             self.certified("no formula\n", "0\n")
+
+    def test_refuses_proofs_of_others_cut_ones_and_what_propagation_alone_does_not_show(self):
+        # Of the clauses of three variables the first literal is a RAT step, and the rest follows of it by propagation.
+        for formula, proof, reason in (
+            (CUBE, "2 0\n0\n", "step 2 isn't shown by propagation"),
+            ("p cnf 1 1\n1 0\n", "2 0\n0\n", "step 1 is no clause"),
+            (FORMULA, "2", "step 1 is no clause"),
+            (CUBE, "1 2 0\n1 ", "step 2 is no clause"),
+            (CUBE, "1 2 0\n", "the proof ends, and nothing false follows"),
+            (CUBE, "1 0\n2 0\n0\n", "step 1 isn't shown by propagation"),
+            (CUBE, "d 1 2 3 0\n1 2 0\n1 -2 0\n1 0\n2 0\n0\n", "step 2 isn't shown by propagation"),
+        ):
+            with self.subTest(proof=proof):
+                with self.assertRaises(certify.Refused) as caught:
+                    self.certified(formula, proof)
+                self.assertEqual(str(caught.exception), reason)
+        self.assertTrue(self.certified(CUBE, "1 2 0\n1 -2 0\n1 0\n2 0\n0\n").endswith("end\n"))
+
+    def test_takes_no_more_memory_than_it_may(self):
+        numbered = b"".join(b"%d 1 2 0 1 0\n" % number for number in range(5, MEGABYTE))
+        proofs = {"DRAT": b"1 2 0\n" * 4 * MEGABYTE, "LRAT": numbered}
+        bound = 256 * MEGABYTE
+        with tempfile.TemporaryDirectory() as room:
+            formula, proof = Path(room, "formula"), Path(room, "proof")
+            formula.write_text(FORMULA)
+            for kind, steps in proofs.items():
+                proof.write_bytes(steps)
+                ended = subprocess.run(
+                    [TOOLS / "certify", formula, proof],
+                    stdout=subprocess.DEVNULL,
+                    stderr=subprocess.PIPE,
+                    text=True,
+                    env={**os.environ, "CERTIFY_PROGRAM": certify.certify_program()},
+                    preexec_fn=lambda: resource.setrlimit(resource.RLIMIT_AS, (bound, bound)),
+                )
+                with self.subTest(kind=kind):
+                    self.assertEqual((ended.returncode, ended.stderr), (8, "tools/certify: memory is wanting\n"))
 
     def test_says_how_it_is_used(self):
         ended = subprocess.run([TOOLS / "certify"], stderr=subprocess.PIPE, text=True)
@@ -130,6 +182,57 @@ class LeastTest(unittest.TestCase):
             self.assertFalse(least.take_least(folder, {"1x2": blueprint}))
             self.assertTrue(least.take_least(folder, {"1x2": blueprint, "1x1": blueprint}))
             self.assertEqual((folder["grid"], folder.cells()), ("1x1", 1))
+
+    def least(self, *words):
+        """What the tool comes to, and what it writes and says."""
+        words = [TOOLS / "least", *words, "--program", program()]
+        env = {**os.environ, "CERTIFY_PROGRAM": certify.certify_program()}
+        ended = subprocess.run(words, stdout=subprocess.PIPE, stderr=subprocess.PIPE, text=True, env=env)
+        return ended.returncode, ended.stdout.strip(), ended.stderr
+
+    def test_searches_by_the_program_where_cadical_fails(self):
+        other = "for it; do last=$it; done; echo 99999 0 > $last; exit 20"
+        for script, reason in (
+            (None, "No such file or directory"),
+            ("kill -9 $$", "ended with -9"),
+            ("echo 'out of memory' >&2; exit 1", "ended with 1"),
+            ("exit 20", "tools/certify ended with 2"),
+            (other, "tools/certify ended with 3"),
+        ):
+            with self.subTest(script=script), tempfile.TemporaryDirectory() as room:
+                cadical = Path(room, "cadical")
+                if script:
+                    cadical.write_text(f"#!/bin/sh\n{script}\n")
+                    cadical.chmod(0o755)
+                words = (EXAMPLES / "chain-1-to-3.net", Path(room, "folder"), "--cadical", cadical, "--learnt", "500")
+                status, written, said = self.least(*words)
+                self.assertEqual((status, written), (0, "least: 10 cells, by 3 certificates"))
+                self.assertIn(f"{reason} on 2x4: the program searches" if "ended" in reason else reason, said)
+
+    def test_names_each_certificate_that_was_changed(self):
+        with tempfile.TemporaryDirectory() as room:
+            words = (EXAMPLES / "chain-1-to-3.net", room, "--without-cadical", "--learnt", "500")
+            self.assertEqual(self.least(*words)[:2], (0, "least: 10 cells, by 3 certificates"))
+            self.assertEqual(self.least("--again", room), (0, "least: 10 cells, by 3 certificates", ""))
+            changed = Path(room, "2x4.none")
+            whole = changed.read_text()
+            first, *_ = lines = whole.splitlines(keepends=True)
+            for text, said in (
+                (whole.replace("end\n", ""), "2x4: not accepted\n"),
+                ("".join([first, *lines[2:]]), "2x4: not accepted\n"),
+                (Path(room, "1x9.none").read_text(), "2x4: not accepted\n"),
+                ("", "2x4: not accepted\n"),
+                (None, "2x4: no certificate\n"),
+                (whole, ""),
+            ):
+                changed.unlink(missing_ok=True)
+                if text is not None:
+                    changed.write_text(text)
+                with self.subTest(text=text):
+                    self.assertEqual(self.least("--again", room)[::2], (0 if text == whole else 3, said))
+            layout = Path(room, "least-layout.json")
+            layout.write_text(layout.read_text().replace("splitter", "transport-belt"))
+            self.assertEqual(self.least("--again", room)[::2], (3, "the layout isn't one of the network in 2x5\n"))
 
 
 if __name__ == "__main__":
