@@ -2,7 +2,6 @@
 where none is found so with inputs and outputs at two sides, and then with ends anywhere."""
 
 import json
-import random
 import threading
 from dataclasses import dataclass, field
 from itertools import chain
@@ -24,13 +23,12 @@ WIDER, HIGHEST, ROOMY = 8, 40, 5
 times as many cells it has as the least in which a layout may be, where one is looked for first."""
 QUICKER = 8
 """How many times fewer steps a search takes where none was found yet."""
-GENEROUS = 33, 24, 20, 16
+GENEROUS = 12, 16, 20, 24, 33
 """How many tiles wide and high a square is in which one is looked for first: in the greatest nothing is searched, but
 what is proposed is tested."""
-DRAWN = 4
-"""In how many orders the ends stand that are drawn for a rectangle."""
-PINNED_STEPS = 1
-"""How many steps a search takes where each end has its cell: what is proposed is tested, and little more."""
+PROPOSED, LITTLE_SMALLER, NEAREST = 1, 0.85, 6
+"""How many steps a search takes at most where it is asked for what is proposed; how many times as many cells as the
+least layout so far a rectangle has then, and in how many that is asked."""
 SMALLER = 0.75
 """How many times as many cells as the least layout so far a rectangle has that is looked in first."""
 LEAST_CLOCK, CLOCK_TIMES = 20, 3
@@ -122,16 +120,14 @@ class Balancer:
 
     def looks(self, at, form):
         """What is still to be looked for of one of the networks, with its ends so, and as many steps as this round
-        has: in generous squares until one is found, then in any lesser one, and then in rectangles."""
+        has: what is proposed in generous squares until one is found, and then in lesser rectangles; then any lesser
+        one; and then rectangles that are searched."""
         laid, steps = self.laid[at], self.steps_each(form)
-        if not self.is_found(form):
-            first = self.first(laid, form)
-        else:
-            first = [self.smallest(form, steps)] if form == "rows" or at == self.which else []
-        them = chain(first, (
-            it for size in self.rectangles(laid, form, steps) for it in self.within(laid, form, size, steps)
-        ))
-        return (it for it in them if laid.tried.get(it.told, 0) < it.steps)
+        proposed = [Look.within(it, form, PROPOSED) for it in self.proposed(laid, form)]
+        is_shrunk = self.is_found(form) and (form == "rows" or at == self.which)
+        any_lesser = [self.smallest(form, steps)] if is_shrunk else []
+        searched = (Look.within(it, form, steps) for it in self.rectangles(laid, form, steps))
+        return (it for it in chain(proposed, any_lesser, searched) if laid.tried.get(it.told, 0) < it.steps)
 
     def smallest(self, form, steps):
         """A search for any lesser layout: of one with its ends in rows from the network anew, and else in that which
@@ -139,32 +135,13 @@ class Balancer:
         words = {"rows": [], "sides": ["--sides"], "anywhere": []}[form]
         return Look(f"smallest {form}", ["smallest", "--found", *words], steps, FORMS[form], form == "rows")
 
-    def first(self, laid, form):
-        """Where a layout is looked for first: as wide as there are lines, and in generous squares."""
-        squares = [(it, it) for it in GENEROUS if it >= self.lines]
-        if form != "rows":
-            return (Look.within(it, form, FIRST_STEPS) for it in reversed(squares))
-        tall = Look.within((self.lines, HIGHEST), form, PINNED_STEPS)
-        return chain([tall], (look for it in squares for look in self.pinned(laid, it)))
-
-    def within(self, laid, form, size, steps):
-        """How a layout is looked for in a rectangle: in a roomy one with its ends in rows, first in drawn orders."""
-        is_roomy = size[0] * size[1] >= ROOMY * least_cells(laid)
-        if form == "rows" and is_roomy and self.is_found(form):
-            yield from self.pinned(laid, size)
-        yield Look.within(size, form, steps)
-
-    def pinned(self, laid, size):
-        """Searches with the ends side by side in the middle of the lower and the upper side, in orders that are drawn:
-        the router leads to cells that it is told."""
-        width, height = size
-        for number in range(DRAWN):
-            draw, lines = random.Random(f"{laid.network}{size}{number}"), []
-            for letter, count, row in (("i", self.inputs, height - 1), ("o", self.outputs, 0)):
-                order, first = draw.sample(range(count), count), (width - count) // 2
-                lines += [f"pin {letter}{end} {first + at} {row} north" for at, end in enumerate(order)]
-            words = ["layout", "--grid", f"{width}x{height}"]
-            yield Look(f"{width}x{height} pinned {number}", words, PINNED_STEPS, lines, True)
+    def proposed(self, laid, form):
+        """Where what the router and the stages propose is tested: as wide as there are lines and in generous squares,
+        and where one was found in the rectangles that are a little smaller."""
+        if not self.is_found(form):
+            return [(self.lines, HIGHEST), *((it, it) for it in GENEROUS if it >= self.lines)]
+        them = self.rectangles(laid, form, MOST_STEPS + 2)
+        return sorted(them, key=lambda it: abs(it[0] * it[1] - LITTLE_SMALLER * self.cells) + apart(it))[:NEAREST]
 
     def rectangles(self, laid, form, steps):
         """The rectangles that are still to be looked in for this network: where one was found, all with fewer cells,
