@@ -197,7 +197,7 @@ def lay(maker, them, balancer):
         write(maker.folder, maker.program, them)
     size = "no layout yet"
     if balancer.size:
-        size = f"{'{} x {}'.format(*balancer.size)}, {files.counted(balancer.cells, 'cell')}, ends {told_of(balancer)}"
+        size = f"{'{} x {}'.format(*balancer.size)}, {files.counted(balancer.cells, 'cell')}, {told_of(balancer)}"
     say(f"{balancer.name}: {size} ({balancer.seconds:.1f} s)")
 
 

@@ -176,8 +176,8 @@ class Kept(Case):
                 xs, ys = sorted(x for x, _ in cells), {y for _, y in cells}
                 at_border = ys == {border(y for part in parts for _, y in part.cells)}
                 side_by_side = xs == list(range(xs[0], xs[0] + len(xs)))
-                ends = "in rows" if at_border and side_by_side else "at two sides" if at_border else "anywhere"
-                self.assertIn(line.split(" | ")[4], (ends, "anywhere"), label)
+                ends = ["rows"] * (at_border and side_by_side) + ["sides"] * at_border + ["anywhere"]
+                self.assertIn(line.split(" | ")[4], ends, label)
 
 
 class Mirrored(Case):
