@@ -1,7 +1,8 @@
 """The command balancers: a book of balancers, each built, laid out with its ends side by side, and proved.
 
 It asks the program for a network of each kind (`build`), decides it, and lays it out in smaller and smaller rectangles,
-in rounds of more and more steps, until the time for each is spent. What is known stands in a record, so it stops and
+in rounds of more and more steps, until the time for each is spent; where no layout with its ends side by side is found,
+with inputs and outputs at two sides, and then with ends anywhere. What is known stands in a record, so it stops and
 goes on; after each round the book is written anew. The report of the book is that of bin/collection, with all
 certificates."""
 
@@ -14,7 +15,9 @@ from pathlib import Path
 
 from . import files, inputs, report, running, strings
 from .answers import Limits
-from .built import FIRST_STEPS, KINDS, MOST_STEPS, TIMES_STEPS, Balancer, Laid, Maker, Unbuilt, is_least, labelled, same
+from .built import (
+    FIRST_STEPS, KINDS, MOST_STEPS, TIMES_STEPS, Balancer, Laid, Maker, Unbuilt, is_least, is_over, labelled, same
+)
 from .command import ENDED_WELL, FAILED, STOPPED, at_least, listed
 from .program import NoProgram, find
 from .rows import Row
@@ -28,7 +31,7 @@ MOST_KEPT = 1_000_000
 MOST_LINES = 8
 """Of how many inputs and outputs a balancer of the book is at most."""
 RECORD, BOOK, BOOK_JSON, TABLE = "balancers.json", "book.txt", "book.json", "table.tsv"
-COLUMNS = "kind inputs outputs splitters width height cells least".split()
+COLUMNS = "kind inputs outputs splitters width height cells ends least".split()
 
 
 def read(folder, program):
@@ -72,6 +75,7 @@ def line_of(balancer):
         laid.splitters if laid else "none known",
         *size,
         balancer.cells or "",
+        balancer.form if balancer.size else "",
         told,
     ]
 
@@ -82,7 +86,8 @@ def book_of(them):
     blueprints = []
     for at, it in enumerate(them):
         laid = it.laid[it.which]
-        described = words["described"].format(it.says(), files.counted(laid.splitters, "splitter"), *it.size)
+        stands = words["forms"][it.form]["says"]
+        described = words["described"].format(it.says(), files.counted(laid.splitters, "splitter"), *it.size, stands)
         blueprints.append({**json.loads(labelled(it.blueprint, it.name, description=described)), "index": at})
     return {"blueprint_book": {
         "item": "blueprint-book", "label": words["label"], "blueprints": blueprints, "active_index": 0
@@ -101,7 +106,7 @@ def words_of(arguments):
         prog="balancers",
         allow_abbrev=False,
         description="Makes a book of balancers: each built, laid out with inputs side by side at the south and outputs "
-        "at the north, and proved. Stopped and started again, it goes on.",
+        "at the north where such a layout is found, and proved. Stopped and started again, it goes on.",
     )
     parser.add_argument("-o", "--output", metavar="FOLDER", required=True, help="where the book and its report go")
     parser.add_argument("--most", type=at_least(1), default=MOST_LINES, help="of how many inputs and outputs at most")
@@ -109,6 +114,7 @@ def words_of(arguments):
     parser.add_argument("--kinds", type=listed(KINDS), default=list(KINDS), help=told)
     told = "how many seconds of a processor are spent on the layouts of each balancer, those of before counted"
     parser.add_argument("--seconds", type=at_least(0, float), default=60, help=told)
+    parser.add_argument("--jobs", type=at_least(1), default=2, help="how many balancers are laid out at once")
     parser.add_argument("--keep", metavar="FOLDER", help="puts the book, its table and its certificates there too")
     parser.add_argument("--program", metavar="FILE", help="the program to run, in place of that of bin/beltproof")
     return parser.parse_args(arguments)
@@ -154,8 +160,8 @@ def make(asked, program):
                 say(f"{it.name}: {count_of(it)}")
                 write(folder, program, them)
         mark_other(them)
-        lay_all(maker, folder, program, them, of_kind, FIRST_STEPS)
-    lay_all(maker, folder, program, them, own, MOST_STEPS)
+        lay_all(maker, asked.jobs, them, of_kind, FIRST_STEPS)
+    lay_all(maker, asked.jobs, them, own, MOST_STEPS)
     write(folder, program, them)
     return [it for it in them if it.laid and it.is_other]
 
@@ -167,22 +173,37 @@ def count_of(balancer):
     return f"{files.counted(len(balancer.laid), 'network')} of {files.counted(balancer.laid[0].splitters, 'splitter')}"
 
 
-def lay_all(maker, folder, program, them, wanted_, most_steps):
-    """Lays out these balancers, in rounds of up to so many steps, until their time is spent or no rectangle is left;
-    those of few splitters first."""
+def lay_all(maker, jobs, them, wanted_, most_steps):
+    """Lays out these balancers, so many at once, in rounds of up to so many steps, until their time is spent or nothing
+    better is left; those of few splitters first."""
     steps = FIRST_STEPS
     while steps <= most_steps:
-        left = [it for it in wanted_ if it.laid and it.is_other and it.seconds < maker.seconds and not is_least(it)]
+        left = [it for it in wanted_ if it.laid and it.is_other and it.seconds < maker.seconds and not is_over(it)]
         if not left:
             return
-        for it in sorted(left, key=lambda it: it.laid[0].splitters):
-            if it.steps > steps:
-                continue
-            maker.lay(it, maker.seconds)
-            write(folder, program, them)
-            size = "{} x {}, {}".format(*it.size, files.counted(it.cells, "cell")) if it.size else "no layout yet"
-            say(f"{it.name}: {size} ({it.seconds:.1f} s)")
+        tasks = [
+            (it.name, (lay, maker, them, it))
+            for it in sorted(left, key=lambda it: it.laid[0].splitters)
+            if it.steps <= steps
+        ]
+        running.run_all(tasks, jobs, maker.program)
         steps *= TIMES_STEPS
+
+
+def lay(maker, them, balancer):
+    """Lays out a balancer for a round, and writes all anew."""
+    maker.lay(balancer, maker.seconds)
+    with maker.guard:
+        write(maker.folder, maker.program, them)
+    size = "no layout yet"
+    if balancer.size:
+        size = f"{'{} x {}'.format(*balancer.size)}, {files.counted(balancer.cells, 'cell')}, {told_of(balancer)}"
+    say(f"{balancer.name}: {size} ({balancer.seconds:.1f} s)")
+
+
+def told_of(balancer):
+    """How the ends of its layout stand, in words."""
+    return OF_BOOK["forms"][balancer.form]["told"]
 
 
 def markdown(book, shown):
@@ -194,7 +215,8 @@ def markdown(book, shown):
         size = "{} x {}".format(*it.size)
         yes = [prop for prop in PROPERTIES if row and row.answer(prop).verdict == "yes"]
         least = OF_BOOK["least"] if is_least(it) else ""
-        lines.append(f"| {it.name} | {laid.splitters} | {size} | {it.cells} | {least} | {', '.join(yes)} |")
+        told = [it.name, laid.splitters, size, it.cells, told_of(it), least, ", ".join(yes)]
+        lines.append(f"| {' | '.join(map(str, told))} |")
     return "\n".join([*OF_BOOK["page"], "", *OF_BOOK["head"], *lines]) + "\n"
 
 

@@ -1,16 +1,21 @@
-"""Balancers that the program builds, each laid out with its ends side by side in smaller and smaller rectangles."""
+"""Balancers that the program builds, each laid out in smaller and smaller rectangles: with its ends side by side, and
+where none is found so with inputs and outputs at two sides, and then with ends anywhere."""
 
 import json
+import threading
 from dataclasses import dataclass, field
+from itertools import chain
 from pathlib import Path
 
 from . import networks, states
 from .files import UNDONE
 from .words import PROPERTIES, WORDS
-from .work import FACING, NOT_FOUND, request_of
+from .work import FACING, GRID, NOT_FOUND, request_of
 
 KINDS = WORDS["balancers"]["kinds"]
 """The kinds of balancers: of each the properties that it has, and what its label says of it."""
+FORMS = {"rows": FACING, "sides": FACING[:2], "anywhere": ()}
+"""How the ends of a layout may stand, the best first, and the lines of a request that ask for it."""
 FIRST_STEPS, TIMES_STEPS, MOST_STEPS = 2000, 4, 10**9
 """How many steps a search for a layout takes in the first round, and how many times as many in each one behind it."""
 WIDER, HIGHEST, ROOMY = 8, 40, 5
@@ -18,6 +23,12 @@ WIDER, HIGHEST, ROOMY = 8, 40, 5
 times as many cells it has as the least in which a layout may be, where one is looked for first."""
 QUICKER = 8
 """How many times fewer steps a search takes where none was found yet."""
+GENEROUS = 12, 16, 20, 24, 33
+"""How many tiles wide and high a square is in which one is looked for first: in the greatest nothing is searched, but
+what is proposed is tested."""
+PROPOSED, LITTLE_SMALLER, NEAREST = 1, 0.85, 6
+"""How many steps a search takes at most where it is asked for what is proposed; how many times as many cells as the
+least layout so far a rectangle has then, and in how many that is asked."""
 SMALLER = 0.75
 """How many times as many cells as the least layout so far a rectangle has that is looked in first."""
 LEAST_CLOCK, CLOCK_TIMES = 20, 3
@@ -69,6 +80,8 @@ class Balancer:
     steps: int = FIRST_STEPS
     seconds: float = 0.0
     size: list | None = None
+    form: str = "rows"
+    """How the ends of its least layout stand."""
     blueprint: str = ""
     which: int = 0
     """Which of the networks is laid out."""
@@ -92,26 +105,83 @@ class Balancer:
     def cells(self):
         return self.size[0] * self.size[1] if self.size else None
 
-    @property
-    def steps_each(self):
-        """How many steps a search takes now: fewer where none was found yet, so that more rectangles are looked in."""
-        return self.steps if self.size else max(1, self.steps // QUICKER)
+    def is_found(self, form):
+        """Whether its least layout has its ends so."""
+        return self.size is not None and self.form == form
 
-    def rectangles(self, laid):
+    def forms(self):
+        """How the ends may stand of a layout that is better than the least so far."""
+        forms = list(FORMS)
+        return forms[: forms.index(self.form) + 1] if self.size else forms
+
+    def steps_each(self, form):
+        """How many steps a search takes now: fewer where none was found yet, so that more rectangles are looked in."""
+        return self.steps if self.is_found(form) else max(1, self.steps // QUICKER)
+
+    def looks(self, at, form):
+        """What is still to be looked for of one of the networks, with its ends so, and as many steps as this round
+        has: what is proposed in generous squares until one is found, and then in lesser rectangles; then any lesser
+        one; and then rectangles that are searched."""
+        laid, steps = self.laid[at], self.steps_each(form)
+        proposed = [Look.within(it, form, PROPOSED) for it in self.proposed(laid, form)]
+        is_shrunk = self.is_found(form) and (form == "rows" or at == self.which)
+        any_lesser = [self.smallest(form, steps)] if is_shrunk else []
+        searched = (Look.within(it, form, steps) for it in self.rectangles(laid, form, steps))
+        return (it for it in chain(proposed, any_lesser, searched) if laid.tried.get(it.told, 0) < it.steps)
+
+    def smallest(self, form, steps):
+        """A search for any lesser layout: of one with its ends in rows from the network anew, and else in that which
+        is known."""
+        words = {"rows": [], "sides": ["--sides"], "anywhere": []}[form]
+        return Look(f"smallest {form}", ["smallest", "--found", *words], steps, FORMS[form], form == "rows")
+
+    def proposed(self, laid, form):
+        """Where what the router and the stages propose is tested: as wide as there are lines and in generous squares,
+        and where one was found in the rectangles that are a little smaller."""
+        if not self.is_found(form):
+            return [(self.lines, HIGHEST), *((it, it) for it in GENEROUS if it >= self.lines)]
+        them = self.rectangles(laid, form, MOST_STEPS + 2)
+        return sorted(them, key=lambda it: abs(it[0] * it[1] - LITTLE_SMALLER * self.cells) + apart(it))[:NEAREST]
+
+    def rectangles(self, laid, form, steps):
         """The rectangles that are still to be looked in for this network: where one was found, all with fewer cells,
         those first that are a good deal smaller; and else roomy ones first."""
-        least, most = least_cells(laid), self.cells
+        least, most = least_cells(laid), self.cells if self.is_found(form) else None
+        narrowest = self.lines if form == "rows" else 1
         if most:
             them = (
-                (width, height) for width in range(self.lines, most) for height in range(1, (most - 1) // width + 1)
+                (width, height) for width in range(narrowest, most) for height in range(1, (most - 1) // width + 1)
             )
         else:
             them = ((self.lines + wider, height) for wider in range(WIDER + 1) for height in range(1, HIGHEST + 1))
         them = [it for it in them if it[0] * it[1] >= least]
-        left = [it for it in them if laid.tried.get("{}x{}".format(*it), 0) < self.steps_each]
+        left = [it for it in them if laid.tried.get(told_of(it, form), 0) < steps]
         if most:
             return sorted(left, key=lambda it: (abs(it[0] * it[1] - SMALLER * most), apart(it)))
         return sorted(left, key=lambda it: growing(it, self.lines, least))
+
+
+@dataclass(frozen=True)
+class Look:
+    """A search for a layout: how the record tells of it, the words for the program, how many steps it may take, the
+    lines of its request, and whether the network is read, and not the layout that is known."""
+
+    told: str
+    words: list
+    steps: int
+    lines: list
+    is_anew: bool
+
+    @staticmethod
+    def within(size, form, steps):
+        """The search in a rectangle."""
+        return Look(told_of(size, form), ["layout", "--grid", "{}x{}".format(*size)], steps, FORMS[form], True)
+
+
+def told_of(size, form):
+    """How the record tells of a rectangle."""
+    grid = "{}x{}".format(*size)
+    return grid if form == "rows" else f"{grid} {form}"
 
 
 def least_cells(laid):
@@ -137,11 +207,13 @@ class Maker:
 
     def __init__(self, program, folder, seconds):
         self.program, self.folder, self.seconds = program, Path(folder), seconds
+        self.guard = threading.Lock()
+        """Held where a balancer is changed, and where all are read."""
 
     def ask(self, words, text="", seconds=None):
         """A run of the program: its status, or none where its time by the clock was up, what it wrote, and how many
         seconds of a processor it took."""
-        out = self.folder / f"answer{UNDONE}"
+        out = self.folder / f"answer-{threading.get_ident()}{UNDONE}"
         try:
             with open(out, "wb") as file:
                 ended = self.program.run(words, [text.encode()], file, seconds)
@@ -184,37 +256,64 @@ class Maker:
         return text and mirrored(text)
 
     def lay(self, balancer, most):
-        """Looks for smaller layouts of a balancer's networks, of each by turns, with as many steps as its round has,
-        until so many seconds are spent on it in all; whether the round came to its end."""
-        while any(balancer.rectangles(it) for it in balancer.laid):
-            for at, laid in enumerate(balancer.laid):
-                left, them = most - balancer.seconds, balancer.rectangles(laid)
-                if left <= 0:
-                    return False
-                if them:
-                    self.look(balancer, at, request_of(laid.network, FACING), them[0], left)
+        """Looks for smaller layouts of a balancer's networks, with as many steps as its round has, until so many
+        seconds are spent on it in all: with its ends in rows, and where none is found so in half of what is left of
+        the time, at two sides, and then anywhere. Whether there is time left, and anything to look for."""
+        for form in balancer.forms():
+            left = most - balancer.seconds
+            is_last = form == "anywhere" or balancer.is_found(form)
+            self.lay_so(balancer, form, balancer.seconds + (left if is_last else left / 2))
+            if balancer.is_found(form):
+                break
+        is_over = balancer.seconds >= most or balancer.steps >= MOST_STEPS
         balancer.steps = min(MOST_STEPS, balancer.steps * TIMES_STEPS)
-        return True
+        return not is_over
 
-    def look(self, balancer, at, request, rectangle, seconds):
-        """Looks for a layout in a rectangle, and keeps it where one is found, which has fewer cells than any before."""
-        grid = "{}x{}".format(*rectangle)
-        steps = balancer.steps_each
-        words = ["layout", "--grid", grid, "--learnt", str(steps)]
-        status, text, took = self.ask(words, request, max(LEAST_CLOCK, CLOCK_TIMES * seconds))
-        balancer.seconds = round(balancer.seconds + took, 3)
+    def lay_so(self, balancer, form, until):
+        """Looks for smaller layouts with the ends so, of each network by turns, until so many seconds are spent."""
+        is_any = True
+        while is_any:
+            is_any = False
+            for at in range(len(balancer.laid)):
+                if balancer.seconds >= until:
+                    return
+                look = next(balancer.looks(at, form), None)
+                if look:
+                    is_any = True
+                    self.look(balancer, at, form, look, until - balancer.seconds)
+
+    def look(self, balancer, at, form, look, seconds):
+        """Looks for a layout, and keeps it where one is found, which is better than any before."""
         laid = balancer.laid[at]
-        if status == 0 and not self.shows(text, laid):
+        text = request_of(laid.network, look.lines) if look.is_anew else balancer.blueprint
+        words = [*look.words, "--learnt", str(look.steps)]
+        status, text, took = self.ask(words, text, max(LEAST_CLOCK, CLOCK_TIMES * seconds))
+        size, blueprint = read_laid(look, text) if status == 0 else (None, "")
+        if status == 0 and not self.shows(blueprint, laid):
             raise Unbuilt(f"{balancer.inputs} to {balancer.outputs}: what was laid out is no layout of it")
-        if status == 0:
-            balancer.size, balancer.blueprint, balancer.which = list(rectangle), text.strip(), at
-        # Where one was found or there is none, more steps change nothing.
-        laid.tried[grid] = MOST_STEPS + 1 if status in (0, 1) else steps
+        with self.guard:
+            balancer.seconds = round(balancer.seconds + took, 3)
+            if size and (not balancer.is_found(form) or size[0] * size[1] < balancer.cells):
+                balancer.size, balancer.form, balancer.blueprint, balancer.which = size, form, blueprint, at
+            # Where one was found or there is none, more steps change nothing.
+            is_settled = status in (0, 1) and look.words[0] == "layout"
+            laid.tried[look.told] = MOST_STEPS + 1 if is_settled else look.steps
 
     def shows(self, text, laid):
         """Whether a blueprint shows a network with these numbers of all, as the program reads it."""
         status, found, _ = self.ask(["recover"], text)
         return status == 0 and same(found, laid.network)
+
+
+def read_laid(look, text):
+    """The size and the blueprint of what was found."""
+    if look.words[0] == "layout":
+        return [int(it) for it in look.words[2].split("x")], text.strip()
+    head, _, blueprint = text.partition("\n")
+    found = GRID.fullmatch(head.encode())
+    if found is None:
+        raise Unbuilt(f"the program wrote no size of a grid: {head[:80]!r}")
+    return [int(it) for it in found.groups()], blueprint.strip()
 
 
 def turned(wish):
@@ -241,13 +340,13 @@ def same(one, other):
 
 
 def designed(maker, wish, inputs_, outputs):
-    """A balancer with these properties as a design: its blueprint where a layout with its ends side by side was found
-    in the maker's time, and else the text of its network."""
+    """A balancer with these properties as a design: its blueprint where a layout was found in the maker's time, best
+    with its ends side by side, and else the text of its network."""
     text = maker.built(wish, inputs_, outputs)
     if text is None:
         raise Unbuilt(f"no balancer from {inputs_} to {outputs} is known that is {', '.join(wish)}")
     one = Balancer("", inputs_, outputs, [Laid(text)], True)
-    while maker.lay(one, maker.seconds) and not is_least(one):
+    while maker.lay(one, maker.seconds) and not is_over(one):
         pass
     return labelled(one.blueprint, f"{inputs_} to {outputs}") if one.size else text
 
@@ -262,11 +361,12 @@ def labelled(text, label, **more):
 
 def is_least(balancer):
     """Whether the program has certified of each rectangle with fewer cells that holds the lines that there is no layout
-    of any of these networks in it."""
+    of any of these networks in it, with the ends as those of the least are."""
     if not balancer.size:
         return False
-    steps, balancer.steps = balancer.steps, MOST_STEPS + 1
-    try:
-        return not any(balancer.rectangles(it) for it in balancer.laid)
-    finally:
-        balancer.steps = steps
+    return not any(balancer.rectangles(it, balancer.form, MOST_STEPS + 1) for it in balancer.laid)
+
+
+def is_over(balancer):
+    """Whether nothing better is left to be looked for."""
+    return is_least(balancer) and balancer.form == "rows"

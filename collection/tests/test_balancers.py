@@ -27,7 +27,7 @@ case "$1 $2 $3 $4" in
       'net 1 1 0') printf '%s\\n' '{belt}' ;;
       *) printf 'none\\nend\\n'; exit 1 ;;
     esac ;;
-  layout*) printf 'spent 7\\nend\\n'; exit 4 ;;
+  layout* | smallest*) printf 'spent 7\\nend\\n'; exit 4 ;;
   recover*) case $first in *'"y":9'*) printf '{two}' ;; *) printf '{one}' ;; esac ;;
   check*) echo "yes $2" ;;
   *) printf 'yes %s\\nr 0 1 0\\nend\\n' "$2" ;;
@@ -44,7 +44,7 @@ class Made(Case):
         return path
 
     def make(self, *more):
-        words = [str(it) for it in ("-o", self.report, "--program", self.program(), "--seconds", "5", *more)]
+        words = [str(it) for it in ("-o", self.report, "--program", self.program(), "--seconds", "2", *more)]
         with contextlib.redirect_stdout(io.StringIO()), contextlib.redirect_stderr(io.StringIO()):
             return balancers.main(words)
 
@@ -58,9 +58,9 @@ class Made(Case):
         head, *lines = [it.split("\t") for it in (self.report / "table.tsv").read_text().splitlines()]
         told = {tuple(it[:3]): it[3:] for it in lines}
         self.assertEqual(head, balancers.COLUMNS)
-        self.assertEqual(told["balanced", "1", "1"], ["0", "1", "1", "1", "none smaller"])
+        self.assertEqual(told["balanced", "1", "1"], ["0", "1", "1", "1", "rows", "none smaller"])
         self.assertEqual(told["balanced", "1", "2"][0], "none known")
-        self.assertEqual(told["balanced", "2", "2"], ["0", "", "", "", ""])
+        self.assertEqual(told["balanced", "2", "2"], ["0", "", "", "", "", ""])
         self.assertNotIn(("unlimited", "1", "1"), told)
         table = (self.report / "report" / "results.tsv").read_text()
         self.assertEqual(table.count("\tyes\t"), 2 * len(PROPERTIES))
@@ -101,6 +101,46 @@ class Made(Case):
                 run("--build", *wish, *words)
 
 
+class Asked(built.Maker):
+    """A program that lays out two belts, in 16x16, in 4x2 by `smallest` and nowhere else, where the ends may stand so;
+    each run takes half a second."""
+
+    def __init__(self, forms):
+        super().__init__(None, "", 0)
+        self.forms = forms
+
+    def ask(self, words, text="", seconds=None):
+        if words[0] == "recover":
+            return 0, TWO, 0
+        form = "rows" if "row " in text else "sides" if "side " in text or "--sides" in words else "anywhere"
+        if form in self.forms and words[0] == "smallest":
+            return 0, "grid 4x2\n{}\n", 0.5
+        return (0, "{}\n", 0.5) if form in self.forms and "16x16" in words else (4, "spent 7\nend\n", 0.5)
+
+
+class Ended(Case):
+    def laid(self, *forms, before=None):
+        balancer = before or built.Balancer("balanced", 2, 2, [built.Laid(TWO)], True)
+        Asked(forms).lay(balancer, balancer.seconds + 40)
+        return balancer
+
+    def test_ends_stand_in_rows_where_that_is_found_and_else_at_sides_and_else_anywhere(self):
+        for forms in (["rows", "sides", "anywhere"], ["sides", "anywhere"], ["anywhere"]):
+            it = self.laid(*forms)
+            self.assertEqual((it.form, it.size), (forms[0], [4, 2]))
+            self.assertLessEqual(it.seconds, 40.5)
+        self.assertIsNone(self.laid().size)
+
+    def test_rows_are_better_than_fewer_cells(self):
+        it = self.laid("anywhere")
+        it.size, it.steps = [2, 1], built.FIRST_STEPS
+        it.laid[0].tried.clear()
+        self.laid("rows", before=it)
+        self.assertEqual((it.form, it.size), ("rows", [4, 2]))
+        self.laid("sides", before=it)
+        self.assertEqual((it.form, it.size), ("rows", [4, 2]))
+
+
 class Kept(Case):
     def told(self, *words, text):
         return subprocess.run(
@@ -117,7 +157,7 @@ class Kept(Case):
             text = path.with_suffix(".net").read_text() + path.read_text()
             self.assertEqual(self.told("check", prop, text=text), f"yes {prop}\n", path.name)
 
-    def test_each_design_of_the_book_of_examples_is_its_network_with_its_ends_in_a_row(self):
+    def test_each_design_of_the_book_of_examples_is_its_network_with_its_ends_as_the_table_says(self):
         folder = EXAMPLES / "balancers"
         book = json.loads(strings.inflate((folder / "book.txt").read_text()))["blueprint_book"]["blueprints"]
         rows = [
@@ -134,11 +174,10 @@ class Kept(Case):
             for halves, border in ((network.inputs, max), (network.outputs, min)):
                 cells = [parts[half.part].cells[half.half] for half in halves]
                 xs, ys = sorted(x for x, _ in cells), {y for _, y in cells}
-                self.assertEqual(
-                    (xs, ys),
-                    (list(range(xs[0], xs[0] + len(xs))), {border(y for part in parts for _, y in part.cells)}),
-                    label,
-                )
+                at_border = ys == {border(y for part in parts for _, y in part.cells)}
+                side_by_side = xs == list(range(xs[0], xs[0] + len(xs)))
+                ends = ["rows"] * (at_border and side_by_side) + ["sides"] * at_border + ["anywhere"]
+                self.assertIn(line.split(" | ")[4], ends, label)
 
 
 class Mirrored(Case):

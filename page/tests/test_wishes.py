@@ -42,6 +42,10 @@ class Wishes(unittest.TestCase):
             self.assertEqual(words, maker.words)
             self.assertEqual(name, built.Balancer(kind, inputs, outputs).name)
 
+    def test_no_kind_is_named_twice(self):
+        for name, kind in built.KINDS.items():
+            self.assertNotIn(f"{kind['label']}:", kind["says"], name)
+
 
 if __name__ == "__main__":
     unittest.main()
