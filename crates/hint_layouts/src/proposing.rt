@@ -2,6 +2,7 @@
 use crate::framed::{find_framed, routed};
 use crate::naming::{Proposal, name_sketch};
 use bt_model::Request;
+use bt_net::Demand;
 use hint_placement::{Sketch, find_sketch};
 use hint_stages::find_stages;
 use std::alloc::{AllocError, Global};
@@ -14,10 +15,29 @@ fn may_route(request: &Request) -> bool {
     routed(request, request.rect()) <= MOST_ROUTED
 }
 
+/// Whether a request wants ends in a row.
+fn wants_rows(request: &Request) -> bool {
+    for demand in request.demands() {
+        if let Demand::Row(_) = demand {
+            return true;
+        }
+    }
+    false
+}
+
+/// A plan that takes no search: stage by stage, or, where ends are to stand in a row, by ranks.
+fn soon_sketch(alloc: Global, request: &Request) -> Result<Option<Sketch>, AllocError> {
+    let staged = find_stages(alloc, request)?;
+    if staged.is_some() || !wants_rows(request) {
+        return Ok(staged);
+    }
+    ranked_sketch(alloc, request)
+}
+
 /// Parts with names that may lay a butterfly or a Benes network, in ascending order of y and then x of their cells, stage by
-/// stage. Of other networks it says at once that it has none.
+/// stage, or, where ends are to stand in a row, another network by ranks. Else it says at once that it has none.
 pub fn propose_stages(alloc: Global, request: &Request) -> Result<Option<Proposal>, AllocError> {
-    match find_stages(alloc, request)? {
+    match soon_sketch(alloc, request)? {
         Some(sketch) => name_sketch(alloc, request, &sketch),
         None => Ok(None),
     }

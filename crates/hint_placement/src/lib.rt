@@ -10,6 +10,7 @@ mod lines;
 mod ordering;
 mod seats;
 mod sketching;
+mod spans;
 
 pub use sketching::{Sketch, find_sketch};
 pub use std::alloc::AllocError as Memory;

@@ -3,11 +3,12 @@ use crate::climbing::moved;
 use crate::lines::View;
 use crate::ordering::{Rows, orders, ranked};
 use crate::seats::stands_of;
+use crate::spans::spans_of;
 use bt_model::Request;
 use bt_parts::{Cell, DIRS, Dir, Kind, Part, Tier};
 use bt_random::Random;
 use hint_numbering::{Numbered, goes_north, number_by_structure};
-use hint_routing::{Chain, Effort, Negotiated, Stand, Step, negotiate};
+use hint_routing::{Chain, Effort, Negotiated, Places, Spans, Stand, Step, negotiate};
 use std::alloc::{AllocError, Global};
 
 /// How often splitters are placed at most.
@@ -119,6 +120,13 @@ fn splitters_of(
     Ok(splitters)
 }
 
+/// Where splitters stand, and ends that are side by side.
+#[derive(Drop)]
+struct Placing {
+    stands: Vec<Stand>,
+    spans: Spans,
+}
+
 /// What placing splitters came to so far.
 #[derive(Drop)]
 struct Progress {
@@ -126,7 +134,7 @@ struct Progress {
     left: u32,
     /// The least number of claims that were shared, and where the splitters stood.
     shared: usize,
-    stands: Vec<Stand>,
+    placing: Placing,
 }
 
 /// The plan in which the splitters stand so, where no chains share a claim. Else they may be the best so far.
@@ -135,25 +143,29 @@ fn sketch_with(
     request: &Request,
     network: &Numbered,
     progress: &mut Progress,
-    stands: Vec<Stand>,
+    placing: Placing,
 ) -> Result<Option<Sketch>, AllocError> {
     let tier = request.tier();
+    let places = Places {
+        stands: &placing.stands,
+        spans: placing.spans,
+    };
     match negotiate(
         alloc,
         request,
         &network.edges,
-        &stands,
+        places,
         EFFORT,
         &mut progress.left,
     )? {
         Negotiated::Settled(chains) => Ok(Some(Sketch {
-            splitters: splitters_of(alloc, tier, &network.splitters, &stands)?,
+            splitters: splitters_of(alloc, tier, &network.splitters, &placing.stands)?,
             others: others_of(alloc, tier, &chains)?,
         })),
         Negotiated::Shared(shared) => {
             if shared <= progress.shared {
                 progress.shared = shared;
-                progress.stands = stands;
+                progress.placing = placing;
             }
             Ok(None)
         }
@@ -197,7 +209,10 @@ fn sketch_by(
     let moves = if goes_north(request) { seed } else { seed / 4 };
     let splitters = network.splitters.len();
     match stands_of(alloc, request, view, rows, splitters, moves)? {
-        Some(stands) => sketch_with(alloc, request, network, progress, stands),
+        Some(stands) => {
+            let spans = spans_of(request, view, moves);
+            sketch_with(alloc, request, network, progress, Placing { stands, spans })
+        }
         None => Ok(None),
     }
 }
@@ -237,11 +252,14 @@ fn sketch_by_moves(
 ) -> Result<Option<Sketch>, AllocError> {
     let mut random = Random::new(FIRST_STATE);
     for _ in 0..MOVES {
-        if progress.left == 0 || progress.stands.is_empty() {
+        if progress.left == 0 || progress.placing.stands.is_empty() {
             break;
         }
-        let stands = moved(alloc, request, &progress.stands, &mut random)?;
-        let found = sketch_with(alloc, request, network, progress, stands)?;
+        let next = Placing {
+            stands: moved(alloc, request, &progress.placing.stands, &mut random)?,
+            spans: progress.placing.spans,
+        };
+        let found = sketch_with(alloc, request, network, progress, next)?;
         if found.is_some() {
             return Ok(found);
         }
@@ -259,7 +277,10 @@ fn sketch_of(
     let mut progress = Progress {
         left: MOST_CHAINS,
         shared: usize::MAX,
-        stands: Vec::new(alloc),
+        placing: Placing {
+            stands: Vec::new(alloc),
+            spans: Spans::none(),
+        },
     };
     let found = sketch_by_seeds(alloc, request, network, orders, &mut progress)?;
     if found.is_some() {

@@ -247,11 +247,8 @@ fn go_on(
 }
 
 /// Ends a chain in the pose of this number, where it may end there and no other chain is cheaper. Whether it may end there.
-fn end_at(search: &mut Search, ledger: &Ledger, ends: &Ends, number: usize) -> bool {
-    let Some(ending) = ends.endings.get(number) else {
-        return false;
-    };
-    let Some(price) = ending_price(ledger, *ending) else {
+fn end_at(search: &mut Search, ledger: &Ledger, ends: &Ends, pose: Pose, number: usize) -> bool {
+    let Some(price) = ending_price(ledger, ends.endings.at(pose)) else {
         return false;
     };
     let cost = search.cost(number).saturating_add(price);
@@ -288,8 +285,8 @@ fn turn(
     if is_over(search, cost) {
         return Ok(false);
     }
-    if cost == search.cost(number) && !end_at(search, ledger, ends, number) {
-        if let Some(pose) = poses.get(number) {
+    if let Some(pose) = poses.get(number) {
+        if cost == search.cost(number) && !end_at(search, ledger, ends, *pose, number) {
             go_on(search, ledger, *pose, number, reach)?;
         }
     }
@@ -367,15 +364,15 @@ fn chain_to(
     alloc: Global,
     search: &Search,
     ledger: &Ledger,
-    ends: &Ends,
+    ending: Ending,
     last: usize,
 ) -> Result<Chain, AllocError> {
     let mut chain = Chain {
         steps: Vec::new(alloc),
         claims: Vec::new(alloc),
     };
-    if let Some(Ending::Into(half)) = ends.endings.get(last) {
-        push_claim(&mut chain.claims, ledger, Some(Claim::Into(*half)))?;
+    if let Ending::Into(half) = ending {
+        push_claim(&mut chain.claims, ledger, Some(Claim::Into(half)))?;
     }
     trace(&mut chain, search, ledger, last)?;
     Ok(chain)
@@ -397,8 +394,12 @@ pub fn cheapest(
             break;
         }
     }
-    match search.best {
-        Some((_, last)) => Ok(Some(chain_to(alloc, &search, ledger, ends, last)?)),
-        None => Ok(None),
-    }
+    let Some((_, last)) = search.best else {
+        return Ok(None);
+    };
+    let ending = match poses.get(last) {
+        Some(pose) => ends.endings.at(*pose),
+        None => Ending::Never,
+    };
+    Ok(Some(chain_to(alloc, &search, ledger, ending, last)?))
 }

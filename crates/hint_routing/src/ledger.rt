@@ -26,6 +26,9 @@ const BELOW_PRICE: u64 = 5;
 /// What an underground piece costs beside its cell.
 pub const PIECE_PRICE: u64 = 2;
 
+/// What a cell costs at first on which an end is to stand.
+const RESERVED_PRICE: u64 = 100;
+
 /// How much each chain too many adds to the history of a claim, of which 10 double its price.
 const HISTORY_STEP: u64 = 7;
 
@@ -121,6 +124,14 @@ impl Ledger {
         let number = self.number(claim);
         if let Some(share) = self.shares.get_mut(number) {
             share.is_closed = true;
+        }
+    }
+
+    /// Makes a claim dear for all chains.
+    pub fn reserve(&mut self, claim: Claim) {
+        let number = self.number(claim);
+        if let Some(share) = self.shares.get_mut(number) {
+            share.base = RESERVED_PRICE;
         }
     }
 
