@@ -8,6 +8,7 @@
 mod climbing;
 mod lines;
 mod ordering;
+mod seating;
 mod seats;
 mod sketching;
 mod spans;

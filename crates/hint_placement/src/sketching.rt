@@ -2,9 +2,10 @@
 use crate::climbing::moved;
 use crate::lines::View;
 use crate::ordering::{Rows, orders, ranked};
+use crate::seating::{Seats, seated};
 use crate::seats::stands_of;
-use crate::spans::spans_of;
-use bt_model::Request;
+use crate::spans::{spans_of, wants_rows};
+use bt_model::{MOST_ACROSS, Request};
 use bt_parts::{Cell, DIRS, Dir, Kind, Part, Tier};
 use bt_random::Random;
 use hint_numbering::{Numbered, goes_north, number_by_structure};
@@ -34,6 +35,12 @@ const FIRST_STATE: u64 = 5;
 
 /// A plan is looked for only where there are so many cells for each splitter.
 const LEAST_ROOM: u64 = 8;
+
+/// How many percent more seats there are than splitters, by turns.
+const SPARE: [usize; 3] = [30, 0, 70];
+
+/// In rectangles of no more cells splitters are placed by ranks alone.
+const SMALL: u64 = 256;
 
 /// A plan of a layout.
 #[derive(Drop)]
@@ -193,6 +200,97 @@ fn order_of(orders: &[Rows], seed: usize) -> Option<&Rows> {
     orders.get((seed / 4) % orders.len().max(1))
 }
 
+/// Where splitters are placed by ranks for a seed, where there is room.
+fn placed_by_ranks(
+    alloc: Global,
+    request: &Request,
+    orders: &[Rows],
+    splitters: usize,
+    seed: usize,
+) -> Result<Option<Placing>, AllocError> {
+    let Some(rows) = order_of(orders, seed) else {
+        return Ok(None);
+    };
+    let view = view_of(request, seed);
+    let moves = if goes_north(request) { seed } else { seed / 4 };
+    let placed = stands_of(alloc, request, view, rows, splitters, moves)?;
+    let spans = spans_of(request, view, moves);
+    match placed {
+        Some(stands) => Ok(Some(Placing { stands, spans })),
+        None => Ok(None),
+    }
+}
+
+/// The side of the least square of so many cells.
+fn side_of(cells: usize) -> usize {
+    let mut side = 1usize;
+    for _ in 0..MOST_ACROSS {
+        if side.saturating_mul(side) >= cells {
+            break;
+        }
+        side = side.saturating_add(1);
+    }
+    side
+}
+
+/// The seats of a seed: in about as many lines as make them as far apart both ways, or some more or fewer.
+fn seats_of(view: View, splitters: usize, seed: usize) -> Option<Seats> {
+    let spare = SPARE.get(seed % SPARE.len()).copied().unwrap_or(0);
+    let high = splitters.saturating_mul(view.along()) / view.across().max(1);
+    let lines = side_of(high);
+    let other = seed / SPARE.len() % 4;
+    let lines = if other < 2 {
+        lines.saturating_add(other)
+    } else {
+        lines.saturating_sub(other).saturating_add(1)
+    };
+    Seats::new(view, splitters, lines, spare)
+}
+
+/// Where splitters are placed on seats for a seed, where there are some.
+fn placed_on_seats(
+    alloc: Global,
+    request: &Request,
+    network: &Numbered,
+    seed: usize,
+) -> Result<Option<Placing>, AllocError> {
+    let view = view_of(request, seed);
+    let spans = spans_of(request, view, seed / 4);
+    let splitters = network.splitters.len();
+    match seats_of(view, splitters, seed) {
+        Some(seats) => Ok(Some(Placing {
+            stands: seated(alloc, &network.edges, splitters, seats, spans, seed)?,
+            spans,
+        })),
+        None => Ok(None),
+    }
+}
+
+/// Whether splitters are placed on seats by turns: where a request asks for ends in a row, or the rectangle isn't small.
+fn may_be_seated(request: &Request) -> bool {
+    let rect = request.rect();
+    let cells = u64::from(rect.width).saturating_mul(u64::from(rect.height));
+    cells > SMALL || wants_rows(request)
+}
+
+/// Where splitters are placed for a seed, where there is room.
+fn placed(
+    alloc: Global,
+    request: &Request,
+    network: &Numbered,
+    orders: &[Rows],
+    seed: usize,
+) -> Result<Option<Placing>, AllocError> {
+    let splitters = network.splitters.len();
+    if !may_be_seated(request) {
+        placed_by_ranks(alloc, request, orders, splitters, seed)
+    } else if seed % 2 == 0 {
+        placed_by_ranks(alloc, request, orders, splitters, seed / 2)
+    } else {
+        placed_on_seats(alloc, request, network, seed / 2)
+    }
+}
+
 /// The plan of a seed, where one is found.
 fn sketch_by(
     alloc: Global,
@@ -202,17 +300,8 @@ fn sketch_by(
     progress: &mut Progress,
     seed: usize,
 ) -> Result<Option<Sketch>, AllocError> {
-    let Some(rows) = order_of(orders, seed) else {
-        return Ok(None);
-    };
-    let view = view_of(request, seed);
-    let moves = if goes_north(request) { seed } else { seed / 4 };
-    let splitters = network.splitters.len();
-    match stands_of(alloc, request, view, rows, splitters, moves)? {
-        Some(stands) => {
-            let spans = spans_of(request, view, moves);
-            sketch_with(alloc, request, network, progress, Placing { stands, spans })
-        }
+    match placed(alloc, request, network, orders, seed)? {
+        Some(placing) => sketch_with(alloc, request, network, progress, placing),
         None => Ok(None),
     }
 }

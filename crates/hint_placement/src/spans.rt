@@ -19,6 +19,11 @@ fn wants_row(request: &Request, kind: EndKind) -> bool {
     false
 }
 
+/// Whether a request wants ends in a row.
+pub fn wants_rows(request: &Request) -> bool {
+    wants_row(request, EndKind::Inputs) || wants_row(request, EndKind::Outputs)
+}
+
 /// How many ends of this kind a request has.
 fn count_of(request: &Request, kind: EndKind) -> u32 {
     match kind {

@@ -209,6 +209,11 @@ fn leaves_from(span: Span, pose: Pose) -> bool {
     pose.dir == span.dir && span.covers(back(pose))
 }
 
+/// How many steps there are from one cell to another.
+fn steps_between(one: Cell, other: Cell) -> u64 {
+    u64::from(one.x.abs_diff(other.x)).saturating_add(u64::from(one.y.abs_diff(other.y)))
+}
+
 impl Endings {
     /// Whether a chain may end in a pose.
     pub fn at(self, pose: Pose) -> Ending {
@@ -217,6 +222,15 @@ impl Endings {
             Endings::Halves(stand) => into_half(stand, pose),
             Endings::Border(rect, wanted) => free_where(may_leave(rect, wanted, pose)),
             Endings::Span(span) => free_where(leaves_from(span, pose)),
+        }
+    }
+
+    /// How many cells a chain has at least to go from a cell on until it may end.
+    pub fn distance(self, cell: Cell) -> u64 {
+        match self {
+            Endings::Nowhere | Endings::Border(..) => 0,
+            Endings::Halves(stand) => steps_between(stand.cell, cell).saturating_sub(1),
+            Endings::Span(span) => span.distance(cell),
         }
     }
 }

@@ -46,6 +46,12 @@ impl Span {
         across == 0 && along >= 0 && along.unsigned_abs() < self.count
     }
 
+    /// How many cells there are at least between a cell and the line of the span.
+    pub(crate) fn distance(self, cell: Cell) -> u64 {
+        let (_, across) = self.offset(cell);
+        u64::from(across.unsigned_abs()).saturating_sub(1)
+    }
+
     /// Whether a chain that comes to a pose is an end here.
     pub(crate) fn has(self, pose: Pose) -> bool {
         pose.dir == self.dir && self.covers(pose.cell)
