@@ -7,8 +7,8 @@ use hint_placement::{Sketch, find_sketch};
 use hint_stages::find_stages;
 use std::alloc::{AllocError, Global};
 
-/// A router is asked only where edges times cells are at most so many: it keeps some bytes for each edge and cell.
-const MOST_ROUTED: u64 = 1 << 20;
+/// A router is asked only where edges times cells are at most so many: beyond, it takes a minute.
+const MOST_ROUTED: u64 = 1 << 23;
 
 /// Whether a router may be asked.
 fn may_route(request: &Request) -> bool {

@@ -15,11 +15,14 @@ use std::alloc::{AllocError, Global};
 /// How often splitters are placed at most.
 const SEEDS: usize = 400;
 
-/// How many chains are laid at most, but for those of the last placing.
+/// How many chains are laid at most in a small rectangle, but for those of the last placing.
 const MOST_CHAINS: u32 = 40_000;
 
-/// How many of them are kept for moves of the best placing.
-const CLIMBING_CHAINS: u32 = 30_000;
+/// In rectangles of no more cells splitters are placed by ranks alone, unless ends are to stand in a row.
+const SMALL: u32 = 256;
+
+/// In rectangles of more cells splitters are placed on seats alone: the ranks of large networks have too many of them.
+const NARROW: u32 = 1024;
 
 /// How many moves are tried at most.
 const MOVES: usize = 4096;
@@ -38,9 +41,6 @@ const LEAST_ROOM: u64 = 8;
 
 /// How many percent more seats there are than splitters, by turns.
 const SPARE: [usize; 3] = [30, 0, 70];
-
-/// In rectangles of no more cells splitters are placed by ranks alone.
-const SMALL: u64 = 256;
 
 /// A plan of a layout.
 #[derive(Drop)]
@@ -137,8 +137,9 @@ struct Placing {
 /// What placing splitters came to so far.
 #[derive(Drop)]
 struct Progress {
-    /// How many chains may still be laid.
+    /// How many chains may still be laid, and how many of them are kept for moves of the best placing.
     left: u32,
+    climbing: u32,
     /// The least number of claims that were shared, and where the splitters stood.
     shared: usize,
     placing: Placing,
@@ -266,11 +267,23 @@ fn placed_on_seats(
     }
 }
 
-/// Whether splitters are placed on seats by turns: where a request asks for ends in a row, or the rectangle isn't small.
-fn may_be_seated(request: &Request) -> bool {
+/// How many cells the rectangle of a request has.
+fn cells_of(request: &Request) -> u32 {
     let rect = request.rect();
-    let cells = u64::from(rect.width).saturating_mul(u64::from(rect.height));
-    cells > SMALL || wants_rows(request)
+    rect.width.saturating_mul(rect.height)
+}
+
+/// How many chains are laid at most: the more cells there are, the longer one takes.
+fn chains_of(request: &Request) -> u32 {
+    let more = cells_of(request).saturating_sub(SMALL);
+    let all = u64::from(MOST_CHAINS).saturating_mul(u64::from(NARROW));
+    let chains = all / u64::from(NARROW.saturating_add(more)).max(1);
+    chains.min(u64::from(MOST_CHAINS)) as u32
+}
+
+/// Whether splitters are placed on seats: where a request asks for ends in a row, or the rectangle isn't small.
+fn may_be_seated(request: &Request) -> bool {
+    cells_of(request) > SMALL || wants_rows(request)
 }
 
 /// Where splitters are placed for a seed, where there is room.
@@ -284,6 +297,8 @@ fn placed(
     let splitters = network.splitters.len();
     if !may_be_seated(request) {
         placed_by_ranks(alloc, request, orders, splitters, seed)
+    } else if cells_of(request) > NARROW {
+        placed_on_seats(alloc, request, network, seed)
     } else if seed % 2 == 0 {
         placed_by_ranks(alloc, request, orders, splitters, seed / 2)
     } else {
@@ -320,7 +335,7 @@ fn sketch_by_seeds(
         SEEDS
     };
     for seed in 0..seeds {
-        if progress.left <= CLIMBING_CHAINS {
+        if progress.left <= progress.climbing {
             break;
         }
         let found = sketch_by(alloc, request, network, orders, progress, seed)?;
@@ -363,8 +378,14 @@ fn sketch_of(
     network: &Numbered,
     orders: &[Rows],
 ) -> Result<Option<Sketch>, AllocError> {
+    let chains = chains_of(request);
     let mut progress = Progress {
-        left: MOST_CHAINS,
+        left: chains,
+        climbing: if may_be_seated(request) {
+            chains / 2
+        } else {
+            chains / 4 * 3
+        },
         shared: usize::MAX,
         placing: Placing {
             stands: Vec::new(alloc),
