@@ -14,4 +14,5 @@ mod sketching;
 mod spans;
 
 pub use sketching::{Sketch, find_sketch};
+pub use spans::{middle_spans, wants_rows};
 pub use std::alloc::AllocError as Memory;

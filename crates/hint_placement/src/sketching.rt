@@ -4,7 +4,7 @@ use crate::lines::View;
 use crate::ordering::{Rows, orders, ranked};
 use crate::seating::{Seats, seated};
 use crate::seats::stands_of;
-use crate::spans::{spans_of, wants_rows};
+use crate::spans::{spans_of, wants_rows, way_of};
 use bt_model::{MOST_ACROSS, Request};
 use bt_parts::{Cell, DIRS, Dir, Kind, Part, Tier};
 use bt_random::Random;
@@ -180,15 +180,20 @@ fn sketch_with(
     }
 }
 
-/// The view of a seed: all goes to the north where it may, or by turns in each direction.
+/// The direction of a seed: by turns each.
+fn turn_of(seed: usize) -> Dir {
+    match DIRS.get(seed % 4) {
+        Some(dir) => *dir,
+        None => Dir::North,
+    }
+}
+
+/// The view of a seed: all goes to the north where it may, or where ends in a row say, or by turns in each direction.
 fn view_of(request: &Request, seed: usize) -> View {
     let dir = if goes_north(request) {
         Dir::North
     } else {
-        match DIRS.get(seed % 4) {
-            Some(dir) => *dir,
-            None => Dir::North,
-        }
+        way_of(request).unwrap_or(turn_of(seed))
     };
     View {
         rect: request.rect(),

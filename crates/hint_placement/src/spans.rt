@@ -24,6 +24,14 @@ pub fn wants_rows(request: &Request) -> bool {
     wants_row(request, EndKind::Inputs) || wants_row(request, EndKind::Outputs)
 }
 
+/// The end of this kind with this number.
+fn end_of(kind: EndKind, number: u32) -> End {
+    match kind {
+        EndKind::Inputs => End::Input(number),
+        EndKind::Outputs => End::Output(number),
+    }
+}
+
 /// How many ends of this kind a request has.
 fn count_of(request: &Request, kind: EndKind) -> u32 {
     match kind {
@@ -32,15 +40,37 @@ fn count_of(request: &Request, kind: EndKind) -> u32 {
     }
 }
 
+/// The side at which ends of this kind are asked to stand, where one is.
+fn asked_side(request: &Request, kind: EndKind) -> Option<Dir> {
+    let mut side = None;
+    for number in 0..count_of(request, kind) {
+        if let Wanted::At(dir) = place_wanted(request, end_of(kind, number)) {
+            side = Some(dir);
+        }
+    }
+    side
+}
+
+/// Where a network goes whose ends a request wants in a row: to the side of the outputs, or away from that of the inputs.
+pub fn way_of(request: &Request) -> Option<Dir> {
+    if !wants_rows(request) {
+        return None;
+    }
+    match (
+        asked_side(request, EndKind::Outputs),
+        asked_side(request, EndKind::Inputs),
+    ) {
+        (Some(dir), _) => Some(dir),
+        (None, Some(dir)) => Some(dir.opposite()),
+        (None, None) => None,
+    }
+}
+
 /// The side at which all ends of this kind may stand: the one that is asked, or else this one. None where one is pinned.
 fn side_of(request: &Request, kind: EndKind, otherwise: Dir) -> Option<Dir> {
     let mut side = otherwise;
     for number in 0..count_of(request, kind) {
-        let end = match kind {
-            EndKind::Inputs => End::Input(number),
-            EndKind::Outputs => End::Output(number),
-        };
-        match place_wanted(request, end) {
+        match place_wanted(request, end_of(kind, number)) {
             Wanted::Anywhere => (),
             Wanted::At(dir) => side = dir,
             Wanted::On(..) => return None,
@@ -117,4 +147,13 @@ pub fn spans_of(request: &Request, view: View, seed: usize) -> Spans {
         inputs: span_of(request, inputs, view.dir.opposite(), &mut random, seed),
         outputs: span_of(request, outputs, view.dir, &mut random, seed),
     }
+}
+
+/// Where ends stand side by side that a request wants in a row, in the middle of their sides, where all goes to the north.
+pub fn middle_spans(request: &Request) -> Spans {
+    let view = View {
+        rect: request.rect(),
+        dir: Dir::North,
+    };
+    spans_of(request, view, 0)
 }

@@ -4,8 +4,8 @@ use bt_model::Request;
 use bt_net::Edge;
 use bt_parts::{Cell, Dir, Rect};
 use hint_numbering::joined;
-use hint_placement::Sketch;
-use hint_routing::{Chain, Effort, Negotiated, Places, Spans, Stand, negotiate};
+use hint_placement::{Sketch, middle_spans};
+use hint_routing::{Chain, Effort, Negotiated, Places, Stand, negotiate};
 use std::alloc::{AllocError, Global};
 
 /// How many chains may be laid.
@@ -146,7 +146,7 @@ pub fn lead_round(
     let mut left = MOST_CHAINS;
     let places = Places {
         stands: &stands,
-        spans: Spans::none(),
+        spans: middle_spans(request),
     };
     match negotiate(alloc, request, &edges, places, EFFORT, &mut left)? {
         Negotiated::Settled(chains) => Ok(Some(chains)),
