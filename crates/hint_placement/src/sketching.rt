@@ -36,8 +36,10 @@ const EFFORT: Effort = Effort {
 /// The state of the generator that moves splitters.
 const FIRST_STATE: u64 = 5;
 
-/// A plan is looked for only where there are so many cells for each splitter.
+/// A plan is looked for only where there are so many cells for each splitter; in rectangles that aren't narrow none was found
+/// with less than the second.
 const LEAST_ROOM: u64 = 8;
+const WIDE_ROOM: u64 = 20;
 
 /// How many percent more seats there are than splitters, by turns.
 const SPARE: [usize; 3] = [30, 0, 70];
@@ -406,9 +408,13 @@ fn sketch_of(
 
 /// Whether there is room for belts beside the splitters.
 fn has_room(request: &Request) -> bool {
-    let rect = request.rect();
-    let cells = u64::from(rect.width).saturating_mul(u64::from(rect.height));
-    cells >= u64::from(request.net().splitters()).saturating_mul(LEAST_ROOM)
+    let cells = cells_of(request);
+    let room = if cells > NARROW {
+        WIDE_ROOM
+    } else {
+        LEAST_ROOM
+    };
+    u64::from(cells) >= u64::from(request.net().splitters()).saturating_mul(room)
 }
 
 /// A plan of a layout of a request, where one is found.
