@@ -10,8 +10,8 @@ use std::alloc::{AllocError, Global};
 /// So many cells for each splitter are enough for the router, as a rule.
 const ROOM: u64 = 80;
 
-/// The router is asked in a part of a rectangle only where edges times cells are at most so many: so it takes up to 100 MB.
-const MOST_ROUTED: u64 = 1 << 21;
+/// The router is asked in a part of a rectangle only where edges times cells are at most so many: beyond, it takes a minute.
+const MOST_ROUTED: u64 = 1 << 23;
 
 /// The least side of the part of a rectangle in which a plan is looked for.
 const LEAST_SIDE: u32 = 16;
@@ -36,19 +36,19 @@ fn side_of(cells: u64) -> u32 {
     MOST_ACROSS
 }
 
-/// Whether a demand names no cells: a side alone.
-fn is_side(demand: &Demand) -> bool {
+/// Whether a demand names no cells: a side, or a row, which stays one where its ends go straight on.
+fn names_no_cells(demand: &Demand) -> bool {
     match demand {
-        Demand::Side(_) => true,
-        Demand::Pin(_) | Demand::Row(_) => false,
+        Demand::Side(_) | Demand::Row(_) => true,
+        Demand::Pin(_) => false,
     }
 }
 
 /// The part of a request's rectangle in which a plan is looked for, where it has less than half of the cells, and the request
-/// names no cells and no rows.
+/// names no cells.
 fn inner_of(request: &Request) -> Option<Rect> {
     let (net, rect) = (request.net(), request.rect());
-    let may_be_moved = request.blocks().is_empty() && request.demands().iter().all(is_side);
+    let may_be_moved = request.blocks().is_empty() && request.demands().iter().all(names_no_cells);
     let ends = net.inputs().max(net.outputs());
     let side = side_of(u64::from(net.splitters()).saturating_mul(ROOM));
     let side = side.max(LEAST_SIDE).max(ends.saturating_mul(2));

@@ -8,8 +8,11 @@
 mod climbing;
 mod lines;
 mod ordering;
+mod seating;
 mod seats;
 mod sketching;
+mod spans;
 
 pub use sketching::{Sketch, find_sketch};
+pub use spans::{middle_spans, wants_rows};
 pub use std::alloc::AllocError as Memory;

@@ -2,22 +2,27 @@
 use crate::climbing::moved;
 use crate::lines::View;
 use crate::ordering::{Rows, orders, ranked};
+use crate::seating::{Seats, seated};
 use crate::seats::stands_of;
-use bt_model::Request;
+use crate::spans::{spans_of, wants_rows, way_of};
+use bt_model::{MOST_ACROSS, Request};
 use bt_parts::{Cell, DIRS, Dir, Kind, Part, Tier};
 use bt_random::Random;
 use hint_numbering::{Numbered, goes_north, number_by_structure};
-use hint_routing::{Chain, Effort, Negotiated, Stand, Step, negotiate};
+use hint_routing::{Chain, Effort, Negotiated, Places, Spans, Stand, Step, negotiate};
 use std::alloc::{AllocError, Global};
 
 /// How often splitters are placed at most.
 const SEEDS: usize = 400;
 
-/// How many chains are laid at most, but for those of the last placing.
+/// How many chains are laid at most in a small rectangle, but for those of the last placing.
 const MOST_CHAINS: u32 = 40_000;
 
-/// How many of them are kept for moves of the best placing.
-const CLIMBING_CHAINS: u32 = 30_000;
+/// In rectangles of no more cells splitters are placed by ranks alone, unless ends are to stand in a row.
+const SMALL: u32 = 256;
+
+/// In rectangles of more cells splitters are placed on seats alone: the ranks of large networks have too many of them.
+const NARROW: u32 = 1024;
 
 /// How many moves are tried at most.
 const MOVES: usize = 4096;
@@ -31,8 +36,13 @@ const EFFORT: Effort = Effort {
 /// The state of the generator that moves splitters.
 const FIRST_STATE: u64 = 5;
 
-/// A plan is looked for only where there are so many cells for each splitter.
+/// A plan is looked for only where there are so many cells for each splitter; in rectangles that aren't narrow none was found
+/// with less than the second.
 const LEAST_ROOM: u64 = 8;
+const WIDE_ROOM: u64 = 20;
+
+/// How many percent more seats there are than splitters, by turns.
+const SPARE: [usize; 3] = [30, 0, 70];
 
 /// A plan of a layout.
 #[derive(Drop)]
@@ -119,14 +129,22 @@ fn splitters_of(
     Ok(splitters)
 }
 
+/// Where splitters stand, and ends that are side by side.
+#[derive(Drop)]
+struct Placing {
+    stands: Vec<Stand>,
+    spans: Spans,
+}
+
 /// What placing splitters came to so far.
 #[derive(Drop)]
 struct Progress {
-    /// How many chains may still be laid.
+    /// How many chains may still be laid, and how many of them are kept for moves of the best placing.
     left: u32,
+    climbing: u32,
     /// The least number of claims that were shared, and where the splitters stood.
     shared: usize,
-    stands: Vec<Stand>,
+    placing: Placing,
 }
 
 /// The plan in which the splitters stand so, where no chains share a claim. Else they may be the best so far.
@@ -135,40 +153,49 @@ fn sketch_with(
     request: &Request,
     network: &Numbered,
     progress: &mut Progress,
-    stands: Vec<Stand>,
+    placing: Placing,
 ) -> Result<Option<Sketch>, AllocError> {
     let tier = request.tier();
+    let places = Places {
+        stands: &placing.stands,
+        spans: placing.spans,
+    };
     match negotiate(
         alloc,
         request,
         &network.edges,
-        &stands,
+        places,
         EFFORT,
         &mut progress.left,
     )? {
         Negotiated::Settled(chains) => Ok(Some(Sketch {
-            splitters: splitters_of(alloc, tier, &network.splitters, &stands)?,
+            splitters: splitters_of(alloc, tier, &network.splitters, &placing.stands)?,
             others: others_of(alloc, tier, &chains)?,
         })),
         Negotiated::Shared(shared) => {
             if shared <= progress.shared {
                 progress.shared = shared;
-                progress.stands = stands;
+                progress.placing = placing;
             }
             Ok(None)
         }
     }
 }
 
-/// The view of a seed: all goes to the north where it may, or by turns in each direction.
+/// The direction of a seed: by turns each.
+fn turn_of(seed: usize) -> Dir {
+    match DIRS.get(seed % 4) {
+        Some(dir) => *dir,
+        None => Dir::North,
+    }
+}
+
+/// The view of a seed: all goes to the north where it may, or where ends in a row say, or by turns in each direction.
 fn view_of(request: &Request, seed: usize) -> View {
     let dir = if goes_north(request) {
         Dir::North
     } else {
-        match DIRS.get(seed % 4) {
-            Some(dir) => *dir,
-            None => Dir::North,
-        }
+        way_of(request).unwrap_or(turn_of(seed))
     };
     View {
         rect: request.rect(),
@@ -181,6 +208,111 @@ fn order_of(orders: &[Rows], seed: usize) -> Option<&Rows> {
     orders.get((seed / 4) % orders.len().max(1))
 }
 
+/// Where splitters are placed by ranks for a seed, where there is room.
+fn placed_by_ranks(
+    alloc: Global,
+    request: &Request,
+    orders: &[Rows],
+    splitters: usize,
+    seed: usize,
+) -> Result<Option<Placing>, AllocError> {
+    let Some(rows) = order_of(orders, seed) else {
+        return Ok(None);
+    };
+    let view = view_of(request, seed);
+    let moves = if goes_north(request) { seed } else { seed / 4 };
+    let placed = stands_of(alloc, request, view, rows, splitters, moves)?;
+    let spans = spans_of(request, view, moves);
+    match placed {
+        Some(stands) => Ok(Some(Placing { stands, spans })),
+        None => Ok(None),
+    }
+}
+
+/// The side of the least square of so many cells.
+fn side_of(cells: usize) -> usize {
+    let mut side = 1usize;
+    for _ in 0..MOST_ACROSS {
+        if side.saturating_mul(side) >= cells {
+            break;
+        }
+        side = side.saturating_add(1);
+    }
+    side
+}
+
+/// The seats of a seed: in about as many lines as make them as far apart both ways, or some more or fewer.
+fn seats_of(view: View, splitters: usize, seed: usize) -> Option<Seats> {
+    let spare = SPARE.get(seed % SPARE.len()).copied().unwrap_or(0);
+    let high = splitters.saturating_mul(view.along()) / view.across().max(1);
+    let lines = side_of(high);
+    let other = seed / SPARE.len() % 4;
+    let lines = if other < 2 {
+        lines.saturating_add(other)
+    } else {
+        lines.saturating_sub(other).saturating_add(1)
+    };
+    Seats::new(view, splitters, lines, spare)
+}
+
+/// Where splitters are placed on seats for a seed, where there are some.
+fn placed_on_seats(
+    alloc: Global,
+    request: &Request,
+    network: &Numbered,
+    seed: usize,
+) -> Result<Option<Placing>, AllocError> {
+    let view = view_of(request, seed);
+    let spans = spans_of(request, view, seed / 4);
+    let splitters = network.splitters.len();
+    match seats_of(view, splitters, seed) {
+        Some(seats) => Ok(Some(Placing {
+            stands: seated(alloc, &network.edges, splitters, seats, spans, seed)?,
+            spans,
+        })),
+        None => Ok(None),
+    }
+}
+
+/// How many cells the rectangle of a request has.
+fn cells_of(request: &Request) -> u32 {
+    let rect = request.rect();
+    rect.width.saturating_mul(rect.height)
+}
+
+/// How many chains are laid at most: the more cells there are, the longer one takes.
+fn chains_of(request: &Request) -> u32 {
+    let more = cells_of(request).saturating_sub(SMALL);
+    let all = u64::from(MOST_CHAINS).saturating_mul(u64::from(NARROW));
+    let chains = all / u64::from(NARROW.saturating_add(more)).max(1);
+    chains.min(u64::from(MOST_CHAINS)) as u32
+}
+
+/// Whether splitters are placed on seats: where a request asks for ends in a row, or the rectangle isn't small.
+fn may_be_seated(request: &Request) -> bool {
+    cells_of(request) > SMALL || wants_rows(request)
+}
+
+/// Where splitters are placed for a seed, where there is room.
+fn placed(
+    alloc: Global,
+    request: &Request,
+    network: &Numbered,
+    orders: &[Rows],
+    seed: usize,
+) -> Result<Option<Placing>, AllocError> {
+    let splitters = network.splitters.len();
+    if !may_be_seated(request) {
+        placed_by_ranks(alloc, request, orders, splitters, seed)
+    } else if cells_of(request) > NARROW {
+        placed_on_seats(alloc, request, network, seed)
+    } else if seed % 2 == 0 {
+        placed_by_ranks(alloc, request, orders, splitters, seed / 2)
+    } else {
+        placed_on_seats(alloc, request, network, seed / 2)
+    }
+}
+
 /// The plan of a seed, where one is found.
 fn sketch_by(
     alloc: Global,
@@ -190,14 +322,8 @@ fn sketch_by(
     progress: &mut Progress,
     seed: usize,
 ) -> Result<Option<Sketch>, AllocError> {
-    let Some(rows) = order_of(orders, seed) else {
-        return Ok(None);
-    };
-    let view = view_of(request, seed);
-    let moves = if goes_north(request) { seed } else { seed / 4 };
-    let splitters = network.splitters.len();
-    match stands_of(alloc, request, view, rows, splitters, moves)? {
-        Some(stands) => sketch_with(alloc, request, network, progress, stands),
+    match placed(alloc, request, network, orders, seed)? {
+        Some(placing) => sketch_with(alloc, request, network, progress, placing),
         None => Ok(None),
     }
 }
@@ -216,7 +342,7 @@ fn sketch_by_seeds(
         SEEDS
     };
     for seed in 0..seeds {
-        if progress.left <= CLIMBING_CHAINS {
+        if progress.left <= progress.climbing {
             break;
         }
         let found = sketch_by(alloc, request, network, orders, progress, seed)?;
@@ -237,11 +363,14 @@ fn sketch_by_moves(
 ) -> Result<Option<Sketch>, AllocError> {
     let mut random = Random::new(FIRST_STATE);
     for _ in 0..MOVES {
-        if progress.left == 0 || progress.stands.is_empty() {
+        if progress.left == 0 || progress.placing.stands.is_empty() {
             break;
         }
-        let stands = moved(alloc, request, &progress.stands, &mut random)?;
-        let found = sketch_with(alloc, request, network, progress, stands)?;
+        let next = Placing {
+            stands: moved(alloc, request, &progress.placing.stands, &mut random)?,
+            spans: progress.placing.spans,
+        };
+        let found = sketch_with(alloc, request, network, progress, next)?;
         if found.is_some() {
             return Ok(found);
         }
@@ -256,10 +385,19 @@ fn sketch_of(
     network: &Numbered,
     orders: &[Rows],
 ) -> Result<Option<Sketch>, AllocError> {
+    let chains = chains_of(request);
     let mut progress = Progress {
-        left: MOST_CHAINS,
+        left: chains,
+        climbing: if may_be_seated(request) {
+            chains / 2
+        } else {
+            chains / 4 * 3
+        },
         shared: usize::MAX,
-        stands: Vec::new(alloc),
+        placing: Placing {
+            stands: Vec::new(alloc),
+            spans: Spans::none(),
+        },
     };
     let found = sketch_by_seeds(alloc, request, network, orders, &mut progress)?;
     if found.is_some() {
@@ -270,9 +408,13 @@ fn sketch_of(
 
 /// Whether there is room for belts beside the splitters.
 fn has_room(request: &Request) -> bool {
-    let rect = request.rect();
-    let cells = u64::from(rect.width).saturating_mul(u64::from(rect.height));
-    cells >= u64::from(request.net().splitters()).saturating_mul(LEAST_ROOM)
+    let cells = cells_of(request);
+    let room = if cells > NARROW {
+        WIDE_ROOM
+    } else {
+        LEAST_ROOM
+    };
+    u64::from(cells) >= u64::from(request.net().splitters()).saturating_mul(room)
 }
 
 /// A plan of a layout of a request, where one is found.

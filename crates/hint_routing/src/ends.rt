@@ -1,6 +1,7 @@
 //! Where the chain of an edge may begin and end.
 use crate::ledger::Claim;
-use crate::poses::{Pose, pose_number, poses_of};
+use crate::poses::{Pose, poses_of};
+use crate::spans::{Span, Spans};
 use crate::stand::Stand;
 use bt_model::Request;
 use bt_net::{Edge, End, Start, Target};
@@ -27,11 +28,30 @@ pub enum Ending {
     Into(Cell),
 }
 
-/// Where the chain of an edge may begin, and for each pose whether it may end there.
+/// Where a chain may end.
+#[derive(Clone, Copy)]
+pub enum Endings {
+    Nowhere,
+    /// In either half of the splitter that stands so.
+    Halves(Stand),
+    /// Over the border of the rectangle, where an output may stand.
+    Border(Rect, Wanted),
+    /// On a cell of the span, from which it leaves the rectangle.
+    Span(Span),
+}
+
+/// Where the chain of an edge may begin and end.
 #[derive(Drop)]
 pub struct Ends {
     pub beginnings: Vec<Beginning>,
-    pub endings: Vec<Ending>,
+    pub endings: Endings,
+}
+
+/// Where splitters stand, each at its number, and where ends stand side by side.
+#[derive(Clone, Copy)]
+pub struct Places<'a> {
+    pub stands: &'a [Stand],
+    pub spans: Spans,
 }
 
 /// A rectangle with all poses in it and its margin.
@@ -69,6 +89,21 @@ fn beginning_of(rect: Rect, wanted: Wanted, pose: Pose) -> Option<Beginning> {
     } else {
         None
     }
+}
+
+/// Adds where an input may begin on a span.
+fn push_span(beginnings: &mut Vec<Beginning>, field: Field, span: Span) -> Result<(), AllocError> {
+    for pose in field.poses {
+        if span.has(*pose) && inside(&field.rect, pose.cell) {
+            beginnings.push(Beginning {
+                pose: *pose,
+                is_straight: true,
+                half: None,
+                empty: None,
+            })?;
+        }
+    }
+    Ok(())
 }
 
 /// Adds where an input may begin.
@@ -127,6 +162,20 @@ fn push_halves(
     push_half(beginnings, rect, stand, (second, first), is_only)
 }
 
+/// Where a chain may leave a splitter, where there is one.
+fn half_beginnings(
+    alloc: Global,
+    rect: Rect,
+    stand: Option<&Stand>,
+    is_only: bool,
+) -> Result<Vec<Beginning>, AllocError> {
+    let mut beginnings = Vec::new(alloc);
+    if let Some(stand) = stand {
+        push_halves(&mut beginnings, rect, *stand, is_only)?;
+    }
+    Ok(beginnings)
+}
+
 /// Whether an output may leave in a pose, which is over the border.
 fn may_leave(rect: Rect, wanted: Wanted, pose: Pose) -> bool {
     let last = back(pose);
@@ -141,33 +190,68 @@ fn may_leave(rect: Rect, wanted: Wanted, pose: Pose) -> bool {
     }
 }
 
-/// Where an output may leave.
-fn leaving_ends(alloc: Global, field: Field, wanted: Wanted) -> Result<Vec<Ending>, AllocError> {
-    let mut endings = Vec::new(alloc);
-    for pose in field.poses {
-        let ending = if may_leave(field.rect, wanted, *pose) {
-            Ending::Free
-        } else {
-            Ending::Never
-        };
-        endings.push(ending)?;
-    }
-    Ok(endings)
+/// A chain may end freely, where it may at all.
+fn free_where(may_end: bool) -> Ending {
+    if may_end { Ending::Free } else { Ending::Never }
 }
 
-/// Where a chain may come into a splitter.
-fn entering_ends(alloc: Global, field: Field, stand: Stand) -> Result<Vec<Ending>, AllocError> {
-    let mut endings = vec![in alloc; Ending::Never; field.poses.len()]?;
-    for half in &stand.halves() {
-        let pose = Pose {
-            cell: *half,
-            dir: stand.dir,
-        };
-        if let Some(ending) = endings.get_mut(pose_number(field.rect, pose)) {
-            *ending = Ending::Into(*half);
+/// Whether a chain may come into a splitter in a pose.
+fn into_half(stand: Stand, pose: Pose) -> Ending {
+    if pose.dir == stand.dir && stand.covers(pose.cell) {
+        Ending::Into(pose.cell)
+    } else {
+        Ending::Never
+    }
+}
+
+/// Whether an output leaves from a span in a pose, which is over the border.
+fn leaves_from(span: Span, pose: Pose) -> bool {
+    pose.dir == span.dir && span.covers(back(pose))
+}
+
+/// How many steps there are from one cell to another.
+fn steps_between(one: Cell, other: Cell) -> u64 {
+    u64::from(one.x.abs_diff(other.x)).saturating_add(u64::from(one.y.abs_diff(other.y)))
+}
+
+impl Endings {
+    /// Whether a chain may end in a pose.
+    pub fn at(self, pose: Pose) -> Ending {
+        match self {
+            Endings::Nowhere => Ending::Never,
+            Endings::Halves(stand) => into_half(stand, pose),
+            Endings::Border(rect, wanted) => free_where(may_leave(rect, wanted, pose)),
+            Endings::Span(span) => free_where(leaves_from(span, pose)),
         }
     }
-    Ok(endings)
+
+    /// How many cells a chain has at least to go from a cell on until it may end.
+    pub fn distance(self, cell: Cell) -> u64 {
+        match self {
+            Endings::Nowhere | Endings::Border(..) => 0,
+            Endings::Halves(stand) => steps_between(stand.cell, cell).saturating_sub(1),
+            Endings::Span(span) => span.distance(cell),
+        }
+    }
+}
+
+/// Where an input may begin.
+fn input_beginnings(
+    alloc: Global,
+    request: &Request,
+    field: Field,
+    span: Option<Span>,
+    input: u32,
+) -> Result<Vec<Beginning>, AllocError> {
+    let mut beginnings = Vec::new(alloc);
+    match span {
+        Some(span) => push_span(&mut beginnings, field, span)?,
+        None => {
+            let wanted = place_wanted(request, End::Input(input));
+            push_inputs(&mut beginnings, field, wanted)?;
+        }
+    }
+    Ok(beginnings)
 }
 
 /// Where the chain of an edge may begin.
@@ -176,40 +260,33 @@ fn beginnings_of(
     request: &Request,
     field: Field,
     edges: &[Edge],
-    stands: &[Stand],
+    places: Places,
     start: Start,
 ) -> Result<Vec<Beginning>, AllocError> {
-    let mut beginnings = Vec::new(alloc);
     match start {
-        Start::Input(input) => {
-            let wanted = place_wanted(request, End::Input(input));
-            push_inputs(&mut beginnings, field, wanted)?;
-        }
+        Start::Input(input) => input_beginnings(alloc, request, field, places.spans.inputs, input),
         Start::Split(splitter) => {
-            if let Some(stand) = stands.get(splitter as usize) {
-                let is_only = leaving(edges, splitter as usize) == 1;
-                push_halves(&mut beginnings, field.rect, *stand, is_only)?;
-            }
+            let is_only = leaving(edges, splitter as usize) == 1;
+            half_beginnings(
+                alloc,
+                field.rect,
+                places.stands.get(splitter as usize),
+                is_only,
+            )
         }
     }
-    Ok(beginnings)
 }
 
 /// Where the chain of an edge may end.
-fn endings_of(
-    alloc: Global,
-    request: &Request,
-    field: Field,
-    stands: &[Stand],
-    target: Target,
-) -> Result<Vec<Ending>, AllocError> {
-    match target {
-        Target::Output(output) => {
-            leaving_ends(alloc, field, place_wanted(request, End::Output(output)))
+fn endings_of(request: &Request, places: Places, target: Target) -> Endings {
+    match (target, places.spans.outputs) {
+        (Target::Output(_), Some(span)) => Endings::Span(span),
+        (Target::Output(output), None) => {
+            Endings::Border(request.rect(), place_wanted(request, End::Output(output)))
         }
-        Target::Split(splitter) => match stands.get(splitter as usize) {
-            Some(stand) => entering_ends(alloc, field, *stand),
-            None => Ok(Vec::new(alloc)),
+        (Target::Split(splitter), _) => match places.stands.get(splitter as usize) {
+            Some(stand) => Endings::Halves(*stand),
+            None => Endings::Nowhere,
         },
     }
 }
@@ -219,7 +296,7 @@ pub fn ends_of(
     alloc: Global,
     request: &Request,
     edges: &[Edge],
-    stands: &[Stand],
+    places: Places,
 ) -> Result<Vec<Ends>, AllocError> {
     let rect = request.rect();
     let poses = poses_of(alloc, rect)?;
@@ -230,8 +307,8 @@ pub fn ends_of(
     let mut ends = Vec::new(alloc);
     for edge in edges {
         ends.push(Ends {
-            beginnings: beginnings_of(alloc, request, field, edges, stands, edge.start)?,
-            endings: endings_of(alloc, request, field, stands, edge.target)?,
+            beginnings: beginnings_of(alloc, request, field, edges, places, edge.start)?,
+            endings: endings_of(request, places, edge.target),
         })?;
     }
     Ok(ends)

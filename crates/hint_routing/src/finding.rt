@@ -1,7 +1,7 @@
 //! The cheapest chain between the ends of an edge (Dijkstra's algorithm over poses).
 use crate::around::turns;
-use crate::ends::{Beginning, Ending, Ends};
-use crate::ledger::{Claim, Ledger, PIECE_PRICE};
+use crate::ends::{Beginning, Ending, Endings, Ends};
+use crate::ledger::{Claim, Ledger, PIECE_PRICE, step_price};
 use crate::poses::{Pose, pose_number};
 use bt_parts::{Cell, Dir, Rect, inside};
 use std::alloc::{AllocError, Global};
@@ -39,12 +39,39 @@ pub struct Chain {
     pub claims: Vec<usize>,
 }
 
+/// Where a search is to come, and what a step there costs at least: 0 where the search doesn't look for it.
+#[derive(Clone, Copy)]
+struct Aim {
+    endings: Endings,
+    price: u64,
+}
+
+/// Where a rectangle has more cells a search looks where it is to come (the A* algorithm of Hart, Nilsson and Raphael); where
+/// it has less, it finds all as soon without.
+const NARROW: u64 = 1024;
+
+impl Aim {
+    /// The aim of a search in a rectangle, with underground pairs of this reach.
+    fn new(rect: Rect, endings: Endings, reach: u32) -> Aim {
+        let cells = u64::from(rect.width).saturating_mul(u64::from(rect.height));
+        let price = if cells > NARROW { step_price(reach) } else { 0 };
+        Aim { endings, price }
+    }
+
+    /// What a chain costs at least from a cell on.
+    fn rest(self, cell: Cell) -> u64 {
+        self.price.saturating_mul(self.endings.distance(cell))
+    }
+}
+
 /// A search for a chain.
 #[derive(Drop)]
 struct Search {
     rect: Rect,
+    aim: Aim,
     labels: Vec<Label>,
-    /// The poses that are to be gone on from: the greatest number less the cost, and the pose's number.
+    /// The poses that are to be gone on from: the greatest number less what a chain through it costs at least, and the pose's
+    /// number.
     heap: BinaryHeap<(u64, usize)>,
     /// What the cheapest whole chain so far costs, and the number of the pose where it ends.
     best: Option<(u64, usize)>,
@@ -55,13 +82,14 @@ const MOST_TURNS: u32 = 1 << 16;
 
 impl Search {
     /// A search that has come to no pose of so many.
-    fn new(alloc: Global, rect: Rect, count: usize) -> Result<Search, AllocError> {
+    fn new(alloc: Global, rect: Rect, aim: Aim, count: usize) -> Result<Search, AllocError> {
         let label = Label {
             cost: u64::MAX,
             origin: Origin::Nowhere,
         };
         Ok(Search {
             rect,
+            aim,
             labels: vec![in alloc; label; count]?,
             heap: BinaryHeap::new(alloc),
             best: None,
@@ -93,7 +121,8 @@ impl Search {
         if let Some(label) = self.labels.get_mut(number) {
             *label = Label { cost, origin };
         }
-        self.heap.push((u64::MAX.saturating_sub(cost), number))?;
+        let whole = cost.saturating_add(self.aim.rest(pose.cell));
+        self.heap.push((u64::MAX.saturating_sub(whole), number))?;
         Ok(())
     }
 }
@@ -247,11 +276,8 @@ fn go_on(
 }
 
 /// Ends a chain in the pose of this number, where it may end there and no other chain is cheaper. Whether it may end there.
-fn end_at(search: &mut Search, ledger: &Ledger, ends: &Ends, number: usize) -> bool {
-    let Some(ending) = ends.endings.get(number) else {
-        return false;
-    };
-    let Some(price) = ending_price(ledger, *ending) else {
+fn end_at(search: &mut Search, ledger: &Ledger, ends: &Ends, pose: Pose, number: usize) -> bool {
+    let Some(price) = ending_price(ledger, ends.endings.at(pose)) else {
         return false;
     };
     let cost = search.cost(number).saturating_add(price);
@@ -284,12 +310,13 @@ fn turn(
     let Some((key, number)) = search.heap.pop() else {
         return Ok(false);
     };
-    let cost = u64::MAX.saturating_sub(key);
-    if is_over(search, cost) {
+    let whole = u64::MAX.saturating_sub(key);
+    if is_over(search, whole) {
         return Ok(false);
     }
-    if cost == search.cost(number) && !end_at(search, ledger, ends, number) {
-        if let Some(pose) = poses.get(number) {
+    if let Some(pose) = poses.get(number) {
+        let cost = whole.saturating_sub(search.aim.rest(pose.cell));
+        if cost == search.cost(number) && !end_at(search, ledger, ends, *pose, number) {
             go_on(search, ledger, *pose, number, reach)?;
         }
     }
@@ -367,15 +394,15 @@ fn chain_to(
     alloc: Global,
     search: &Search,
     ledger: &Ledger,
-    ends: &Ends,
+    ending: Ending,
     last: usize,
 ) -> Result<Chain, AllocError> {
     let mut chain = Chain {
         steps: Vec::new(alloc),
         claims: Vec::new(alloc),
     };
-    if let Some(Ending::Into(half)) = ends.endings.get(last) {
-        push_claim(&mut chain.claims, ledger, Some(Claim::Into(*half)))?;
+    if let Ending::Into(half) = ending {
+        push_claim(&mut chain.claims, ledger, Some(Claim::Into(half)))?;
     }
     trace(&mut chain, search, ledger, last)?;
     Ok(chain)
@@ -390,15 +417,20 @@ pub fn cheapest(
     ends: &Ends,
     reach: u32,
 ) -> Result<Option<Chain>, AllocError> {
-    let mut search = Search::new(alloc, rect, poses.len())?;
+    let aim = Aim::new(rect, ends.endings, reach);
+    let mut search = Search::new(alloc, rect, aim, poses.len())?;
     begin(&mut search, ledger, ends)?;
     for _ in 0..MOST_TURNS {
         if !turn(&mut search, ledger, poses, ends, reach)? {
             break;
         }
     }
-    match search.best {
-        Some((_, last)) => Ok(Some(chain_to(alloc, &search, ledger, ends, last)?)),
-        None => Ok(None),
-    }
+    let Some((_, last)) = search.best else {
+        return Ok(None);
+    };
+    let ending = match poses.get(last) {
+        Some(pose) => ends.endings.at(*pose),
+        None => Ending::Never,
+    };
+    Ok(Some(chain_to(alloc, &search, ledger, ending, last)?))
 }

@@ -26,6 +26,19 @@ const BELOW_PRICE: u64 = 5;
 /// What an underground piece costs beside its cell.
 pub const PIECE_PRICE: u64 = 2;
 
+/// What a cell costs at first on which an end is to stand.
+const RESERVED_PRICE: u64 = 100;
+
+/// What a chain costs at least for each cell that it goes on, with underground pairs of this reach: those of the most cells
+/// are the cheapest, with two pieces on the ground.
+pub fn step_price(reach: u32) -> u64 {
+    let pieces = GROUND_PRICE.saturating_add(PIECE_PRICE).saturating_mul(2);
+    let cells = u64::from(reach).saturating_add(2);
+    BELOW_PRICE
+        .saturating_add(pieces / cells.max(1))
+        .min(GROUND_PRICE)
+}
+
 /// How much each chain too many adds to the history of a claim, of which 10 double its price.
 const HISTORY_STEP: u64 = 7;
 
@@ -121,6 +134,14 @@ impl Ledger {
         let number = self.number(claim);
         if let Some(share) = self.shares.get_mut(number) {
             share.is_closed = true;
+        }
+    }
+
+    /// Makes a claim dear for all chains.
+    pub fn reserve(&mut self, claim: Claim) {
+        let number = self.number(claim);
+        if let Some(share) = self.shares.get_mut(number) {
+            share.base = RESERVED_PRICE;
         }
     }
 

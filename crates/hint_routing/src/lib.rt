@@ -9,10 +9,13 @@ mod finding;
 mod ledger;
 mod negotiating;
 mod poses;
+mod spans;
 mod stand;
 
 pub use around::is_upright;
+pub use ends::Places;
 pub use finding::{Chain, Step};
 pub use negotiating::{Effort, Negotiated, negotiate};
+pub use spans::{Span, Spans};
 pub use stand::Stand;
 pub use std::alloc::AllocError as Memory;

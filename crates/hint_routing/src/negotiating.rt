@@ -1,8 +1,9 @@
 //! Chains that negotiate for cells: each is laid anew at the prices of the day, until no two have the same.
-use crate::ends::{Ends, ends_of};
+use crate::ends::{Ends, Places, ends_of};
 use crate::finding::{Chain, cheapest};
 use crate::ledger::{Claim, Ledger};
 use crate::poses::{Pose, poses_of};
+use crate::spans::Spans;
 use crate::stand::Stand;
 use bt_model::Request;
 use bt_net::Edge;
@@ -73,22 +74,37 @@ fn close_blocks(ledger: &mut Ledger, request: &Request, poses: &[Pose]) {
     }
 }
 
+/// Makes the cells dear on which ends stand side by side: each chain that needs one takes one alone.
+fn reserve_spans(ledger: &mut Ledger, spans: Spans, poses: &[Pose]) {
+    for span in &[spans.inputs, spans.outputs] {
+        let Some(span) = span else {
+            continue;
+        };
+        for pose in poses {
+            if span.has(*pose) {
+                ledger.reserve(Claim::Ground(pose.cell));
+            }
+        }
+    }
+}
+
 /// The ledger before the first round.
 fn first_ledger(
     alloc: Global,
     request: &Request,
     edges: &[Edge],
-    stands: &[Stand],
+    places: Places,
     poses: &[Pose],
 ) -> Result<Ledger, AllocError> {
     let rect = request.rect();
     let mut ledger = Ledger::new(alloc, rect)?;
-    for (splitter, stand) in stands.iter().enumerate() {
+    for (splitter, stand) in places.stands.iter().enumerate() {
         close_stand(&mut ledger, rect, *stand, leaving(edges, splitter) == 0);
     }
     if !request.blocks().is_empty() {
         close_blocks(&mut ledger, request, poses);
     }
+    reserve_spans(&mut ledger, places.spans, poses);
     Ok(ledger)
 }
 
@@ -174,19 +190,19 @@ fn no_chains(alloc: Global, count: usize) -> Result<Vec<Option<Chain>>, AllocErr
     Ok(chains)
 }
 
-/// Lays chains for the edges of a network whose splitters stand so. How many chains are laid is taken from what is left.
+/// Lays chains for the edges of a network whose splitters and ends stand so. How many chains are laid is taken from what is left.
 pub fn negotiate(
     alloc: Global,
     request: &Request,
     edges: &[Edge],
-    stands: &[Stand],
+    places: Places,
     effort: Effort,
     left: &mut u32,
 ) -> Result<Negotiated, AllocError> {
     let rect = request.rect();
     let poses = poses_of(alloc, rect)?;
-    let ends = ends_of(alloc, request, edges, stands)?;
-    let mut ledger = first_ledger(alloc, request, edges, stands, &poses)?;
+    let ends = ends_of(alloc, request, edges, places)?;
+    let mut ledger = first_ledger(alloc, request, edges, places, &poses)?;
     let mut chains = no_chains(alloc, edges.len())?;
     let ground = Ground {
         rect,

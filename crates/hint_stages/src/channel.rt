@@ -9,7 +9,7 @@ use bt_model::{MOST_ACROSS, Request};
 use bt_net::{Admitted, Edge, Net, NetFault, read};
 use bt_parts::{Cell, Dir, Rect, Tier};
 use hint_numbering::joined;
-use hint_routing::{Effort, Negotiated, Stand, negotiate};
+use hint_routing::{Effort, Negotiated, Places, Spans, Stand, negotiate};
 use std::alloc::{AllocError, Global};
 
 /// How many rows more than the fewest that are likely are tried.
@@ -166,7 +166,11 @@ fn channel_of(
     push_stands(&mut stands, row_start(rows.saturating_add(1)), across)?;
     let edges = inner_edges(alloc, &request)?;
     let mut left = MOST_CHAINS;
-    match negotiate(alloc, &request, &edges, &stands, EFFORT, &mut left)? {
+    let places = Places {
+        stands: &stands,
+        spans: Spans::none(),
+    };
+    match negotiate(alloc, &request, &edges, places, EFFORT, &mut left)? {
         Negotiated::Settled(chains) => Ok(Some(Channel {
             chains,
             height: rows,

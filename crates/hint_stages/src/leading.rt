@@ -4,8 +4,8 @@ use bt_model::Request;
 use bt_net::Edge;
 use bt_parts::{Cell, Dir, Rect};
 use hint_numbering::joined;
-use hint_placement::Sketch;
-use hint_routing::{Chain, Effort, Negotiated, Stand, negotiate};
+use hint_placement::{Sketch, middle_spans};
+use hint_routing::{Chain, Effort, Negotiated, Places, Stand, negotiate};
 use std::alloc::{AllocError, Global};
 
 /// How many chains may be laid.
@@ -144,7 +144,11 @@ pub fn lead_round(
     let mut stands = stands_of(alloc, sketch, request.net().splitters() as usize)?;
     push_closed(&mut stands, first, block)?;
     let mut left = MOST_CHAINS;
-    match negotiate(alloc, request, &edges, &stands, EFFORT, &mut left)? {
+    let places = Places {
+        stands: &stands,
+        spans: middle_spans(request),
+    };
+    match negotiate(alloc, request, &edges, places, EFFORT, &mut left)? {
         Negotiated::Settled(chains) => Ok(Some(chains)),
         Negotiated::Shared(_) => Ok(None),
     }
