@@ -9,7 +9,6 @@ use Rattle.bt_parts.specs.declared.part.Rect.{Rect}
 use Rattle.bt_parts.specs.Cells.{IsInside}
 use Rattle.bt_net.specs.declared.network.Demand.{Demand}
 use Rattle.bt_net.specs.declared.network.Demand.TheVariants as demand
-use Rattle.bt_net.specs.Network.{Network}
 use Rattle.bt_log.specs.declared.log.Log.{Log}
 use Rattle.bt_model.specs.Requests.{LayoutRequest, IsRequest, IsPinnedInside, blocked}
 use Rattle.bt_layout.specs.inner.Ends.{IsSought}

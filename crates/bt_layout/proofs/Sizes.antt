@@ -1,7 +1,7 @@
 -- The placement formula of a request is small enough to be numbered, since the request is.
 use Rattle.std.proofs.Common.{◌≡◌, ℕ, zero, suc, ◌+◌, ◌-◌, ◌*◌, ◌<◌, ◌≤◌, List, [], ◌∷◌, Bool, true, false, cond, length, map, get_or, not, Option, Some, None, refl, sym, ◌∙◌, ap, subst, inl, inr, arith, length-append}
 use Rattle.std.specs.Prelude.{unsigned_abs}
-use Rattle.std.specs.List.{flat_map, filter, list_any, range_with_len}
+use Rattle.std.specs.List.{flat_map, filter, range_with_len}
 use Rattle.std.proofs.lemmas.Nat.{mul-le}
 use Rattle.std.proofs.Math.Nat.{mul-le-mul_right}
 use Rattle.bt_parts.specs.declared.part.Cell.{Cell}
@@ -50,7 +50,7 @@ use Rattle.bt_demands.specs.Ends.{end_rules}
 use Rattle.bt_demands.specs.Rows.{has_place, kind_facts, line_rules, lines_of, place_facts, placed_rules, row_rules, way_of}
 use Rattle.bt_rules.specs.Ports.{two_in_rules, in_rules, out_rules, standing_port_rules, port_rules}
 use Rattle.bt_facts.specs.Rules.{rule, rule_by, some_of, not_all}
-use Rattle.bt_facts.specs.Spots.{dirs, halves, others_than, behind, mate, half_at, other_half, is_inside, row_cells, cells_of, is_border, border_of, where_inside}
+use Rattle.bt_facts.specs.Spots.{dirs, halves, others_than, behind, mate, half_at, other_half, is_inside, cells_of, is_border, border_of, where_inside}
 use Rattle.bt_rules.specs.Standing.{owner_rule, at_rules, name_rule, standing_rules, place_rules}
 use Rattle.bt_demands.specs.Starts.{start_rules, input_rules}
 use Rattle.bt_rules.specs.Underground.{most_distance, tunnel_rules, pairs_from, pairs_into, back, paired_rules, way_rules, pair_class_rules, pair_rules, piece_rules, underground_rules}

@@ -1,10 +1,10 @@
 -- Small grids on which parts that show a network are looked for.
 use Rattle.std.proofs.Common.{◌≡◌, ℕ, ◌<◌, ◌≤◌, inl, inr, ⊎_elim, List, [], ◌∷◌, ◌++◌, length, get_or, None, Some, refl, sym, subst, ◌∙◌, ap, arith}
-use Rattle.std.specs.Prelude.{All, AllPairs, Contains, MatchOption, Option, Vec, option_map, slice_get, take}
+use Rattle.std.specs.Prelude.{Contains, MatchOption, Option, Vec, option_map, slice_get}
 use Rattle.std.specs.declared.alloc.Global.{Global}
 use Rattle.std.proofs.lemmas.Bool.{cases_lt}
 use Rattle.std.proofs.lemmas.Nat.{mul-le}
-use Rattle.std.proofs.lemmas.List.{get_or-take, get_or_default, length-take, map-append}
+use Rattle.std.proofs.lemmas.List.{map-append}
 use Rattle.std.proofs.lemmas.List.Elements.{All-nil, All-push, Contains-append_left, Contains-push, Contains-push_cases}
 use Rattle.std.proofs.lemmas.Option.{get_or_from_slice_get, slice_get-map, slice_get_within}
 use Rattle.bt_parts.specs.declared.part.Part.{Part}
@@ -14,7 +14,7 @@ use Rattle.bt_model.specs.Requests.{LayoutRequest}
 use Rattle.bt_grids.specs.declared.outcome.Small.TheVariants.{Found, Spent}
 use Rattle.bt_grids.specs.declared.outcome.Early.TheVariants as early
 use Rattle.bt_layout.specs.Early.{AreRefuted, IsEarly, IsLaid}
-use Rattle.bt_grids.specs.Grids.{AreGrids, ComesBefore, area_of}
+use Rattle.bt_grids.specs.Grids.{AreGrids, area_of}
 use Rattle.bt_layout.specs.Small.{HasFewer, IsBeyond, IsSmall, MayBeAsked}
 use Rattle.bt_grids.specs.Asked.{request_on}
 use Rattle.bt_layout.specs.inner.Progressing.{AskEach, AskSmall}
