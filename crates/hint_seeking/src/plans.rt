@@ -25,6 +25,9 @@ const ORDERS: u64 = 8;
 /// From so many on, the cells of the rectangle times the splitters are many.
 const LARGE: u64 = 216;
 
+/// And so they are from so many on, where the rectangle is nearly full.
+const LARGE_IF_TIGHT: u64 = 120;
+
 /// The literals of choices.
 fn literals_of(
     alloc: Global,
@@ -149,9 +152,10 @@ pub fn plan_of_whole(
     }
 }
 
-/// Whether the cells of the rectangle times the splitters are so many that conflicts decide best. Six splitters in 6x6
-/// are refuted in the same time by either plan.
+/// Whether the cells of the rectangle times the splitters are so many that conflicts decide best: six to six through six
+/// splitters in 5x6 takes a sixth of the seconds by them, four to four through six there a tenth more.
 fn is_large(request: &Request) -> bool {
     let splitters = u64::from(request.net().splitters());
-    cells_in(request.rect()).saturating_mul(splitters) >= LARGE
+    let size = cells_in(request.rect()).saturating_mul(splitters);
+    size >= LARGE || (size >= LARGE_IF_TIGHT && is_tight(request))
 }

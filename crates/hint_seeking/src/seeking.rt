@@ -3,6 +3,7 @@
 
 use crate::ground::{Sought, great_rect, ground_in};
 use crate::lessening::{seek_by_lessening, seek_by_turning};
+use crate::room::is_close;
 use crate::search::Search;
 use bt_model::Request;
 use hint_placement::Sketch;
@@ -11,6 +12,10 @@ use std::alloc::{AllocError, Global};
 
 /// Before each search of more steps than these a greater layout is made smaller.
 const SHORT_STEPS: u64 = 8192;
+
+/// In a rectangle of which little is left, at most so many steps look for a layout where one is likely: 65,536 of them
+/// would take longer than it takes to refute the whole formula.
+const CLOSE_STEPS: u64 = 4096;
 
 /// A sketch of a layout of a request.
 pub fn seek_by_sketch(alloc: Global, request: &Request) -> Result<Option<Sketch>, AllocError> {
@@ -33,10 +38,19 @@ fn seek_in_window<S: Search>(
     }
 }
 
+/// How many of so many steps look for a layout of a request where one is likely.
+fn steps_for(request: &Request, steps: u64) -> u64 {
+    if is_close(request) {
+        steps.min(CLOSE_STEPS)
+    } else {
+        steps
+    }
+}
+
 /// The attempts at a layout of a request in its rectangle, as that is searched.
 fn attempts_at(alloc: Global, request: &Request, steps: u64) -> Result<Vec<Attempt>, AllocError> {
     match ground_in(alloc, request, great_rect(request))? {
-        Some(ground) => attempts(alloc, ground.request(), steps),
+        Some(ground) => attempts(alloc, ground.request(), steps_for(request, steps)),
         None => Ok(Vec::new(alloc)),
     }
 }
