@@ -39,6 +39,7 @@ const FIRST_STATE: u64 = 5;
 /// A plan is looked for only where there are so many cells for each splitter; in rectangles that aren't narrow none was found
 /// with less than the second.
 const LEAST_ROOM: u64 = 8;
+
 const WIDE_ROOM: u64 = 20;
 
 /// How many percent more seats there are than splitters, by turns.
