@@ -23,9 +23,10 @@ WIDER, HIGHEST, ROOMY = 8, 40, 5
 times as many cells it has as the least in which a layout may be, where one is looked for first."""
 QUICKER = 8
 """How many times fewer steps a search takes where none was found yet."""
-GENEROUS = 12, 16, 20, 24, 33
-"""How many tiles wide and high a square is in which one is looked for first: in the greatest nothing is searched, but
-what is proposed is tested."""
+GENEROUS, ROOM = (12, 16, 20, 24, 33, 40), 40
+"""How many tiles wide and high a square is in which one is looked for first: in the greatest two nothing is searched,
+but what is proposed is tested. And how many tiles it has for each splitter at least, before those with fewer: in such
+squares the router finds nearly all."""
 PROPOSED, LITTLE_SMALLER, NEAREST = 1, 0.85, 6
 """How many steps a search takes at most where it is asked for what is proposed; how many times as many cells as the
 least layout so far a rectangle has then, and in how many that is asked."""
@@ -139,7 +140,8 @@ class Balancer:
         """Where what the router and the stages propose is tested: as wide as there are lines and in generous squares,
         and where one was found in the rectangles that are a little smaller."""
         if not self.is_found(form):
-            return [(self.lines, HIGHEST), *((it, it) for it in GENEROUS if it >= self.lines)]
+            squares = sorted(GENEROUS, key=lambda it: (it * it < ROOM * laid.splitters, it))
+            return [(self.lines, HIGHEST), *((it, it) for it in squares if it >= self.lines)]
         them = self.rectangles(laid, form, MOST_STEPS + 2)
         return sorted(them, key=lambda it: abs(it[0] * it[1] - LITTLE_SMALLER * self.cells) + apart(it))[:NEAREST]
 
