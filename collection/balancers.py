@@ -28,6 +28,8 @@ OF_BOOK = WORDS["balancers"]
 PAGE = "README.md"
 MOST_KEPT = 1_000_000
 """How many bytes the certificates have in all that are kept beside a book."""
+ALL = "all six"
+"""What the table says of one that has each property."""
 MOST_LINES = 8
 """Of how many inputs and outputs a balancer of the book is at most."""
 RECORD, BOOK, BOOK_JSON, TABLE = "balancers.json", "book.txt", "book.json", "table.tsv"
@@ -215,7 +217,8 @@ def markdown(book, shown):
         size = "{} x {}".format(*it.size)
         yes = [prop for prop in PROPERTIES if row and row.answer(prop).verdict == "yes"]
         least = OF_BOOK["least"] if is_least(it) else ""
-        told = [it.name, laid.splitters, size, it.cells, told_of(it), least, ", ".join(yes)]
+        holds = ALL if yes == list(PROPERTIES) else ", ".join(yes)
+        told = [it.name, laid.splitters, size, it.cells, told_of(it), least, holds]
         lines.append(f"| {' | '.join(map(str, told))} |")
     return "\n".join([*OF_BOOK["page"], "", *OF_BOOK["head"], *lines]) + "\n"
 

@@ -143,7 +143,11 @@ class Balancer:
             squares = sorted(GENEROUS, key=lambda it: (it * it < ROOM * laid.splitters, it))
             return [(self.lines, HIGHEST), *((it, it) for it in squares if it >= self.lines)]
         them = self.rectangles(laid, form, MOST_STEPS + 2)
-        return sorted(them, key=lambda it: abs(it[0] * it[1] - LITTLE_SMALLER * self.cells) + apart(it))[:NEAREST]
+        near = sorted(them, key=lambda it: abs(it[0] * it[1] - LITTLE_SMALLER * self.cells) + apart(it))[:NEAREST]
+        width, height = self.size
+        # What has stages is laid as wide as there are lines: there fewer rows come first.
+        lower = [(width, int(height * LITTLE_SMALLER)), (width, height - 1)] if width == self.lines else []
+        return [*(it for it in lower if it[1] > 0), *near]
 
     def rectangles(self, laid, form, steps):
         """The rectangles that are still to be looked in for this network: where one was found, all with fewer cells,
