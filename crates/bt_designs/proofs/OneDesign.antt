@@ -1,6 +1,6 @@
 -- Bytes have one design at their front, or one refusal.
 use Rattle.std.proofs.Common.{◌≡◌, ℕ, List, [], ◌∷◌, Option, Some, None, Result, Ok, Err, inl, inr, refl, ap, sym, subst, ◌∙◌, arith}
-use Rattle.bt_answers.specs.Answers.{HasOneAnswer, seen}
+use Rattle.bt_text.specs.Answers.{HasOneAnswer, seen}
 use Rattle.bt_json.specs.Json.{Json}
 use Rattle.bt_json.specs.Answers.{IsRead}
 use Rattle.bt_json.proofs.OneRead.{one_read}
@@ -10,11 +10,11 @@ use Rattle.bt_net.specs.Network.{Network, IsNetwork}
 use Rattle.bt_net.specs.declared.network.Admitted.TheVariants.{Nothing, Priorities}
 use Rattle.bt_net.specs.Readings.{IsNetRead, IsPlainRead}
 use Rattle.bt_net.proofs.OneReading.{one_read as one_net_read}
-use Rattle.bt_hands.specs.declared.hand.Priority.{Priority}
+use Rattle.bt_parts.specs.declared.hand.Priority.{Priority}
 use Rattle.bt_parts.specs.declared.part.Part.{Part}
 use Rattle.bt_parts.specs.declared.part.Tier.{Tier}
-use Rattle.bt_grid.specs.Placing.{IsPlaced}
-use Rattle.bt_grid.proofs.OneAnswer.{one_placed}
+use Rattle.bt_recover.specs.Placing.{IsPlaced}
+use Rattle.bt_recover.proofs.OneAnswer.{one_placed}
 use Rattle.bt_recover.specs.Recovered.{IsRecovered}
 use Rattle.bt_recover.specs.Preferred.{IsRecoveredWith}
 use Rattle.bt_recover.proofs.OneRecovery.{one_recovery}

@@ -1,6 +1,6 @@
 -- Bytes have one request at their front, or one refusal.
 use Rattle.std.proofs.Common.{◌≡◌, ℕ, List, Option, Result, Ok, Err, inl, inr, refl, ap, sym, subst, ◌∙◌}
-use Rattle.bt_answers.specs.Answers.{HasOneAnswer, seen}
+use Rattle.bt_text.specs.Answers.{HasOneAnswer, seen}
 use Rattle.bt_parts.specs.declared.part.Rect.{Rect}
 use Rattle.bt_parts.specs.declared.part.Tier.{Tier}
 use Rattle.bt_net.specs.declared.network.Admitted.{Admitted}

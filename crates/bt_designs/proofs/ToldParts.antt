@@ -1,7 +1,7 @@
 -- What is told of something that is to stand at the front of an input, by a part of what is held of it.
 use Rattle.std.proofs.Common.{◌≡◌, ◌⊎◌, ℕ, ◌+◌, ◌<◌, ◌≤◌, Bool, true, false, List, [], ◌∷◌, ◌++◌, length, Some, Result, Ok, Err, refl, sym, ◌∙◌, ap, subst, inl, inr, arith, append_assoc, append-nil, length-append}
 use Rattle.std.specs.Prelude.{All, IfErr, IfOk, IfSome, Option, None}
-use Rattle.bt_answers.specs.Answers.{UnlessMemory, seen}
+use Rattle.bt_text.specs.Answers.{UnlessMemory, seen}
 use Rattle.bt_text.specs.Blanks.{IsBlank, SkipsBlanks}
 use Rattle.bt_text.specs.Lines.{line, line_feeds}
 use Rattle.bt_text.specs.Whole.{EndsLines}

@@ -1,6 +1,6 @@
 //! Requests for a blueprint whose ends are to stand at the sides at which they stand in it.
 ghost use Rattle.std.specs.Prelude.{◌≡◌, IfOk, Ok};
-ghost use Rattle.bt_answers.specs.Answers.{UnlessMemory};
+ghost use Rattle.bt_text.specs.Answers.{UnlessMemory};
 ghost use Rattle.bt_parts.specs.Layouts.{AreInRange};
 ghost use Rattle.bt_model.specs.Requests.{IsGrid};
 ghost use Rattle.bt_recover.specs.Sides.{AreEndSides};
@@ -10,11 +10,10 @@ ghost use Rattle.bt_designs.specs.Found.{pinned_of};
 use crate::fault::DesignFault;
 use crate::request::{PinnedDesign, read_lone_pinned, request_for};
 use bt_entities::parts_and_priorities;
-use bt_grid::Grid;
 use bt_model::Request;
 use bt_net::Demand;
 use bt_parts::{Part, Rect, Tier};
-use bt_recover::end_sides;
+use bt_recover::{Grid, end_sides};
 use std::alloc::{AllocError, Global};
 
 /// The request for the blueprint that the bytes are, with its ends at their own sides, and blanks behind it.

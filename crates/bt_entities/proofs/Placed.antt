@@ -16,9 +16,9 @@ use Rattle.bt_entities.specs.declared.fault.Member.{Member}
 use Rattle.bt_entities.specs.declared.fault.Member.TheVariants.{Entity, Name, Position, Direction, PieceType, InputPriority, OutputPriority, ControlBehavior, Filter}
 use Rattle.bt_entities.specs.declared.name.EntityFamily.TheVariants.{Belts, Undergrounds, Splitters}
 use Rattle.bt_entities.specs.declared.piece.Piece.{Piece}
-use Rattle.bt_hands.specs.declared.hand.Hand.{Hand}
-use Rattle.bt_hands.specs.declared.hand.Hand.TheVariants.{Left, Right}
-use Rattle.bt_hands.specs.declared.hand.Priority.{Priority}
+use Rattle.bt_parts.specs.declared.hand.Hand.{Hand}
+use Rattle.bt_parts.specs.declared.hand.Hand.TheVariants.{Left, Right}
+use Rattle.bt_parts.specs.declared.hand.Priority.{Priority}
 use Rattle.bt_entities.specs.declared.shift.Shift.{Shift}
 use Rattle.bt_entities.specs.Members.{Lacks, HasMember, HasText}
 use Rattle.bt_entities.specs.Names.{name_of}

@@ -13,7 +13,7 @@ use Rattle.bt_flow.specs.States.{Flows, Fractions, StandsFor}
 use Rattle.bt_flow.specs.Steady.{IsSteady}
 use Rattle.bt_flow.specs.Properties.{IsAdmissible, Breaks}
 use Rattle.bt_flow.specs.Tests.{order_of, places, PassesAt, IsAmong, IsEarlier, FailsFirst}
-use Rattle.bt_answers.specs.Answers.{HasOneAnswer}
+use Rattle.bt_text.specs.Answers.{HasOneAnswer}
 use Rattle.bt_flow.specs.Sums.{sums_of, IsFirstWide}
 use Rattle.bt_flow.specs.Judging.{JudgesBreaking, JudgesSteady, JudgesState, NeedsFit, IsWideSum, IsBreakingAnswer, IsSteadyAnswer, IsStateAnswer}
 use Rattle.bt_flow.proofs.Judged.{same_order}

@@ -6,10 +6,10 @@ use Rattle.std.proofs.lemmas.Bool.{cases_order, false≢true}
 use Rattle.std.proofs.lemmas.Option.{get_or_from_slice_get, none-some, same_Some, slice_get-get_or, slice_get_within}
 use Rattle.std.proofs.lemmas.List.{ext_get_or, get_or-map, get_or-replicate, length-map, length_push}
 use Rattle.std.proofs.lemmas.List.Sorted.{Contains-permutation, IsPermutation-sym, IsPermutation-trans}
-use Rattle.bt_hands.specs.declared.hand.Hand.{Hand}
-use Rattle.bt_hands.specs.declared.hand.Hand.TheVariants.{Left, Right}
-use Rattle.bt_hands.specs.declared.hand.Priority.{Priority}
-use Rattle.bt_hands.specs.Hands.{half_on, no_priority, priority_of}
+use Rattle.bt_parts.specs.declared.hand.Hand.{Hand}
+use Rattle.bt_parts.specs.declared.hand.Hand.TheVariants.{Left, Right}
+use Rattle.bt_parts.specs.declared.hand.Priority.{Priority}
+use Rattle.bt_parts.specs.Hands.{half_on, no_priority, priority_of}
 use Rattle.bt_parts.specs.declared.part.Cell.{Cell}
 use Rattle.bt_parts.specs.declared.part.Dir.{Dir}
 use Rattle.bt_parts.specs.declared.part.Dir.TheVariants.{North, East, South, West}

@@ -13,8 +13,8 @@ use Rattle.bt_parts.specs.declared.part.Rect.{Rect}
 use Rattle.bt_parts.specs.declared.part.Tier.{Tier}
 use Rattle.bt_parts.specs.Cells.{IsGreaterHalf, IsInRange, IsInside}
 use Rattle.bt_parts.specs.Layouts.{AreInRange, IsAt}
-use Rattle.bt_grid.specs.Placing.{IsFirstOverlap}
-use Rattle.bt_grid.specs.declared.grid.GridFault.TheVariants as grid
+use Rattle.bt_recover.specs.Placing.{IsFirstOverlap}
+use Rattle.bt_recover.specs.declared.grid.GridFault.TheVariants as grid
 use Rattle.bt_net.specs.declared.network.Block.{Block}
 use Rattle.bt_net.specs.declared.network.EndKind.{EndKind}
 use Rattle.bt_net.specs.declared.network.EndKind.TheVariants.{Inputs, Outputs}

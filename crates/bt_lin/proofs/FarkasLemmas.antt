@@ -5,7 +5,7 @@ use Rattle.std.specs.List.{All, Any}
 use Rattle.std.specs.declared.result.Result.{Result}
 use Rattle.std.proofs.lemmas.List.{take_all}
 use Rattle.std.proofs.lemmas.List.Elements.{All-contains, All-head, All-tail}
-use Rattle.bt_answers.specs.Answers.{HasOneAnswer}
+use Rattle.bt_text.specs.Answers.{HasOneAnswer}
 use Rattle.bt_frac.specs.Ratio.{Ratio}
 use Rattle.bt_frac.specs.Rows.{RowParts, columns_in, end_of}
 use Rattle.bt_frac.specs.Values.{nothing, sum_of_products}

@@ -1,8 +1,8 @@
 -- Two right answers of a call that makes a network are equal.
 use Rattle.std.proofs.Common.{◌≡◌, ℕ, ◌≤◌, List, length, drop, refl, sym, ◌∙◌, ap, ⊎_elim, arith, length-drop}
 use Rattle.std.specs.Prelude.{Result, Ok, Err}
-use Rattle.bt_answers.specs.Answers.{AnswersAlways, HasOneAnswer}
-use Rattle.bt_answers.proofs.OneAnswer.{answers_always_of}
+use Rattle.bt_text.specs.Answers.{AnswersAlways, HasOneAnswer}
+use Rattle.bt_text.proofs.OneAnswer.{answers_always_of}
 use Rattle.bt_net.specs.declared.fault.NetFault.{NetFault}
 use Rattle.bt_net.specs.declared.fault.NetFault.TheVariants.{NetLine, TooLarge, NoEnds, Memory}
 use Rattle.bt_net.specs.Network.{Network, IsNetwork, IsLarge, LacksEnds, IsNetOf}

@@ -4,8 +4,8 @@ use Rattle.std.specs.Prelude.{Result, Ok, Err, codes}
 use Rattle.std.specs.List.{AllZip, flat_map}
 use Rattle.std.proofs.lemmas.List.{append_assoc}
 use Rattle.std.proofs.lemmas.List.Concat.{flat_map-append}
-use Rattle.bt_answers.specs.Answers.{UnlessMemory, Answers, HasOneAnswer}
-use Rattle.bt_answers.proofs.OneAnswer.{answers_of}
+use Rattle.bt_text.specs.Answers.{UnlessMemory, Answers, HasOneAnswer}
+use Rattle.bt_text.proofs.OneAnswer.{answers_of}
 use Rattle.bt_text.specs.Lines.{line, IsFirstLine, BeginsWithLines}
 use Rattle.bt_text.proofs.FirstLines.{BeginsWithLines-nil, first_line_of, BeginsWithLines-tail, BeginsWithLines-push, BeginsWithLines-cons, BeginsWithLines-used, IsFirstLine-unique}
 use Rattle.bt_net.specs.declared.fault.NetFault.{NetFault}

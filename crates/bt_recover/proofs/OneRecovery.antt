@@ -2,8 +2,8 @@
 use Rattle.std.proofs.Common.{◌≡◌, ℕ, ◌<◌, ◌≤◌, List, ◌⊎◌, inl, inr, refl, ap, sym, subst, ◌∙◌, arith}
 use Rattle.std.specs.Prelude.{Result, Ok, Err}
 use Rattle.std.proofs.lemmas.Bool.{cases_lt}
-use Rattle.bt_answers.specs.Answers.{UnlessMemory, Answers, HasOneAnswer}
-use Rattle.bt_answers.proofs.OneAnswer.{answers_of}
+use Rattle.bt_text.specs.Answers.{UnlessMemory, Answers, HasOneAnswer}
+use Rattle.bt_text.proofs.OneAnswer.{answers_of}
 use Rattle.bt_parts.specs.declared.part.Part.{Part}
 use Rattle.bt_parts.specs.Layouts.{IsUnpaired}
 use Rattle.bt_net.specs.Network.{Network, IsNetwork, IsLarge, LacksEnds, HasNoPriorities}

@@ -6,15 +6,15 @@ use Rattle.std.proofs.Common.{set, replicate}
 use Rattle.std.specs.Prelude.{Result}
 use Rattle.std.proofs.Math.ListN.{get_or-eq_default}
 use Rattle.std.proofs.lemmas.Bool.{eq-eqb}
-use Rattle.bt_answers.specs.Answers.{UnlessMemory, Answers, HasOneAnswer}
-use Rattle.bt_answers.proofs.OneAnswer.{answers_of}
-use Rattle.bt_hands.specs.declared.hand.Hand.{Hand}
-use Rattle.bt_hands.specs.Hands.{half_on}
+use Rattle.bt_text.specs.Answers.{UnlessMemory, Answers, HasOneAnswer}
+use Rattle.bt_text.proofs.OneAnswer.{answers_of}
+use Rattle.bt_parts.specs.declared.hand.Hand.{Hand}
+use Rattle.bt_parts.specs.Hands.{half_on}
 use Rattle.std.proofs.lemmas.Bool.{cases_lt, cases_eq}
 use Rattle.std.proofs.lemmas.Grind.{get_or-set_at}
 use Rattle.std.proofs.lemmas.List.{get_or-set_other, length-set, get_or-replicate, length-replicate}
 use Rattle.std.proofs.lemmas.Option.{same_Some, none-some, slice_get_within, slice_get-get_or, get_or_from_slice_get}
-use Rattle.bt_hands.specs.declared.hand.Priority.{Priority}
+use Rattle.bt_parts.specs.declared.hand.Priority.{Priority}
 use Rattle.bt_parts.specs.declared.part.Cell.{Cell}
 use Rattle.bt_parts.specs.declared.part.Part.{Part}
 use Rattle.bt_parts.specs.declared.part.Kind.TheVariants.{Splitter}

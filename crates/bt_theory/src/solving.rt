@@ -15,10 +15,9 @@ use crate::round::{End, round};
 use crate::scope::{Scope, scopes_of};
 use bt_cnf::{Chooser, Formula, Limits};
 use bt_extend::{Definition, Goal, extend_all};
-use bt_log::Log;
+use bt_log::{Log, trimmed};
 use bt_sat::Solver;
 use bt_simplex::Tableau;
-use bt_trim::trimmed;
 use std::alloc::{AllocError, Global};
 
 /// Decides a formula within limits, with the help of definitions.

@@ -1,6 +1,6 @@
 -- What the steps of a certificate that is at hand whole are answered.
 use Rattle.std.proofs.Common.{◌≡◌, ℕ, ◌+◌, ◌≤◌, List, [], length, Result, Ok, Err, Some, inr, refl, subst, arith, alloc_error}
-use Rattle.bt_answers.specs.Answers.{UnlessMemory}
+use Rattle.bt_text.specs.Answers.{UnlessMemory}
 use Rattle.bt_io.specs.Passages.{Passage, HasFault}
 use Rattle.bt_io.proofs.Told.{all_told, takes_told}
 use Rattle.bt_cnf.specs.Formulas.{FormulaParts}

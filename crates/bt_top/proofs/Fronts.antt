@@ -9,7 +9,7 @@ use Rattle.std.specs.declared.option.Option.{Option}
 use Rattle.std.specs.declared.alloc.AllocError.{AllocError}
 use Rattle.std.specs.Io.KnownBytes.{Consumes, IsAtEnd}
 use Rattle.std.proofs.KnownBytes.{Consumes-nil}
-use Rattle.bt_answers.specs.Answers.{UnlessMemory}
+use Rattle.bt_text.specs.Answers.{UnlessMemory}
 use Rattle.bt_text.specs.Blanks.{IsBlank, SkipsBlanks}
 use Rattle.bt_text.specs.Lines.{Lacks, IsFirstLine}
 use Rattle.bt_text.specs.Pieces.{CutsAt}

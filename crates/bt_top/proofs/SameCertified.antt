@@ -1,6 +1,6 @@
 -- What `check-same` answers is one answer, and what its steps are answered.
 use Rattle.std.proofs.Common.{◌≡◌, ℕ, List, Ok, Err, drop, inl, inr, refl, ap, sym, subst, ◌∙◌, alloc_error}
-use Rattle.bt_answers.specs.Answers.{UnlessMemory, HasOneAnswer}
+use Rattle.bt_text.specs.Answers.{UnlessMemory, HasOneAnswer}
 use Rattle.bt_text.proofs.FirstLines.{IsFirstLine-unique}
 use Rattle.bt_net.specs.Network.{Network, IsNetwork}
 use Rattle.bt_cert.specs.declared.fault.CertFault.{CertFault}

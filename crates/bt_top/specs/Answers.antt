@@ -22,7 +22,7 @@ use Rattle.bt_grids.specs.SmallestText.{small_text, smallest_text}
 pub use Rattle.bt_grids.specs.SmallestText.{none_word, nowhere_text}
 use Rattle.bt_print.specs.Legends.{flow_formula_text, place_formula_text}
 use Rattle.bt_print.specs.TraceText.{pivots_text, wide_text}
-use Rattle.bt_write.specs.Written.{blueprint_text}
+use Rattle.bt_entities.specs.Written.{blueprint_text}
 use Rattle.bt_words.specs.declared.command.NetworkFamily.{NetworkFamily}
 use Rattle.bt_words.specs.declared.command.NetworkFamily.TheVariants.{Butterfly, Chain}
 use Rattle.bt_words.specs.declared.command.BuiltText.{BuiltText}

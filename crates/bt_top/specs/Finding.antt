@@ -1,7 +1,7 @@
 -- What `smallest --found` answers.
 use Rattle.std.specs.Prelude.{◌≡◌, ℕ, ◌⊎◌, List, [], unwrap_or, Option, Some, None, Result, Ok}
 use Rattle.std.specs.Global.{Vec}
-use Rattle.bt_hands.specs.declared.hand.Priority.{Priority}
+use Rattle.bt_parts.specs.declared.hand.Priority.{Priority}
 use Rattle.bt_parts.specs.declared.part.Part.{Part}
 use Rattle.bt_parts.specs.declared.part.Rect.{Rect}
 use Rattle.bt_parts.specs.declared.part.Tier.{Tier}
@@ -10,7 +10,7 @@ use Rattle.bt_json.specs.Answers.{IsRead}
 use Rattle.bt_entities.specs.Answers.{IsPrioritisedOf}
 use Rattle.bt_model.specs.Laying.{LaysPreferring}
 use Rattle.bt_model.specs.Requests.{LayoutRequest}
-use Rattle.bt_write.specs.ReadBack.{IsReadBack}
+use Rattle.bt_entities.specs.ReadBack.{IsReadBack}
 use Rattle.bt_grids.specs.declared.outcome.Small.{Small}
 use Rattle.bt_grids.specs.declared.outcome.Small.TheVariants.{Found, Spent}
 use Rattle.bt_grids.specs.Spanned.{IsSpanned}

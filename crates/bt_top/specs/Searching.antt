@@ -1,12 +1,12 @@
 -- What `smallest` answers.
 use Rattle.std.specs.Prelude.{◌≡◌, ℕ, List, [], Option, Ok}
 use Rattle.std.specs.Global.{Vec}
-use Rattle.bt_hands.specs.declared.hand.Priority.{Priority}
+use Rattle.bt_parts.specs.declared.hand.Priority.{Priority}
 use Rattle.bt_parts.specs.declared.part.Rect.{Rect}
 use Rattle.bt_parts.specs.declared.part.Tier.{Tier}
 use Rattle.bt_model.specs.Laying.{LaysPreferring}
 use Rattle.bt_model.specs.Requests.{LayoutRequest}
-use Rattle.bt_write.specs.ReadBack.{IsReadBack}
+use Rattle.bt_entities.specs.ReadBack.{IsReadBack}
 use Rattle.bt_grids.specs.declared.outcome.Smallest.{Smallest}
 use Rattle.bt_grids.specs.declared.outcome.Smallest.TheVariants.{Found, Nowhere, Spent}
 use Rattle.bt_grids.specs.Asked.{request_on}

@@ -1,6 +1,6 @@
 //! `formula`: the formula that `decide` or `layout` refutes.
 ghost use Rattle.std.specs.Prelude.{◌≡◌, alloc_error, Ok};
-ghost use Rattle.bt_answers.specs.Answers.{UnlessMemory};
+ghost use Rattle.bt_text.specs.Answers.{UnlessMemory};
 ghost use Rattle.bt_model.specs.Requests.{IsGrid};
 ghost use Rattle.bt_top.specs.Formulas.{IsFlowFormulaFrom, IsPlaceFormulaFrom};
 ghost use Rattle.bt_top.specs.Replies.{UnlessLarge};

@@ -1,7 +1,7 @@
 //! The answer that a front of an input tells, where the rest of the input comes from its source.
 ghost use Rattle.std.specs.Prelude.{◌≡◌, ◌++◌, ◌<◌, ◌^◌, [], IfErr, IfOk, Ok, true, vec_items};
 ghost use Rattle.std.specs.Io.KnownBytes.{IsAtEnd};
-ghost use Rattle.bt_answers.specs.Answers.{seen};
+ghost use Rattle.bt_text.specs.Answers.{seen};
 ghost use Rattle.bt_io.specs.Passages.{passage};
 ghost use Rattle.bt_io.specs.declared.fault.ReadAll.TheVariants.{Memory};
 ghost use Rattle.bt_same.specs.Sameness.{HaveEqualEnds};

@@ -1,6 +1,6 @@
 //! `smallest`: the least grid on which parts show a network.
 ghost use Rattle.std.specs.Prelude.{◌≤◌, ℕ, IfOk, Option, alloc_error};
-ghost use Rattle.bt_answers.specs.Answers.{UnlessMemory};
+ghost use Rattle.bt_text.specs.Answers.{UnlessMemory};
 ghost use Rattle.bt_parts.specs.declared.part.Rect.{Rect as ARect};
 ghost use Rattle.bt_model.specs.Requests.{IsGrid, IsRequest};
 ghost use Rattle.bt_model.specs.declared.request.TheConstants.{MOST_CELLS};
@@ -13,10 +13,9 @@ ghost use Rattle.bt_top.specs.Searching.{IsFoundAgain, IsPreferred, IsSearched, 
 
 use crate::answer::{Answer, refused};
 use bt_designs::{DesignFault, Refusal, read_sided_request};
-use bt_hands::Priority;
 use bt_layout::{Smallest, priorities_on};
 use bt_model::Request;
-use bt_parts::{Rect, Tier};
+use bt_parts::{Priority, Rect, Tier};
 use bt_place::has_formula;
 use std::alloc::{AllocError, Global};
 

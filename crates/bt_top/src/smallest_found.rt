@@ -1,6 +1,6 @@
 //! `smallest --found`: small grids on which parts that show a design's network are found.
 ghost use Rattle.std.specs.Prelude.{ℕ, IfOk, IfSome, Option, alloc_error};
-ghost use Rattle.bt_answers.specs.Answers.{UnlessMemory};
+ghost use Rattle.bt_text.specs.Answers.{UnlessMemory};
 ghost use Rattle.bt_model.specs.Requests.{IsGrid, IsRequest};
 ghost use Rattle.bt_grids.specs.Asked.{NamesNoCells};
 ghost use Rattle.bt_layout.specs.Small.{IsSmall};
@@ -10,10 +10,9 @@ use crate::answer::{Answer, refused};
 use bt_designs::{DesignFault, is_json, read_kept_request, read_lone_request, read_sided_request};
 use bt_entities::parts_and_priorities;
 use bt_grids::spanned;
-use bt_hands::Priority;
 use bt_layout::{Small, find_small, priorities_on};
 use bt_model::{MOST_ACROSS, Request};
-use bt_parts::{Part, Rect, Tier};
+use bt_parts::{Part, Priority, Rect, Tier};
 use bt_words::{AskedSides, USUAL_ACROSS};
 use std::alloc::{AllocError, Global};
 

@@ -96,7 +96,7 @@ pub fn formed_of(alloc: Global, answer: &Answer) -> Result<Vec<u8>, AllocError>
 {
     match answer {
         Answer::Brief(brief) => text_of(alloc, &line_of(*brief)),
-        Answer::LaidOut(parts, priorities) => bt_write::text_of(alloc, parts, priorities),
+        Answer::LaidOut(parts, priorities) => bt_entities::text_of(alloc, parts, priorities),
         Answer::Least(_, found, priorities) => { bt_grids::blueprint_of(alloc, found, priorities) }
         Answer::Small(found, priorities) => {
             bt_grids::blueprint_of_small(alloc, found, priorities)

@@ -6,8 +6,8 @@ use Rattle.std.specs.Option.{option_to_list}
 use Rattle.std.specs.List.{filter_map}
 use Rattle.std.proofs.lemmas.List.{append-nil}
 use Rattle.bt_flow.specs.declared.property.Property.{Property}
-use Rattle.bt_wish.specs.declared.wish.Wish.{Wish}
-use Rattle.bt_wish.specs.Wishes.{only, IsWishWord}
+use Rattle.bt_gen.specs.declared.wish.Wish.{Wish}
+use Rattle.bt_gen.specs.Wishes.{only, IsWishWord}
 use Rattle.bt_words.specs.declared.argument.TheConstants.{MOST_ORDER}
 use Rattle.bt_words.specs.declared.argument.Argument.{Argument}
 use Rattle.bt_words.specs.declared.argument.Argument.TheVariants.{Wished, Number, Chain, Learnt, Pivots, Grid, OfTier, Most, From, Found, Sides, Request}

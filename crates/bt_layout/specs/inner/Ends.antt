@@ -8,7 +8,7 @@ use Rattle.bt_place.specs.PlaceFormula.{place_formula}
 use Rattle.bt_model.specs.Laying.{Lays}
 use Rattle.bt_place.specs.Solutions.{ComesAbove, IsSolution}
 use Rattle.bt_theory.specs.Outcomes.{IsRefutation, IsUsedUp}
-use Rattle.bt_trim.specs.Trimming.{IsTightOver, IsTrimmed}
+use Rattle.bt_log.specs.Trimming.{IsTightOver, IsTrimmed}
 use Rattle.bt_layout.specs.Layouts.{HasNoLayout}
 use Rattle.bt_grids.specs.declared.outcome.Layout.{Layout}
 use Rattle.bt_grids.specs.declared.outcome.Layout.TheVariants as layout

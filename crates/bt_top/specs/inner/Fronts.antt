@@ -1,7 +1,7 @@
 -- Fronts of an input: what they tell of the answer to it, whatever may follow.
 use Rattle.std.specs.Prelude.{◌≡◌, ℕ, Bool, false, List, ◌++◌, All, Option, Result, Ok, Err, IfOk, MatchOption, length}
 use Rattle.std.specs.declared.alloc.AllocError.{AllocError}
-use Rattle.bt_answers.specs.Answers.{seen}
+use Rattle.bt_text.specs.Answers.{seen}
 use Rattle.bt_text.specs.Blanks.{IsBlank}
 use Rattle.bt_io.specs.Bytes.{ReadsAll}
 use Rattle.bt_io.specs.Passages.{Passage}

@@ -1,5 +1,5 @@
 use Rattle.std.proofs.Common.{subst}
-use Rattle.bt_answers.specs.Answers.{UnlessMemory}
+use Rattle.bt_text.specs.Answers.{UnlessMemory}
 use Rattle.bt_designs.specs.declared.fault.DesignFault.TheVariants.{Memory}
 use Rattle.bt_designs.specs.Kept.{IsKeptFor}
 use Rattle.bt_designs.specs.Requested.{IsRequestFor}

@@ -1,7 +1,7 @@
 use Rattle.std.proofs.Common.{sym, subst}
 use Rattle.std.specs.Prelude.{IfOk}
 use Rattle.bt_model.specs.Laying.{LaysPreferring}
-use Rattle.bt_write.specs.ReadBack.{SplittersPrefer}
+use Rattle.bt_entities.specs.ReadBack.{SplittersPrefer}
 use Rattle.bt_grids.specs.Asked.{request_on}
 use Rattle.bt_layout.specs.Smallest.{IsSmallest}
 use Rattle.bt_top.specs.Searching.{IsFoundAgain, IsPreferred}
