@@ -1,5 +1,5 @@
 -- What is told of something that is to stand at the front of an input, by a part of what is held of it.
-use Rattle.std.proofs.Common.{◌≡◌, ◌⊎◌, ℕ, ◌+◌, ◌<◌, ◌≤◌, Bool, true, false, List, [], ◌∷◌, ◌++◌, length, Some, Result, Ok, Err, refl, sym, ◌∙◌, ap, subst, inl, inr, arith, append_assoc, append-nil, length-append}
+use Rattle.std.proofs.Common.{◌≡◌, ◌⊎◌, ℕ, ◌+◌, ◌<◌, ◌≤◌, true, false, List, [], ◌∷◌, ◌++◌, length, Some, Result, Ok, Err, refl, sym, ◌∙◌, ap, subst, inl, inr, arith, append_assoc, append-nil, length-append}
 use Rattle.std.specs.Prelude.{All, IfErr, IfOk, IfSome, Option, None}
 use Rattle.bt_text.specs.Answers.{UnlessMemory, seen}
 use Rattle.bt_text.specs.Blanks.{IsBlank, SkipsBlanks}
@@ -39,13 +39,6 @@ other_text bytes [] none skips some = absurd (omega (arith, some))
 other_text bytes (byte ∷ text) none skips some = (byte, text, skips, λ same. none (text, subst (λ b. SkipsBlanks bytes (b ∷ text)) same skips))
 
 module _ (held : Held) where
-  json_kind : IsJsonText held.bytes.now → (ended : Bool) → held.ended ≡ ended → ((held.ended ≡ true) × (◌≡◌ {A = List ℕ} [] [])) ⊎ ((held.ended ≡ false) × IsToldText held.bytes.now)
-  json_kind is true e = inl (e, refl)
-  json_kind is false e = inr (e, inl is)
-
-  -- JSON text is told whole
-  pub json_part : IsJsonText held.bytes.now → IsToldPart held held.bytes.now
-  json_part is = record { rest = []; bytes_are = sym (append-nil held.bytes.now); kind = json_kind is held.ended refl; behind = inl is }
 
   -- and all is told where the input has ended
   ended_part : held.ended ≡ true → (IsJsonText held.bytes.now ⊎ (held.skipped ≡ 0)) → IsToldPart held held.bytes.now

@@ -61,12 +61,6 @@ moved_below (suc k) zero n l h = omega (arith, l)
 moved_below (suc k) (suc m) zero l h = absurd (omega (arith, l))
 moved_below (suc k) (suc m) (suc n) l h = let r = moved_below k m n (omega (arith, l)) (omega (arith, h)) in omega (arith, r)
 
-pub moved_within : (k m n : ℕ) → m < n → moved k m < suc n
-moved_within zero m n l = omega (arith, l)
-moved_within (suc k) zero n l = omega (arith, l)
-moved_within (suc k) (suc m) zero l = absurd (omega (arith, l))
-moved_within (suc k) (suc m) (suc n) l = let r = moved_within k m n (omega (arith, l)) in omega (arith, r)
-
 -- numbers that are moved are the same where they were
 pub same_moved : (k m n : ℕ) → (moved k m == moved k n) ≡ (m == n)
 same_moved k m n =

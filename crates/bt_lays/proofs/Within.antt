@@ -21,7 +21,7 @@ use Rattle.bt_net.specs.declared.network.EndKind.TheVariants.{Inputs, Outputs}
 use Rattle.bt_net.specs.Network.{Network, IsNetwork}
 use Rattle.bt_model.specs.Chains.{IsInput, IsOutput, IsSplitter, IsChain}
 use Rattle.bt_model.specs.Laying.{Fits, end_count}
-use Rattle.bt_model.specs.Requests.{LayoutRequest, IsGrid, IsRequest, blocked}
+use Rattle.bt_model.specs.Requests.{LayoutRequest, IsGrid, blocked}
 use Rattle.bt_model.specs.Shown.{Naming, ListsEach, IsEdgeOf, IsNumbered, Shows}
 use Rattle.bt_model.proofs.Places.{zip_length}
 use Rattle.bt_recover.specs.declared.fault.RecoverFault.{RecoverFault}
@@ -63,9 +63,6 @@ inside_in_range rect is c h =
 
 pub suits_in_range : (rect : Rect) (tier : Tier) (parts : List Part) → IsGrid rect → All (SuitsAlone rect tier) parts → AreInRange parts
 suits_in_range rect tier parts is suits i d lt = let part = get_or parts i d in inside_in_range rect is part.cell ((suits i d lt).0 part.cell (inl refl))
-
-pub blocks_in_range : (request : LayoutRequest) → IsRequest request → All (λ block. IsInRange (blocked block)) request.blocks
-blocks_in_range request is i d lt = inside_in_range request.rect is.grid (blocked (get_or request.blocks i d)) (is.blocks_inside i d lt)
 
 pub suits_of : (request : LayoutRequest) (parts : List Part) → Fits parts request → All (SuitsAlone request.rect request.tier) parts
 suits_of request parts fits k d lt = (

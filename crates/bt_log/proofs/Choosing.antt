@@ -3,7 +3,7 @@ use Rattle.std.proofs.Common.{◌≡◌, ◌≢◌, ℕ, ◌+◌, ◌-◌, ◌<�
 use Rattle.std.specs.Prelude.{AllPairs, Contains}
 use Rattle.std.proofs.lemmas.Bool.{false≢true}
 use Rattle.std.proofs.lemmas.List.{get_or-set_other, get_or-set_same, get_or-take, length-take-le}
-use Rattle.std.proofs.lemmas.List.Elements.{All-contains, All-nil, All-push, All-weaker, Contains-append_left, Contains-push}
+use Rattle.std.proofs.lemmas.List.Elements.{All-contains, All-push, All-weaker, Contains-append_left, Contains-push}
 use Rattle.std.proofs.lemmas.List.Quantifiers.{all_pairs_push}
 use Rattle.bt_cnf.proofs.Lists.{lt_or_eq}
 use Rattle.bt_log.specs.Logs.{LogParts}
@@ -20,11 +20,6 @@ marked_front marks i k within is =
 front_marked : (marks : List Bool) (i k : ℕ) → k < i → IsMarked marks k → IsMarked (take i marks) k
 front_marked marks i k small is = get_or-take i marks k false small ∙ is
 
-pub those_none : AreThose [] []
-those_none = record {
-  in_order = λ i j d one other. absurd (omega (arith, other));
-  all = λ k is. absurd (false≢true is);
-  only = All-nil (IsMarked []);
 }
 
 pub those_passed : (marks : List Bool) (place : ℕ) (places : List ℕ) → place < length marks → get_or marks place false ≡ false → AreThose (take place marks) places

@@ -3,12 +3,12 @@ use Rattle.std.proofs.Common.{◌≡◌, ℕ, ◌+◌, ◌-◌, ◌<◌, ◌≤�
 use Rattle.std.specs.Prelude.{Contains, slice_get, Some}
 use Rattle.std.specs.List.{AllZip}
 use Rattle.std.proofs.lemmas.List.{take_more}
-use Rattle.std.proofs.lemmas.List.Elements.{All-contains, All-weaker}
+use Rattle.std.proofs.lemmas.List.Elements.{All-contains}
 use Rattle.std.proofs.lemmas.Slice.Zip.{all_zipped_more}
 use Rattle.bt_cnf.proofs.Lists.{got_at, got_within}
 use Rattle.bt_log.specs.Logs.{Lemma, LogParts, Step}
 use Rattle.bt_log.specs.Trimming.{hints_of, IsLeft, IsRenamed, IsRenumbered, step_at}
-use Rattle.bt_log.specs.inner.Needed.{AreNeeded, IsKept, IsNumbered}
+use Rattle.bt_log.specs.inner.Needed.{AreNeeded, IsNumbered}
 use Rattle.bt_log.specs.declared.needed.Kept.{Kept}
 use Rattle.bt_log.proofs.Left.{at_least, numbered}
 
@@ -46,12 +46,6 @@ moved_hint first kept place hint low small is again e =
       moved = e ∙ ap (λ n. first + n) is.numbers;
     })
 
--- where the steps that are kept are those that are needed, their numbers are right
-pub is_numbered : (log : LogParts) (kept : Kept) → IsKept log kept → IsNumbered kept
-is_numbered log kept is = record {
-  in_order = is.needed.in_order;
-  inside = All-weaker (λ place. place < length log.steps) (λ place. place < length kept.numbers.items) (λ place small. omega (arith, small, is.count)) kept.places.items is.needed.inside;
-  numbers = is.numbered;
 }
 
 -- a step that is left names none that isn't

@@ -17,7 +17,7 @@ use Rattle.bt_net.specs.declared.network.Start.{Start}
 use Rattle.bt_net.specs.declared.network.Start.TheVariants as from
 use Rattle.bt_net.specs.declared.network.Target.{Target}
 use Rattle.bt_net.specs.declared.network.Target.TheVariants as to
-use Rattle.bt_net.specs.Network.{Network, IsCap, IsWired, IsNetwork, StartsIn, EndsIn, is_input, is_output, leaves, enters, HasNoPriorities, none_each}
+use Rattle.bt_net.specs.Network.{Network, IsCap, IsWired, StartsIn, EndsIn, is_input, is_output, leaves, enters, HasNoPriorities, none_each}
 use Rattle.bt_net.specs.NetText.{start_text, target_text, ends_text, cap_text, header, IsEdgeLine, edge_text}
 use Rattle.bt_net.specs.Refusals.{HeaderRefused, BeginsWithEdges}
 use Rattle.bt_net.specs.Wiring.{IsPartlyWired, with_edge, HasSmallSizes}
@@ -144,9 +144,6 @@ AreLines-head l ls e es r = (All-head EdgeFits e es r.fit, r.are_edges.0)
 pub AreLines-tail : (l : List ℕ) (ls : List (List ℕ)) (e : Edge) (es : List Edge) → AreLines (l ∷ ls) (e ∷ es) → AreLines ls es
 AreLines-tail l ls e es r = record { fit = All-tail EdgeFits e es r.fit; are_edges = r.are_edges.1 }
 
-pub AreLines-lack : (ls : List (List ℕ)) (es : List Edge) → AreLines ls es → All (Lacks 10) ls
-AreLines-lack ls es r = edges-lack ls es r.fit r.are_edges
-
 -- what lines of some edges begin: these edges, and then others
 pub record GoesOver (es fs : List Edge) (more tail : List (List ℕ)) : Type 0 where
   pub edges : List Edge
@@ -203,9 +200,6 @@ partly_front n es gs wired is = record {
   few_in = λ s inside. count_front (enters s) es gs 2 (subst (λ xs. count_by (enters s) xs ≤ 2) is (wired.few_in s inside));
   few_out = λ s inside. count_front (leaves s) es gs 2 (subst (λ xs. count_by (leaves s) xs ≤ 2) is (wired.few_out s inside));
 }
-
-pub HasSmallSizes-network : (n : Network) → IsNetwork n → HasNoPriorities n → HasSmallSizes n
-HasSmallSizes-network n net plain = record { plain = plain; few_inputs = net.few_inputs; few_outputs = net.few_outputs; few_splitters = net.few_splitters }
 
 -- sizes that are the same are so in both directions
 pub back : (m n : Network) → SameSizes m n → SameSizes n m

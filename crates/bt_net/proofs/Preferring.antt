@@ -132,8 +132,6 @@ pub record SoFar (may : Admitted) (n : Network) (text : List ℕ) (preferred : P
   pub lines : BeginsWithItems (IsPriorityHere may n) (length n.edges + 2) text priorities rest
   pub becomes : Becomes n priorities (preferring n preferred.gives.items preferred.takes.items)
   pub count_is : count ≡ length priorities
-  pub gives_long : length preferred.gives.items ≡ n.splitters
-  pub takes_long : length preferred.takes.items ≡ n.splitters
   pub short : count + length rest ≤ length text
 
 -- no line yet

@@ -5,7 +5,7 @@ use Rattle.std.proofs.lemmas.List.{append_assoc}
 use Rattle.std.proofs.lemmas.List.Elements.{All-append}
 use Rattle.std.proofs.lemmas.Option.{slice_get_within}
 use Rattle.bt_text.specs.Lines.{Lacks, SplitsAt}
-use Rattle.bt_text.proofs.FirstLines.{split_apart, SplitsAt-lacks}
+use Rattle.bt_text.proofs.FirstLines.{split_apart}
 use Rattle.bt_text.proofs.Lacking.{lacks}
 use Rattle.bt_frac.proofs.Numerals.{decimal_apart, decimal-lacks}
 use Rattle.bt_net.specs.declared.network.Priority.{Priority}
@@ -27,11 +27,6 @@ number_lacks byte n small low = decimal-lacks n byte (omega arith) (λ r. omega 
 pub cut_numbers : (words front back : List ℕ) (k a : ℕ) → k < 2 ^ 32 → words ≡ decimal k ++ codes " " ++ decimal a → SplitsAt 32 words front back → (front ≡ decimal k) × (back ≡ decimal a)
 cut_numbers words front back k a small is splits =
     split_apart 32 front (decimal k) back (decimal a) splits.first (number_lacks 32 k small (omega arith)) (sym splits.text_is ∙ is ∙ append_assoc (decimal k) (codes " ") (decimal a))
-
-pub uncut_numbers : (words : List ℕ) (k a : ℕ) → k < 2 ^ 32 → words ≡ decimal k ++ codes " " ++ decimal a → Lacks 32 words → ⊥
-uncut_numbers words k a small is none =
-    let splits : SplitsAt 32 words (decimal k) (decimal a) = record { first = number_lacks 32 k small (omega arith); text_is = is ∙ append_assoc (decimal k) (codes " ") (decimal a) } in
-    SplitsAt-lacks splits none
 
 numbers_apart : (k a j b : ℕ) → k < 2 ^ 32 → a < 2 ^ 32 → j < 2 ^ 32 → b < 2 ^ 32 → decimal k ++ codes " " ++ decimal a ≡ decimal j ++ codes " " ++ decimal b → (k ≡ j) × (a ≡ b)
 numbers_apart k a j b p q r s e =

@@ -21,7 +21,7 @@ use Rattle.bt_net.specs.declared.network.EndKind.TheVariants as kind
 use Rattle.bt_net.specs.declared.network.Row.{Row}
 use Rattle.bt_net.specs.declared.network.Side.{Side}
 use Rattle.bt_net.specs.Network.{Network}
-use Rattle.bt_net.specs.PinText.{end_text, ends_text, dir_text, side_text, kind_text, row_text, HasEnds, IsPinLine, IsSideLine, IsRowLine, IsDemandLine, IsDemandHere, IsBlockHere}
+use Rattle.bt_net.specs.PinText.{end_text, ends_text, dir_text, side_text, kind_text, HasEnds, IsPinLine, IsSideLine, IsRowLine, IsDemandLine, IsDemandHere, IsBlockHere}
 use Rattle.bt_net.specs.Wiring.{HasSmallSizes}
 use Rattle.bt_net.specs.inner.Lines.{EndFits, EndsFit}
 use Rattle.bt_net.proofs.PinSpelling.{end_fits, end-lacks, end_lacks_space, dir-lacks, end_apart, dir_apart, pin_apart, block_apart, pin_first, block_first, pin-lacks, block-lacks, some_bytes}
@@ -81,23 +81,12 @@ cut_side n number bytes words front back side small cut splits is =
     (sym splits.text_is ∙ ap (drop 5) (sym cut ∙ side_words bytes side is.text)) in
     (same.0, same.1, fits)
 
--- a side line has its first word, and a space behind its ends
-pub side_begins : (n : Network) (number : ℕ) (bytes : List ℕ) (side : Side) → IsSideLine n number bytes side → ((rest : List ℕ) → bytes ≡ codes "side " ++ rest → ⊥) → ⊥
-side_begins n number bytes side is none = none (ends_text side.ends ++ 32 ∷ dir_text side.dir) (side_words bytes side is.text)
-
 pub side_space : (n : Network) (number : ℕ) (bytes words : List ℕ) (side : Side) → HasSmallSizes n → IsSideLine n number bytes side → bytes ≡ codes "side " ++ words → Lacks 32 words → ⊥
 side_space n number bytes words side small is cut none =
     let splits : SplitsAt 32 words (ends_text side.ends) (dir_text side.dir) =
     record { first = ends_lack_space side.ends (ends_fit n side.ends small is.has_ends); text_is = ap (drop 5) (sym cut ∙ side_words bytes side is.text) } in
     SplitsAt-lacks splits none
 
--- words of a side line make one
-pub side_line_of : (n : Network) (bytes words front back : List ℕ) (side : Side) → bytes ≡ codes "side " ++ words → SplitsAt 32 words front back → front ≡ ends_text side.ends
-    → back ≡ dir_text side.dir → HasEnds n side.ends → IsSideLine n side.line bytes side
-side_line_of n bytes words front back side cut splits is way has = record {
-  text = cut ∙ ap (λ w. codes "side " ++ w) (splits.text_is ∙ (λ i. is i ++ 32 ∷ way i)) ∙ sym (simp append_assoc);
-  has_ends = has;
-  line = refl;
 }
 
 -- a line is that of one side

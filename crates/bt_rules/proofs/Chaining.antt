@@ -157,13 +157,6 @@ module _ (parts : List Part) (clean : IsClean parts) where
       (λ end. absurd (h.none_after j link (subst (λ k. Hands parts k j) (sym end) hands)))
       (followed c h i there)
 
-  -- and comes from the link that hands
-  pub comes_on : (c : Chain) (i j : ℕ) → IsChain parts c → Contains c.links j → IsLink parts i → Hands parts i j → Contains c.links i
-  comes_on c i j is there link hands =
-      let through = chain_through i link in
-      let same : through.0 ≡ c = one_chain through.0 c j through.1 is (goes_on through.0 i j through.1 through.2 hands (contained_link c j is there)) there in
-      subst (λ d. Contains d.links i) same through.2
-
   -- a chain with a link that hands to a splitter ends there, with that link
   pub ends_into : (c : Chain) (i s : ℕ) → IsChain parts c → Contains c.links i → Hands parts i s → IsSplitter parts s
       → (c.sink ≡ enters s) × ((h : IsLongest parts c) × (h.last ≡ i))

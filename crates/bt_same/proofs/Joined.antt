@@ -1,5 +1,5 @@
 -- What adding the rows and clauses of one network after another makes of a formula.
-use Rattle.std.proofs.Common.{◌≡◌, ℕ, ◌<◌, ◌≤◌, ◌+◌, true, List, [], ◌∷◌, ◌++◌, length, map, take, get_or, ap, sym, ◌∙◌, refl, arith, append-nil, append_assoc, length-append}
+use Rattle.std.proofs.Common.{◌≡◌, ℕ, ◌<◌, ◌≤◌, ◌+◌, true, List, [], ◌∷◌, ◌++◌, length, map, take, get_or, ap, sym, ◌∙◌, refl, arith, append_assoc, length-append}
 use Rattle.std.specs.List.{AllByRecursion, flat_map, range_with_len}
 use Rattle.std.proofs.lemmas.List.{length-map}
 use Rattle.bt_frac.specs.Rows.{RowParts}
@@ -21,12 +21,6 @@ parts v cs xs = record { vars = v; clauses = cs; atoms = xs }
 
 pub same_parts : (v w : ℕ) (cs ds : List (List Lit)) (xs ys : List (ℕ × RowParts)) → v ≡ w → cs ≡ ds → xs ≡ ys → parts v cs xs ≡ parts w ds ys
 same_parts v w cs ds xs ys p q r = ap (λ n. parts n cs xs) p ∙ ap (λ l. parts w l xs) q ∙ ap (λ l. parts w ds l) r
-
-pub rows_none : (f : FormulaParts) → f ≡ with_rows f []
-rows_none f = same_parts f.vars (f.vars + length {A = RowParts} []) f.clauses f.clauses f.atoms (f.atoms ++ []) (omega arith) refl (sym (append-nil f.atoms))
-
-pub lits_none : (f : FormulaParts) → f ≡ with_lits f []
-lits_none f = same_parts f.vars f.vars f.clauses (f.clauses ++ []) f.atoms f.atoms refl (sym (append-nil f.clauses)) refl
 
 pub rows_then : (f : FormulaParts) (xs ys : List RowParts) → with_rows (with_rows f xs) ys ≡ with_rows f (xs ++ ys)
 rows_then f xs ys =

@@ -179,8 +179,6 @@ module _ (all : List (List Lit)) (s : Search) (lits : List Lit) (is : IsAssertin
 
   -- one of two or more
   module _ (mid : Search) (keeps : Keeps lits (length all) s mid) (many : 1 < length lits) where
-    assignment_is : mid.assignment ≡ s.assignment
-    assignment_is = keeps.assignment
 
     -- where a false literal of a front would leave the clause to propagate, there is none
     no_first : (front : List Lit) → ((m : Lit) → Contains front m → Contains s.assignment.trail.items m) → Contains front (opposite (first lits)) → ⊥

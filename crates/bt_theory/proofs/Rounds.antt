@@ -92,20 +92,6 @@ module _ (b : Base) (old new : SolverParts) (t : TableauParts) (waiting left : L
         says = used_up new gives.sound (ready_next answer.Spent gives).fits gives.says.1;
       }
 
-  -- a round that begins with more steps is one
-  pub round_after : (pivots : ℕ) (a : Answer) (last : SolverParts) (t' : TableauParts) (said : Option End) → GivesNext old waiting new left a → IsRound pivots b new last t' said
-      → IsRound pivots b old last t' said
-  round_after pivots a last t' None gives round =
-      let more = ap length gives.goes_on.steps ∙ length-append old.steps gives.added in
-      let grows = round.says.1 in
-      record {
-        formula = round.formula ∙ gives.goes_on.formula;
-        limit = round.limit ∙ gives.goes_on.limit;
-        says = (round.says.0, (let l : length old.steps < length last.steps = omega (arith, more, grows) in l), round.says.2);
-      }
-  round_after pivots a last t' (Some e) gives round =
-      record { formula = round.formula ∙ gives.goes_on.formula; limit = round.limit ∙ gives.goes_on.limit; says = round.says }
-
 -- the row of a place is that of its atom
 row_at : (f : FormulaParts) (k : ℕ) (d : ℕ × RowParts) → k < length f.atoms → get_or (atom_rows f) k empty_row ≡ (get_or f.atoms k d).1
 row_at f k d l = get_or-map (λ a. a.1) f.atoms k d empty_row l
