@@ -85,7 +85,7 @@ json_before_blanks blanks bytes are (rest, s) =
 
 -- ---- refusals without offsets
 
-abbrev pub NoOffset : DesignFault → Type 0
+abbrev NoOffset : DesignFault → Type 0
 NoOffset (design.Refused (refusal.Json at)) = ⊥
 NoOffset (design.Refused (refusal.Deep at)) = ⊥
 NoOffset (design.Refused (refusal.DuplicateKey at)) = ⊥

@@ -71,20 +71,20 @@ one_json_of : {X : Type 0} (IsOf : Json → Result X DesignFault → Type 0) →
 one_json_of {X} IsOf one bytes = one_in_turn (IsRead bytes) _ _ (one_read bytes)
     (λ read a b h k. h.2 ∙ ap (seen (λ (n : X). (n, read.1))) (one read.0 h.0 k.0 h.1 k.1) ∙ sym k.2)
 
-pub one_json_design : (bytes : List ℕ) → HasOneAnswer (IsJsonDesign bytes)
+one_json_design : (bytes : List ℕ) → HasOneAnswer (IsJsonDesign bytes)
 one_json_design bytes = one_json_of IsPreferringNet one_preferring_net bytes
 
 one_told_of : {Y : Type 0} (IsOf : Json → Result Laid DesignFault → Type 0) → ((value : Json) → HasOneAnswer (IsOf value)) → (told : Laid → Y) (bytes : List ℕ) → HasOneAnswer (IsToldOf IsOf told bytes)
 one_told_of IsOf one told bytes = one_in_turn (IsJsonOf IsOf bytes) Err _ (one_json_of IsOf one bytes) (λ found a b h k. h ∙ sym k)
 
-pub one_told_of_layout : {Y : Type 0} (told : Laid → Y) (bytes : List ℕ) → HasOneAnswer (IsToldOfLayout told bytes)
+one_told_of_layout : {Y : Type 0} (told : Laid → Y) (bytes : List ℕ) → HasOneAnswer (IsToldOfLayout told bytes)
 one_told_of_layout told bytes = one_told_of IsTieredBlueprint one_blueprint told bytes
 
 pub one_told_of_preferring : {Y : Type 0} (told : Laid → Y) (bytes : List ℕ) → HasOneAnswer (IsToldOf IsTieredPreferring told bytes)
 one_told_of_preferring told bytes = one_told_of IsTieredPreferring one_preferring_layout told bytes
 
 -- two right answers to network text are equal
-pub one_text_design : (bytes : List ℕ) → HasOneAnswer (IsTextDesign bytes)
+one_text_design : (bytes : List ℕ) → HasOneAnswer (IsTextDesign bytes)
 one_text_design bytes = one_in_turn (IsPlainRead bytes) _ _ (one_net_read Priorities bytes) (λ read a b h k. h ∙ sym k)
 
 -- two right answers to the bytes of a design are equal
@@ -95,7 +95,7 @@ one_design bytes a b (inr h) (inl k) = absurd (h.0 k.0)
 one_design bytes a b (inr h) (inr k) = one_text_design bytes a b h.1 k.1
 
 -- two right answers to the text of a bare design are equal
-pub one_bare_text : (bytes : List ℕ) → HasOneAnswer (IsBareText bytes)
+one_bare_text : (bytes : List ℕ) → HasOneAnswer (IsBareText bytes)
 one_bare_text bytes = one_in_turn (IsNetRead Nothing bytes) _ _ (one_net_read Nothing bytes) (λ read a b h k. h ∙ sym k)
 
 -- and to the bytes of one

@@ -58,7 +58,7 @@ one_kept_request rect tier bytes = one_in_turn (IsAlone IsPinned bytes) Err (IsK
 
 -- ---- what is found is a request
 
-pub request_made : (rect : Rect) (tier : Option Tier) (n : PinnedNet) (answer : Result LayoutRequest DesignFault) (r : LayoutRequest) → answer ≡ Ok r
+request_made : (rect : Rect) (tier : Option Tier) (n : PinnedNet) (answer : Result LayoutRequest DesignFault) (r : LayoutRequest) → answer ≡ Ok r
     → IsRequestFor rect tier n answer → IsRequest r
 request_made rect tier n answer r is (stopped fault h e) = absurd (not_both r _ (sym is ∙ e))
 request_made rect tier n answer r is (went_on made h e) = subst IsRequest (same_value made r (sym e ∙ is)) h.1

@@ -34,7 +34,7 @@ text_some part (inl (rest, s)) = omega (arith, ap length s.text_is, length-appen
 text_some part (inr ((byte, rest, s, other), ends)) = omega (arith, ap length s.text_is, length-append s.blanks (byte ∷ rest))
 
 -- what follows blanks, where that isn't JSON text, begins other text
-pub other_text : (bytes text : List ℕ) → (IsJsonText bytes → ⊥) → SkipsBlanks bytes text → 0 < length text → IsOtherText bytes
+other_text : (bytes text : List ℕ) → (IsJsonText bytes → ⊥) → SkipsBlanks bytes text → 0 < length text → IsOtherText bytes
 other_text bytes [] none skips some = absurd (omega (arith, some))
 other_text bytes (byte ∷ text) none skips some = (byte, text, skips, λ same. none (text, subst (λ b. SkipsBlanks bytes (b ∷ text)) same skips))
 

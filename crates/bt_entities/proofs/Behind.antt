@@ -6,11 +6,11 @@ pub behind : (old now next a b : List ℕ) → now ≡ old ++ a → next ≡ now
 behind old now next a b one two = two ∙ ap (λ t. t ++ b) one ∙ append_assoc old a b
 
 -- three pieces
-pub three_behind : (old x y z a b c : List ℕ) → x ≡ old ++ a → y ≡ x ++ b → z ≡ y ++ c → z ≡ old ++ (a ++ b ++ c)
+three_behind : (old x y z a b c : List ℕ) → x ≡ old ++ a → y ≡ x ++ b → z ≡ y ++ c → z ≡ old ++ (a ++ b ++ c)
 three_behind old x y z a b c one two three = behind old y z (a ++ b) c (behind old x y a b one two) three
 
 -- four pieces
-pub four_behind : (old x y z w a b c d : List ℕ) → x ≡ old ++ a → y ≡ x ++ b → z ≡ y ++ c → w ≡ z ++ d → w ≡ old ++ (a ++ b ++ c ++ d)
+four_behind : (old x y z w a b c d : List ℕ) → x ≡ old ++ a → y ≡ x ++ b → z ≡ y ++ c → w ≡ z ++ d → w ≡ old ++ (a ++ b ++ c ++ d)
 four_behind old x y z w a b c d one two three four = behind old z w (a ++ b ++ c) d (three_behind old x y z a b c one two three) four
 
 -- five pieces

@@ -81,10 +81,10 @@ pub value_after : (n : ℕ) (w : List ℕ) → number_from_digits_after 10 n (va
 value_after n [] = refl
 value_after n (c ∷ cs) = value_after (n * 10 + digit_value c) cs
 
-pub numeral_digits : (w : List ℕ) → AllDigits 10 w → Digits (values w) w
+numeral_digits : (w : List ℕ) → AllDigits 10 w → Digits (values w) w
 numeral_digits w d = (all_digits w d, sym (values_back w d))
 
-pub numeral_whole : (w : List ℕ) (n : ℕ) → Spells w n → Whole (values w) w
+numeral_whole : (w : List ℕ) (n : ℕ) → Spells w n → Whole (values w) w
 numeral_whole [] n s = absurd (omega (arith, s.some_digit))
 numeral_whole (c ∷ []) n s = numeral_digits (c ∷ []) s.digits
 numeral_whole (c ∷ e ∷ cs) n s = (

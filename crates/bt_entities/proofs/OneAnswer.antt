@@ -74,7 +74,7 @@ pub record SameBlueprint (m n : ℕ) (es fs : List Json) : Type 0 where
   pub major : m ≡ n
   pub entities : es ≡ fs
 
-pub same_blueprint : (root : Json) (m n : ℕ) (es fs : List Json) → IsBlueprint root m es → IsBlueprint root n fs → SameBlueprint m n es fs
+same_blueprint : (root : Json) (m n : ℕ) (es fs : List Json) → IsBlueprint root m es → IsBlueprint root n fs → SameBlueprint m n es fs
 same_blueprint root m n es fs a b =
     let e : a.blueprint ≡ b.blueprint = same_member root (codes "blueprint") _ _ a.is_there b.is_there in
     record {

@@ -110,7 +110,7 @@ all_minus (c ∷ columns) = (minus_is, all_minus columns)
 abbrev pub MentionsRow : StateLiteral → Type 0
 MentionsRow claim = AllByRecursion IsRow (mentioned claim)
 
-abbrev pub MentionRows : List (List StateLiteral) → Type 0
+abbrev MentionRows : List (List StateLiteral) → Type 0
 MentionRows clauses = AllByRecursion (AllByRecursion MentionsRow) clauses
 
 small_cap : (es : List Edge) → AllByRecursion (λ e. IsCap e.cap) es → (a : ℕ) → get_or (map (λ e. e.cap) es) a 0 < 2 ^ 127

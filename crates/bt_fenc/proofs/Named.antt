@@ -29,7 +29,7 @@ use Rattle.bt_fenc.proofs.Sides.{at_side, side_edges, side_ascends, preferred_is
 use Rattle.bt_fenc.proofs.Withins.{each-append, each-three, each-flat_map, each-map, each-range, each_any, all_below, input_below, output_below}
 
 -- these two are the edges
-abbrev pub AreTwo : List ℕ → ℕ → ℕ → Type 0
+abbrev AreTwo : List ℕ → ℕ → ℕ → Type 0
 AreTwo edges a b = ((edges ≡ a ∷ b ∷ []) × (a < b)) ⊎ ((edges ≡ b ∷ a ∷ []) × (b < a))
 
 -- the pair is one of the network

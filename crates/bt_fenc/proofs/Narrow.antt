@@ -41,10 +41,10 @@ less_narrow a b l m true u = (l, (m, tt))
 less_narrow a b l m false true = (m, (l, tt))
 less_narrow a b l m false false = tt
 
-pub not_below_narrow : (a b : ℕ) → IsNarrow a → IsNarrow b → IsNarrowRow (not_below a b)
+not_below_narrow : (a b : ℕ) → IsNarrow a → IsNarrow b → IsNarrowRow (not_below a b)
 not_below_narrow a b l m = less_narrow a b l m (ltb a b) (ltb b a)
 
-pub above_narrow : (a b : ℕ) → IsNarrow a → IsNarrow b → IsNarrowRow (above a b)
+above_narrow : (a b : ℕ) → IsNarrow a → IsNarrow b → IsNarrowRow (above a b)
 above_narrow a b l m = less_narrow a b l m (ltb a b) (ltb b a)
 
 edge_narrow : (b c : Bool) (m : ℕ) (terms : List (ℕ × Ratio)) → IsNarrow m → AllByRecursion IsNarrow (columns_of terms)

@@ -178,7 +178,7 @@ state_answers : (n : Network) (t : Fractions) (s : Flows) → StandsFor n t s �
 state_answers n t s g (Ok j) h = (state_says n s j (h.0.each s g), h.1)
 state_answers n t s g (Err w) h = h
 
-pub state_some : (n : Network) (t : Fractions) (x : Result Judgement WideSum) → IsStateAnswer n t x → (s : Flows) × StandsFor n t s
+state_some : (n : Network) (t : Fractions) (x : Result Judgement WideSum) → IsStateAnswer n t x → (s : Flows) × StandsFor n t s
 state_some n t (Ok j) h = h.0.some
 state_some n t (Err w) h = h.earlier.some
 

@@ -43,12 +43,12 @@ at_or_moved zero (suc n) = inr (n, refl)
 at_or_moved (suc k) zero = inr (zero, refl)
 at_or_moved (suc k) (suc n) = elim (at_or_moved k n) [ inl e ↦ inl (ap (λ x. suc x) e) | inr h ↦ inr (suc h.0, ap (λ x. suc x) h.1) ]
 
-pub moved_apart : (k m : ℕ) → moved k m ≡ k → ⊥
+moved_apart : (k m : ℕ) → moved k m ≡ k → ⊥
 moved_apart zero m e = omega (arith, e)
 moved_apart (suc k) zero e = omega (arith, e)
 moved_apart (suc k) (suc m) e = moved_apart k m (omega (arith, e))
 
-pub moved_once : (k m n : ℕ) → moved k m ≡ moved k n → m ≡ n
+moved_once : (k m n : ℕ) → moved k m ≡ moved k n → m ≡ n
 moved_once zero m n e = omega (arith, e)
 moved_once (suc k) zero zero e = refl
 moved_once (suc k) zero (suc n) e = absurd (omega (arith, e))

@@ -8,12 +8,12 @@ pub same_edge : (x e : Edge) → Some x ≡ Some e → e ≡ x
 same_edge x e s = cc
 
 -- an edge of a list that is moved comes of one at its place
-pub read_mapped : (g : Edge → Edge) (es : List Edge) (m : ℕ) (e : Edge) → slice_get (map g es) m ≡ Some e → (d : Edge) × (slice_get es m ≡ Some d) × (e ≡ g d)
+read_mapped : (g : Edge → Edge) (es : List Edge) (m : ℕ) (e : Edge) → slice_get (map g es) m ≡ Some e → (d : Edge) × (slice_get es m ≡ Some d) × (e ≡ g d)
 read_mapped g [] m e s = absurd cc
 read_mapped g (x ∷ es) zero e s = (x, refl, same_edge (g x) e s)
 read_mapped g (x ∷ es) (suc m) e s = read_mapped g es m e s
 
-pub written_mapped : (g : Edge → Edge) (es : List Edge) (m : ℕ) (d : Edge) → slice_get es m ≡ Some d → slice_get (map g es) m ≡ Some (g d)
+written_mapped : (g : Edge → Edge) (es : List Edge) (m : ℕ) (d : Edge) → slice_get es m ≡ Some d → slice_get (map g es) m ≡ Some (g d)
 written_mapped g [] m d s = absurd cc
 written_mapped g (x ∷ es) zero d s = ap (λ y. Some (g y)) (sym (same_edge x d s))
 written_mapped g (x ∷ es) (suc m) d s = written_mapped g es m d s

@@ -26,7 +26,7 @@ one_on : (a i : ℕ) → a + suc i ≡ a + 1 + i
 one_on a i = omega arith
 
 -- numbers whose sum is at most that of sums, of which none is greater, are at most these
-pub sums_filled : (p : ℕ → Edge → Bool) (a : ℕ) (xs : List ℤ) (es : List Edge) (fs : List ℤ) → ((i : ℕ) → i < length xs → sum_where (p (a + i)) es fs ≤ℤ get_or xs i (pos 0))
+sums_filled : (p : ℕ → Edge → Bool) (a : ℕ) (xs : List ℤ) (es : List Edge) (fs : List ℤ) → ((i : ℕ) → i < length xs → sum_where (p (a + i)) es fs ≤ℤ get_or xs i (pos 0))
     → total xs ≤ℤ sums_from p a (length xs) es fs → (i : ℕ) → i < length xs → get_or xs i (pos 0) ≤ℤ sum_where (p (a + i)) es fs
 sums_filled p a [] es fs h full i l = absurd (omega (arith, l))
 sums_filled p a (x ∷ xs) es fs h full zero l =

@@ -17,7 +17,7 @@ use Rattle.bt_json.proofs.Lenient.{StopsBy}
 use Rattle.bt_json.proofs.Events.{stops_first, first_stops}
 
 -- how reading ends is a right answer
-pub end_is_right : (bytes : List ℕ) (e : Stop) → reading bytes ≡ e → IsRead bytes (ends_as e)
+end_is_right : (bytes : List ℕ) (e : Stop) → reading bytes ≡ e → IsRead bytes (ends_as e)
 end_is_right bytes (found v n) e =
     let allowed = found_allowed bytes v n e in
     record { front = subst (Right bytes) e (reading_right true bytes); shallow = omega (arith, allowed.0); distinct = allowed.1 }

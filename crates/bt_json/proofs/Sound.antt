@@ -19,15 +19,15 @@ use Rattle.bt_json.proofs.SoundTexts.{Half, TextOnwards, text_step, nothing_read
 use Rattle.bt_json.specs.declared.limits.TheConstants.{MOST_LEVELS}
 
 -- the text before the opening quote of a text
-abbrev pub Opening : Role → List Frame → Texts
+abbrev Opening : Role → List Frame → Texts
 Opening as_value k t = Due k t
 Opening (as_name names vs from) k t = NameDue names vs k t × (length t ≡ from)
 
-abbrev pub NeverNumber : Json → Type 0
+abbrev NeverNumber : Json → Type 0
 NeverNumber v = (rest : List ℕ) → EndsBefore v rest
 
 -- a word, less these letters
-abbrev pub WordFront : List ℕ → Json → Texts
+abbrev WordFront : List ℕ → Json → Texts
 WordFront left v t = NeverNumber v × (0 < length left) × IsValue v (t ++ left)
 
 -- what the text is that leads to a state
@@ -63,7 +63,7 @@ pub record DeepThere (b : ℕ) (p : List ℕ) : Type 0 where
   pub opens : (b ≡ 91) ⊎ (b ≡ 123)
 
 -- the value ended with the byte, or before it
-abbrev pub FoundThere : ℕ → ℕ → List ℕ → Json → ℕ → Type 0
+abbrev FoundThere : ℕ → ℕ → List ℕ → Json → ℕ → Type 0
 FoundThere at b p v n = ((n ≡ at + 1) × (Blanks ▸ IsValue v) (p ++ b ∷ []) × NeverNumber v) ⊎ ((n ≡ at) × (Blanks ▸ IsValue v) p × ((rest : List ℕ) → EndsBefore v (b ∷ rest)))
 
 -- what a step over the byte b tells, behind the text p

@@ -40,10 +40,10 @@ use Rattle.bt_lays.proofs.Marks.{IsMarkedChain, contained, ends_there, given_edg
 use Rattle.bt_lays.proofs.Renamed.{sink_splits, source_splits, start_from, target_from}
 
 -- the chain starts at the half of this splitter on this hand, or ends there
-abbrev pub GivesBy : List Part → Chain → ℕ → Option Hand → Type 0
+abbrev GivesBy : List Part → Chain → ℕ → Option Hand → Type 0
 GivesBy parts chain s hand = (half : Cell) × (chain.source ≡ leaves s half) × IsHalfOn parts s hand half
 
-abbrev pub TakesBy : List Part → Chain → ℕ → Option Hand → Type 0
+abbrev TakesBy : List Part → Chain → ℕ → Option Hand → Type 0
 TakesBy parts chain s hand = (half : Cell) × EndsAtHalf parts chain s half × IsHalfOn parts s hand half
 
 -- a half of a splitter is on one of its hands

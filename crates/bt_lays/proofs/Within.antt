@@ -71,7 +71,7 @@ suits_of request parts fits k d lt = (
 )
 
 -- what the test of the whole asks beside the parts one by one
-pub fits_from : (parts : List Part) (request : LayoutRequest) (own : Naming) → All (SuitsAlone request.rect request.tier) parts → ListsEach (IsInput parts) own.inputs
+fits_from : (parts : List Part) (request : LayoutRequest) (own : Naming) → All (SuitsAlone request.rect request.tier) parts → ListsEach (IsInput parts) own.inputs
     → ListsEach (IsOutput parts) own.outputs → All (IsFree parts) request.blocks → All (IsFirstInside request.rect parts) own.inputs
     → All (IsLastInside request.rect parts) own.outputs → Fits parts request
 fits_from parts request own suits inputs outputs free first last = record {
@@ -82,7 +82,7 @@ fits_from parts request own suits inputs outputs free first last = record {
   outputs = λ i part output is_i. All-contains (IsLastInside request.rect parts) own.outputs i last (outputs.all i output) part is_i;
 }
 
-pub free_of : (parts : List Part) (request : LayoutRequest) → Fits parts request → All (IsFree parts) request.blocks
+free_of : (parts : List Part) (request : LayoutRequest) → Fits parts request → All (IsFree parts) request.blocks
 free_of parts request fits k d lt i at = fits.unblocked i (get_or request.blocks k d) (Contains-get_or request.blocks k d lt) at
 
 pub first_of : (parts : List Part) (request : LayoutRequest) (own : Naming) → ListsEach (IsInput parts) own.inputs → Fits parts request

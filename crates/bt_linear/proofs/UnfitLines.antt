@@ -46,7 +46,7 @@ alone_named s p a e = at (s.0 == p) refl e
     at false test is = absurd cc
 
 -- a position that the line lacks is added to it
-pub zero_fits : (s : ℕ × Ratio) (shares : Terms) (unfit : Unfit) → All HasNumber shares → coefficient_at s.0 shares ≡ None → IsUnfit (s ∷ []) one shares unfit → ⊥
+zero_fits : (s : ℕ × Ratio) (shares : Terms) (unfit : Unfit) → All HasNumber shares → coefficient_at s.0 shares ≡ None → IsUnfit (s ∷ []) one shares unfit → ⊥
 zero_fits s shares unfit all lacks =
     combined_fits (s ∷ []) shares unfit all (λ a b has by named low product wide.
     let here : Some by ≡ None = sym named ∙ ap (λ p. coefficient_at p shares) (sym (alone_named s unfit.column a has).0) ∙ lacks in

@@ -54,7 +54,7 @@ pub numbered : (kept : List ℕ) (place : ℕ) → Contains kept place → (numb
 numbered kept place among = (among.0, among.1, get_or_default kept among.0 0 place among.1 ∙ among.2)
 
 -- a step keeps its clause
-pub renumbered_clause : (first : ℕ) (kept : List ℕ) (place : ℕ) (s t : Step) → IsRenumbered first kept place s t → clause_of t ≡ clause_of s
+renumbered_clause : (first : ℕ) (kept : List ℕ) (place : ℕ) (s t : Step) → IsRenumbered first kept place s t → clause_of t ≡ clause_of s
 renumbered_clause first kept place (Lemma lits weights) t is = ap clause_of is
 renumbered_clause first kept place (Learnt lits hints) t is = ap clause_of is.1
 
@@ -68,7 +68,7 @@ renamed_is first kept place number again in_order small earlier is = elim is [
   | inr stays ↦ elim stays.outside [ inl below ↦ absurd (omega (arith, below)) | inr past ↦ absurd (omega (arith, past, earlier)) ]
 ]
 
-pub renumbered_names : (first : ℕ) (kept : List ℕ) (place number : ℕ) (s t : Step) → InOrder kept → number < length kept → get_or kept number 0 < place → IsRenumbered first kept place s t
+renumbered_names : (first : ℕ) (kept : List ℕ) (place number : ℕ) (s t : Step) → InOrder kept → number < length kept → get_or kept number 0 < place → IsRenumbered first kept place s t
     → Contains (hints_of s) (first + get_or kept number 0) → Contains (hints_of t) (first + number)
 renumbered_names first kept place number (Lemma lits weights) t in_order small earlier is among = absurd (none_in (first + get_or kept number 0) among)
 renumbered_names first kept place number (Learnt lits hints) t in_order small earlier (again, is, zipped) (i, inside, at) =

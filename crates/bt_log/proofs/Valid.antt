@@ -19,7 +19,7 @@ use Rattle.bt_log.proofs.Left.{comes_before, count, is_short, last_left, left_at
 abbrev pub before : List (List Lit) → List Step → ℕ → List (List Lit)
 before clauses steps place = clauses ++ map clause_of (take place steps)
 
-pub valid_at : (f : FormulaParts) (clauses : List (List Lit)) (steps : List Step) (place : ℕ) → AreValid f clauses steps → place < length steps
+valid_at : (f : FormulaParts) (clauses : List (List Lit)) (steps : List Step) (place : ℕ) → AreValid f clauses steps → place < length steps
     → IsValidStep f (before clauses steps place) (step_at steps place)
 valid_at f clauses [] place valid small = absurd (omega (arith, small))
 valid_at f clauses (s ∷ steps) zero valid small = subst (λ cs. IsValidStep f cs s) (sym (append-nil clauses)) valid.0
@@ -27,7 +27,7 @@ valid_at f clauses (s ∷ steps) (suc place) valid small =
     subst (λ cs. IsValidStep f cs (step_at steps place)) (append_assoc clauses (clause_of s ∷ []) (map clause_of (take place steps)))
     (valid_at f (clauses ++ clause_of s ∷ []) steps place valid.1 (omega (arith, small)))
 
-pub valid_from : (f : FormulaParts) (clauses : List (List Lit)) (steps : List Step)
+valid_from : (f : FormulaParts) (clauses : List (List Lit)) (steps : List Step)
     → ((place : ℕ) → place < length steps → IsValidStep f (before clauses steps place) (step_at steps place)) → AreValid f clauses steps
 valid_from f clauses [] each = tt
 valid_from f clauses (s ∷ steps) each = (

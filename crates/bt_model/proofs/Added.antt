@@ -50,7 +50,7 @@ step_apart South c e = let y = ap (λ z. z.y) e in omega (arith, ints)
 step_apart West c e = let x = ap (λ z. z.x) e in omega (arith, ints)
 
 -- what comes along comes from behind
-pub along_behind : (d e : Dir) (side : Side) → e ≡ d → ComesFrom d e side → side ≡ Behind
+along_behind : (d e : Dir) (side : Side) → e ≡ d → ComesFrom d e side → side ≡ Behind
 along_behind d e side same comes = one_side d e side Behind comes (sym same)
 
 behind_unblocked : (kind : Kind) (side : Side) → side ≡ Behind → (kind ≡ Belt) ⊎ (kind ≡ Entrance) → BlocksFrom kind side → ⊥

@@ -11,12 +11,12 @@ below_or_at : (n k : ℕ) → n < k + 1 → (n < k) ⊎ (n ≡ k)
 below_or_at n k h = ⊎_elim inl (λ le. inr (omega arith)) (cases_lt n k)
 
 -- what has the least of P has that of Q, where the two say the same
-pub same_least : (P Q : ℕ → Type 0) (o : Option ℕ) → ((n : ℕ) → P n → Q n) → ((n : ℕ) → Q n → P n) → IsLeastIfAny P o → IsLeastIfAny Q o
+same_least : (P Q : ℕ → Type 0) (o : Option ℕ) → ((n : ℕ) → P n → Q n) → ((n : ℕ) → Q n → P n) → IsLeastIfAny P o → IsLeastIfAny Q o
 same_least P Q None to from none = λ n q. none n (from n q)
 same_least P Q (Some l) to from least = (to l least.0, λ m q. least.1 m (from m q))
 
 -- the lesser one of two least numbers is the least that has either property
-pub lesser_least : (P Q : ℕ → Type 0) (a b : Option ℕ) → IsLeastIfAny P a → IsLeastIfAny Q b → IsLeastIfAny (λ n. P n ⊎ Q n) (lesser a b)
+lesser_least : (P Q : ℕ → Type 0) (a b : Option ℕ) → IsLeastIfAny P a → IsLeastIfAny Q b → IsLeastIfAny (λ n. P n ⊎ Q n) (lesser a b)
 lesser_least P Q None None p q = λ n h. ⊎_elim (p n) (q n) h
 lesser_least P Q None (Some n) p q = (inr q.0, λ m h. ⊎_elim (λ x. absurd (p m x)) (q.1 m) h)
 lesser_least P Q (Some m) None p q = (inl p.0, λ n h. ⊎_elim (p.1 n) (λ x. absurd (q n x)) h)

@@ -10,7 +10,7 @@ has_map f [] i x e = absurd (none-some x e)
 has_map f (y ∷ xs) zero x e = ap (λ z. Some (f z)) (same_Some y x e)
 has_map f (y ∷ xs) (suc i) x e = has_map f xs i x e
 
-pub map_has : {X Y : Type 0} (f : X → Y) (xs : List X) (i : ℕ) (y : Y) → slice_get (map f xs) i ≡ Some y → (x : X) × (slice_get xs i ≡ Some x) × (y ≡ f x)
+map_has : {X Y : Type 0} (f : X → Y) (xs : List X) (i : ℕ) (y : Y) → slice_get (map f xs) i ≡ Some y → (x : X) × (slice_get xs i ≡ Some x) × (y ≡ f x)
 map_has f [] i y e = absurd (none-some y e)
 map_has f (x ∷ xs) zero y e = (x, refl, sym (same_Some (f x) y e))
 map_has f (x ∷ xs) (suc i) y e = map_has f xs i y e
@@ -94,7 +94,7 @@ replaced i n k = cond (k == i) n k
 pub replaced_at : (i n k : ℕ) → k ≡ i → replaced i n k ≡ n
 replaced_at i n k e = ap (λ b. cond b n k) (eq-eqb k i e)
 
-pub replaced_other : (i n k : ℕ) → (k ≡ i → ⊥) → replaced i n k ≡ k
+replaced_other : (i n k : ℕ) → (k ≡ i → ⊥) → replaced i n k ≡ k
 replaced_other i n k apart = ap (λ b. cond b n k) (ne_eqb k i apart)
 
 pub replaced_once : (i n k l : ℕ) → k < n → l < n → replaced i n k ≡ replaced i n l → k ≡ l

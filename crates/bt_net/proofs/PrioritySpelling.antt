@@ -35,10 +35,10 @@ numbers_apart k a j b p q r s e =
     (decimal_apart k j (omega arith) (omega arith) cut.0, decimal_apart a b (omega arith) (omega arith) cut.1)
 
 -- the words behind the first one
-pub give_words : (k a : ℕ) → priority_text (Give k a) ≡ codes "give s" ++ (decimal k ++ codes " " ++ decimal a)
+give_words : (k a : ℕ) → priority_text (Give k a) ≡ codes "give s" ++ (decimal k ++ codes " " ++ decimal a)
 give_words k a = simp append_assoc
 
-pub take_words : (k a : ℕ) → priority_text (Take k a) ≡ codes "take s" ++ (decimal k ++ codes " " ++ decimal a)
+take_words : (k a : ℕ) → priority_text (Take k a) ≡ codes "take s" ++ (decimal k ++ codes " " ++ decimal a)
 take_words k a = simp append_assoc
 
 -- a line is that of one priority
@@ -75,14 +75,14 @@ module _ (n : Network) (small : HasSmallSizes n) (few : length n.edges ≤ MOST_
       text_lacks (Take k a) fits = with_numbers (codes "take s") k a (lacks 10 (codes "take s") refl) fits.0 fits.1
 
 -- its first byte tells it from other lines
-pub text_first : (p : Priority) → (get_or (priority_text p) 0 0 ≡ 103) ⊎ (get_or (priority_text p) 0 0 ≡ 116)
+text_first : (p : Priority) → (get_or (priority_text p) 0 0 ≡ 103) ⊎ (get_or (priority_text p) 0 0 ≡ 116)
 text_first (Give k a) = inl (ap (λ l. get_or l 0 0) (give_words k a))
 text_first (Take k a) = inr (ap (λ l. get_or l 0 0) (take_words k a))
 
-pub priority_first : (n : Network) (number : ℕ) (bytes : List ℕ) (p : Priority) → IsPriorityLine n number bytes p → (get_or bytes 0 0 ≡ 103) ⊎ (get_or bytes 0 0 ≡ 116)
+priority_first : (n : Network) (number : ℕ) (bytes : List ℕ) (p : Priority) → IsPriorityLine n number bytes p → (get_or bytes 0 0 ≡ 103) ⊎ (get_or bytes 0 0 ≡ 116)
 priority_first n number bytes p is = subst (λ b. (get_or b 0 0 ≡ 103) ⊎ (get_or b 0 0 ≡ 116)) (sym is.0) (text_first p)
 
-pub priority-some : (n : Network) (number : ℕ) (bytes : List ℕ) (p : Priority) → IsPriorityLine n number bytes p → 0 < length bytes
+priority-some : (n : Network) (number : ℕ) (bytes : List ℕ) (p : Priority) → IsPriorityLine n number bytes p → 0 < length bytes
 priority-some n number bytes p is = elim (priority_first n number bytes p is) [ inl g ↦ some_bytes bytes 103 g (omega arith) | inr t ↦ some_bytes bytes 116 t (omega arith) ]
 
 -- of a line that begins otherwise there is no priority

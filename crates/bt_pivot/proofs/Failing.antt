@@ -65,7 +65,7 @@ fails_told t position row point basic is_bound here = (
 )
 
 -- a position without a line, or without a bound row, doesn't fail
-pub no_line : (t : TableauParts) (position : ℕ) → slot_at t.slots position ≡ None → Fails t position → ⊥
+no_line : (t : TableauParts) (position : ℕ) → slot_at t.slots position ≡ None → Fails t position → ⊥
 no_line t position none fails = let both : None ≡ Some fails.basic.0 = sym none ∙ fails.basic.1 in cc
 
 pub no_row : (t : TableauParts) (position : ℕ) → bound_row t position ≡ None → Fails t position → ⊥

@@ -46,7 +46,7 @@ basis_at zero k rows = basis_rows k rows ∙ ap (λ n. positions_from n rows) (l
 basis_at (suc columns) k rows =
     basis_at columns (k + 1) rows ∙ ap (λ n. positions_from n rows) (let e : k + 1 + columns ≡ k + suc columns = omega arith in e)
 
-pub start_basis : (rows : List RowParts) (columns : ℕ) → basis_of (start_slots rows columns) ≡ positions_from columns rows
+start_basis : (rows : List RowParts) (columns : ℕ) → basis_of (start_slots rows columns) ≡ positions_from columns rows
 start_basis rows columns = basis_at columns 0 rows ∙ ap (λ n. positions_from n rows) (let e : 0 + columns ≡ columns = omega arith in e)
 
 positions_length : (k : ℕ) (rows : List RowParts) → length (positions_from k rows) ≡ length rows

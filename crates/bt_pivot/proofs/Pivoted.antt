@@ -292,7 +292,7 @@ same_weights (x ∷ xs) (y ∷ ys) e h =
     let sum' : sum_by weight (y ∷ ys) ≡ weight y + sum_by weight ys = sum_by-cons weight y ys in
     omega arith
 
-pub substituted_weight : (enters : ℕ) (zero : Terms) (old new : Option Terms) → IsSubstituted enters zero old new → weight new ≡ weight old
+substituted_weight : (enters : ℕ) (zero : Terms) (old new : Option Terms) → IsSubstituted enters zero old new → weight new ≡ weight old
 unfolding weight
 substituted_weight enters zero None new is = ap weight is
 substituted_weight enters zero (Some terms) new (inl h) = ap weight h.1

@@ -10,13 +10,13 @@ use Rattle.bt_linear.specs.Lines.{Terms, total}
 use Rattle.bt_pivot.specs.SolvedForms.{at_position}
 use Rattle.bt_linear.proofs.Numbers.{Positive, plus_positive, times_positive}
 
-pub row_some : (at : ℕ → Ratio) → AreValues at → (terms : Terms) → All (λ t. IsLowest t.1) terms → Positive (total at terms)
+row_some : (at : ℕ → Ratio) → AreValues at → (terms : Terms) → All (λ t. IsLowest t.1) terms → Positive (total at terms)
 row_some at values [] all = omega arith
 row_some at values (t ∷ terms) all =
     let here = All-head (λ u. IsLowest u.1) t terms all in
     plus_positive (times t.1 (at t.0)) (total at terms) (times_positive t.1 (at t.0) here.positive (values t.0)) (row_some at values terms (All-tail (λ u. IsLowest u.1) t terms all))
 
-pub row_at_some : (rows : List RowParts) (i : ℕ) (at : ℕ → Ratio) → AreValues at → All IsRow rows → Positive (total at (get_or rows i empty_row).terms)
+row_at_some : (rows : List RowParts) (i : ℕ) (at : ℕ → Ratio) → AreValues at → All IsRow rows → Positive (total at (get_or rows i empty_row).terms)
 row_at_some [] i at values all = omega arith
 row_at_some (row ∷ rows) zero at values all = row_some at values row.terms (All-head IsRow row rows all).coefficients
 row_at_some (row ∷ rows) (suc i) at values all = row_at_some rows i at values (All-tail IsRow row rows all)

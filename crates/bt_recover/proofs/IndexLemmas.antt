@@ -16,7 +16,7 @@ use Rattle.bt_recover.specs.inner.Index.{index_at, IsIndexOf, IsLesser, IsFreeFo
 use Rattle.bt_recover.specs.Placing.{IsFirstOverlap}
 
 -- the second cell is the greater half, where there is one
-abbrev pub IsSecond : Part → Option Cell → Type 0
+abbrev IsSecond : Part → Option Cell → Type 0
 IsSecond part second = (cell : Cell) → (second ≡ Some cell) ↔ IsGreaterHalf part cell
 
 -- what holds of both cells holds of each that the part covers

@@ -60,7 +60,7 @@ pub numbered_of : (parts : List Part) → IsClean parts → (naming : Naming) (e
 numbered_of parts clean naming edges joints names is has =
     numbered parts clean naming edges names (subst (λ es. HasEdges parts (IsEdgeOf parts naming) AllDone es) (sym is) (edges_alone parts naming AllDone joints has))
 
-abbrev pub numbered_joints : (parts : List Part) → IsClean parts → (naming : Naming) (joints : List Joint) → AreNames parts naming
+abbrev numbered_joints : (parts : List Part) → IsClean parts → (naming : Naming) (joints : List Joint) → AreNames parts naming
     → HasEdges parts (IsJoint parts naming) AllDone joints → IsNumbered parts (net_with naming (map (λ joint. joint.edge) joints)) naming
 numbered_joints parts clean naming joints names has = numbered parts clean naming (map (λ joint. joint.edge) joints) names (edges_alone parts naming AllDone joints has)
 
@@ -416,12 +416,12 @@ one_taken parts priorities clean s c d splitter is_c is_d x y =
     one_ending parts clean s y.0 c d splitter is_c is_d
     (subst (λ h. EndsAtHalf parts c s h) (one_half_on parts s (priority_of priorities s).take x.0 y.0 x.2 y.2) x.1) y.1
 
-pub into_splitter_at : (parts : List Part) (chain : Chain) (s : ℕ) → IsChain parts chain → chain.sink ≡ enters s → IsSplitter parts s
+into_splitter_at : (parts : List Part) (chain : Chain) (s : ℕ) → IsChain parts chain → chain.sink ≡ enters s → IsSplitter parts s
 into_splitter_at parts chain s (inl h) e = (subst (λ x. EndsAs parts x h.last) e h.ends).0
 into_splitter_at parts chain s (inr h) e = subst (λ x. IsSplitter parts x) (enters_same h.to s (sym h.sink ∙ e)) h.is_to
 
 -- a layout with priorities has one numbered network at most
-pub same_preferring : (parts : List Part) (priorities : List Priority) (m n : Network) (naming : Naming) → IsPreferring parts priorities m naming → IsPreferring parts priorities n naming → m ≡ n
+same_preferring : (parts : List Part) (priorities : List Priority) (m n : Network) (naming : Naming) → IsPreferring parts priorities m naming → IsPreferring parts priorities n naming → m ≡ n
 same_preferring parts priorities m n naming h k =
     let x = h.numbered in
     let y = k.numbered in

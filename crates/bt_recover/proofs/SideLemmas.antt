@@ -70,7 +70,7 @@ pub sides_answer : (parts : List Part) (told : Result (List Demand) RecoverFault
 sides_answer parts = answers_of Memory (AreEndSides parts) (one_end_sides parts)
 
 -- one end more
-pub stays_more : (parts : List Part) (end_of : ℕ → End) (number : ℕ) (indices : List ℕ) (stays : List Demand) (i : ℕ) (part : Part) (last : List Demand)
+stays_more : (parts : List Part) (end_of : ℕ → End) (number : ℕ) (indices : List ℕ) (stays : List Demand) (i : ℕ) (part : Part) (last : List Demand)
     → AreStaysOf parts end_of number indices stays → HasPart parts i part → IsStayOf parts (end_of (number + length indices)) part last
     → AreStaysOf parts end_of number (indices ++ i ∷ []) (stays ++ last)
 stays_more parts end_of number [] stays i part last h at is =

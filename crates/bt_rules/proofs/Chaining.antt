@@ -27,12 +27,12 @@ join parts i j last xs ys (more k m e rest link hands path) way =
     (k ∷ joined.0, more k m last joined.0 link hands joined.1, λ l h. contains_more k joined.0 l (joined.2 l h))
 
 -- a path has its first part
-pub has_first : (parts : List Part) (i last : ℕ) (links : List ℕ) → Path parts i last links → Contains links i
+has_first : (parts : List Part) (i last : ℕ) (links : List ℕ) → Path parts i last links → Contains links i
 has_first parts i last links (one j link) = contains_head j []
 has_first parts i last links (more j m e rest link hands path) = contains_head j rest
 
 -- and its last
-pub has_last : (parts : List Part) (i last : ℕ) (links : List ℕ) → Path parts i last links → Contains links last
+has_last : (parts : List Part) (i last : ℕ) (links : List ℕ) → Path parts i last links → Contains links last
 has_last parts i last links (one j link) = contains_head j []
 has_last parts i last links (more j m e rest link hands path) = contains_more j rest last (has_last parts m last rest path)
 

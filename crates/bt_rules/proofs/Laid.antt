@@ -73,7 +73,7 @@ shape_on part c covers = by part.kind refl covers
     by kind.Splitter e (inr greater) = (shape.Half Greater, e, greater.1)
 
 -- the shape of a splitter is a half
-pub half_shape : (of : Shape) → kind_of of ≡ kind.Splitter → (half : Half) × (of ≡ shape.Half half)
+half_shape : (of : Shape) → kind_of of ≡ kind.Splitter → (half : Half) × (of ≡ shape.Half half)
 half_shape shape.Belt e = absurd (cc)
 half_shape shape.Entrance e = absurd (cc)
 half_shape shape.Exit e = absurd (cc)

@@ -22,7 +22,7 @@ moves_by row a b number s (inl (less, up)) = inl (less_delta_left a b (bound_val
 moves_by row a b number s (inr (less, down)) = inr (less_delta_right a b (bound_value row) s less, down)
 
 -- what can enter is told by the failing line and its row
-pub enters_told : (t : TableauParts) (fails enters : ℕ) (terms : Terms) (row : RowParts) (point : Delta) → slot_at t.slots fails ≡ Some terms → bound_row t fails ≡ Some row
+enters_told : (t : TableauParts) (fails enters : ℕ) (terms : Terms) (row : RowParts) (point : Delta) → slot_at t.slots fails ≡ Some terms → bound_row t fails ≡ Some row
     → IsSamePoint point (standing (resting t) 0 (Some terms)) → Names terms (MayEnter t row point) enters ↔ CanEnter t fails enters
 enters_told t fails enters terms row point line is_bound same = (forth, from)
   where
@@ -53,7 +53,7 @@ enters_told t fails enters terms row point line is_bound same = (forth, from)
     from can = (can.number, subst (λ ts. coefficient_at enters ts ≡ Some can.number) (line_is can.terms can.line) can.names, enter can.number can.may_move)
 
 -- the least of one property is that of the same property in other words
-pub least_told : (P Q : ℕ → Type 0) → ((p : ℕ) → P p ↔ Q p) → (position : ℕ) → IsLeast P position → IsLeast Q position
+least_told : (P Q : ℕ → Type 0) → ((p : ℕ) → P p ↔ Q p) → (position : ℕ) → IsLeast P position → IsLeast Q position
 least_told P Q same position least = ((same position).0 least.0, λ other has. least.1 other ((same other).1 has))
 
 -- the same of a position whose row's bound value and point have this order

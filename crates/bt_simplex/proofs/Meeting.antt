@@ -38,7 +38,7 @@ use Rattle.bt_linear.proofs.Zeros.{one_some, one_times, total_along, all_from, n
 abbrev pub shifted : Ratio → Delta → Ratio
 shifted epsilon point = plus point.value (times epsilon point.tiny)
 
-pub shifted_some : (epsilon : Ratio) (point : Delta) → Positive epsilon → Positive point.value → Positive point.tiny → Positive (shifted epsilon point)
+shifted_some : (epsilon : Ratio) (point : Delta) → Positive epsilon → Positive point.value → Positive point.tiny → Positive (shifted epsilon point)
 shifted_some epsilon point some v t = plus_positive point.value (times epsilon point.tiny) v (times_positive epsilon point.tiny some t)
 
 -- a sum where each position is shifted is the sum of the values, and the number times the sum of the rest
@@ -115,7 +115,7 @@ module _ (t : TableauParts) (epsilon : Ratio) (tableau : IsTableau t) (some : Po
           (next along (total_shifted (resting t) epsilon some (rest_value t tableau.rows) (rest_tiny t) terms lines.0.numbers))
 
 -- epsilon is above 0
-pub epsilon_above : (t : TableauParts) (epsilon : Ratio) → IsTableau t → IsEpsilon t epsilon → IsAbove epsilon
+epsilon_above : (t : TableauParts) (epsilon : Ratio) → IsTableau t → IsEpsilon t epsilon → IsAbove epsilon
 epsilon_above t epsilon tableau is = by is.is
   where
     by : (epsilon ≡ one) ⊎ ((position : ℕ) × IsHalfRoom t position epsilon) → IsAbove epsilon

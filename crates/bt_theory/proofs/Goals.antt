@@ -78,7 +78,7 @@ same_next : (old mid new : SolverParts) → IsOfSame old mid → IsOfSame mid ne
 same_next old mid new was is = record { formula = is.formula ∙ was.formula; limit = is.limit ∙ was.limit }
 
 -- one after the other
-pub goes_next : (old mid new : SolverParts) → GoesOn old mid → GoesOn mid new → GoesOn old new
+goes_next : (old mid new : SolverParts) → GoesOn old mid → GoesOn mid new → GoesOn old new
 goes_next old mid new was is = record {
   same = same_next old mid new was.same is.same;
   fits = is.fits;

@@ -168,7 +168,7 @@ all_negate f atoms rows (w ∷ weighed) are h =
     ((refl, are.have w.0 (All-head (λ v. v.0 < length atoms) w weighed h)), all_negate f atoms rows weighed are (All-tail (λ v. v.0 < length atoms) w weighed h))
 
 -- a conflict among atoms of the formula is one of the formula
-pub conflict_is : (f : FormulaParts) (chosen : List Bool) (conflict : Conflict) (atoms : List ℕ) (rows : List RowParts) → AreAtoms f atoms rows → IsConflictIn chosen conflict (atoms, rows)
+conflict_is : (f : FormulaParts) (chosen : List Bool) (conflict : Conflict) (atoms : List ℕ) (rows : List RowParts) → AreAtoms f atoms rows → IsConflictIn chosen conflict (atoms, rows)
     → IsConflict f chosen conflict
 conflict_is f chosen conflict atoms rows are found =
     record {
@@ -231,7 +231,7 @@ module _ (b : Base) (s : SolverParts) (t0 t1 : TableauParts) (chosen : List Bool
 -- ---- its lemma
 
 -- a conflict under the model that the search keeps
-pub model_lemma : (s : SolverParts) (model : List Bool) (conflict : Conflict) → s.status ≡ KeepsModel model → IsConflict s.formula model conflict → MakesLemma s conflict
+model_lemma : (s : SolverParts) (model : List Bool) (conflict : Conflict) → s.status ≡ KeepsModel model → IsConflict s.formula model conflict → MakesLemma s conflict
 model_lemma s model conflict keeps is low =
     record {
       model = model;

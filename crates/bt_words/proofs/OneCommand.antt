@@ -98,7 +98,7 @@ listed (places.Number k) = refl
 listed (places.WishAndNumber w k) = refl
 listed (places.Whole w i o) = refl
 
-pub same_places : (p q : Places) → places_list p ≡ places_list q → p ≡ q
+same_places : (p q : Places) → places_list p ≡ places_list q → p ≡ q
 same_places p q e = sym (listed p) ∙ ap places_of e ∙ listed q
 
 -- words give one thing

@@ -40,7 +40,7 @@ home_own shape.Exit dir c own = refl
 home_own (shape.Half Lesser) dir c own = refl
 home_own (shape.Half Greater) dir c own = absurd (own refl)
 
-pub covers_on : (w : Solved) (of : Shape) (dir : Dir) (c : Cell) → Covers (part_on w of dir c) c
+covers_on : (w : Solved) (of : Shape) (dir : Dir) (c : Cell) → Covers (part_on w of dir c) c
 covers_on w shape.Belt dir c = inl refl
 covers_on w shape.Entrance dir c = inl refl
 covers_on w shape.Exit dir c = inl refl
