@@ -3,8 +3,8 @@ use Rattle.std.specs.List.{range_with_len}
 use Rattle.std.specs.Prelude.{ℕ, ◌+◌, nat_lt, pos, Option, List, [], ◌∷◌, ◌++◌, length, map, slice_index_or, if◌then◌else◌}
 use Rattle.bt_frac.specs.Ratio.{Ratio, negated}
 use Rattle.bt_frac.specs.Rows.{RowParts}
-use Rattle.bt_frac.specs.declared.row.Relation.{Relation}
-use Rattle.bt_frac.specs.declared.row.Relation.TheVariants.{AtLeast, Above}
+use Rattle.bt_frac.specs.declared.relation.Relation.{Relation}
+use Rattle.bt_frac.specs.declared.relation.Relation.TheVariants.{AtLeast, Above}
 use Rattle.bt_net.specs.declared.network.Edge.{Edge}
 use Rattle.bt_net.specs.Network.{Network, give_of, take_of, leaves, enters, is_input, is_output}
 use Rattle.bt_flow.specs.Ports.{numbers_where}

@@ -1,7 +1,7 @@
 -- The clauses that say that a state is admissible and steady, family by family.
 use Rattle.std.specs.List.{range_with_len}
 use Rattle.std.specs.Prelude.{ℕ, nat_lt, Option, Some, None, Bool, true, false, List, [], ◌∷◌, ◌++◌, length, map, flat_map, if◌then◌else◌}
-use Rattle.bt_frac.specs.declared.row.Relation.TheVariants.{Equal}
+use Rattle.bt_frac.specs.declared.relation.Relation.TheVariants.{Equal}
 use Rattle.bt_net.specs.Network.{Network}
 use Rattle.bt_fenc.specs.declared.state_literal.Side.{Side}
 use Rattle.bt_fenc.specs.declared.state_literal.Side.TheVariants.{Out, In}

@@ -1,7 +1,7 @@
 //! The clauses that say that a state is admissible and steady.
 ghost use Rattle.std.specs.Prelude.{◌≡◌, ◌<◌, ◌-◌, ◌^◌, OnOk, IfOk, map};
 ghost use Rattle.bt_flow.specs.Ports.{ArePorts};
-ghost use Rattle.bt_frac.specs.declared.row.Relation.TheVariants as Relation;
+ghost use Rattle.bt_frac.specs.declared.relation.Relation.TheVariants as Relation;
 ghost use Rattle.bt_fenc.specs.Columns as columns;
 ghost use Rattle.bt_fenc.specs.Families as families;
 ghost use Rattle.bt_fenc.specs.declared.clause_family.ClauseFamily.TheVariants as of;

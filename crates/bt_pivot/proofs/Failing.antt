@@ -6,7 +6,7 @@ use Rattle.bt_frac.specs.Ratio.{Ratio, SameRatio, IsLess}
 use Rattle.bt_frac.specs.Rows.{RowParts}
 use Rattle.bt_frac.specs.Deltas.{IsLessDelta}
 use Rattle.bt_frac.specs.declared.delta.Delta.{Delta}
-use Rattle.bt_frac.specs.declared.row.Relation.TheVariants.{Above}
+use Rattle.bt_frac.specs.declared.relation.Relation.TheVariants.{Above}
 use Rattle.bt_frac.proofs.Order.{mul_lt, lt_from_mul}
 use Rattle.bt_frac.proofs.Ring.{turn_last}
 use Rattle.bt_lin.proofs.SameNumbers.{same_trans, stands_same}

@@ -11,7 +11,7 @@ use Rattle.std.specs.Ordering.{MatchOrdering}
 use Rattle.bt_frac.specs.Rows.{RowParts, IsRow}
 use Rattle.bt_frac.specs.Values.{AreValues}
 use Rattle.bt_frac.specs.declared.delta.Delta.{Delta}
-use Rattle.bt_frac.specs.declared.row.Relation.TheVariants.{Equal as AnEquation}
+use Rattle.bt_frac.specs.declared.relation.Relation.TheVariants.{Equal as AnEquation}
 use Rattle.bt_frac.proofs.Ring.{products, sums}
 use Rattle.bt_linear.specs.Lines.{one, Terms, HasNumber, IsLine, total, signed_terms}
 use Rattle.bt_pivot.specs.Points.{bound_row, resting, standing, Breaks, Fails, IsSamePoint, signed_point}

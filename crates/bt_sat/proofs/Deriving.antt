@@ -13,7 +13,7 @@ use Rattle.bt_watch.specs.Watched.{no_lit}
 use Rattle.bt_watch.specs.Levels.{start_of, IsOrdered}
 use Rattle.bt_watch.specs.Reasons.{lit_at, IsReason}
 use Rattle.bt_sat.specs.declared.analysis.ConflictLevel.{ConflictLevel}
-use Rattle.bt_sat.specs.inner.Agendas.{IsGreatest}
+use Rattle.bt_watch.specs.Agendas.{IsGreatest}
 use Rattle.bt_sat.specs.inner.Analysing.{false_at, falses_at, IsSeen, MarksSeen, IsUnderway, IsDerived, IsLevelled, IsGrounded, IsTracing, IsTaken, IsTraced, MayTrace, IsLearnable}
 use Rattle.bt_cnf.proofs.Lists.{contains_here, contains_there, first_or, none_in, nat_or, lt_or_eq, all_of, lt_or}
 use Rattle.bt_watch.proofs.Backjumped.{apart_places}

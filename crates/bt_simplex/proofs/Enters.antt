@@ -5,7 +5,7 @@ use Rattle.bt_frac.specs.Rows.{RowParts}
 use Rattle.std.specs.declared.cmp.Ordering.{Ordering}
 use Rattle.bt_frac.specs.Deltas.{IsOrderOfDeltas}
 use Rattle.bt_frac.specs.declared.delta.Delta.{Delta}
-use Rattle.bt_frac.specs.declared.row.Relation.TheVariants.{Equal}
+use Rattle.bt_frac.specs.declared.relation.Relation.TheVariants.{Equal}
 use Rattle.bt_lin.specs.WeightedRows.{coefficient_at}
 use Rattle.bt_linear.specs.Lines.{Terms}
 use Rattle.bt_pivot.specs.SolvedForms.{slot_at}
@@ -13,7 +13,7 @@ use Rattle.bt_pivot.specs.Tableaus.{TableauParts}
 use Rattle.bt_pivot.specs.Points.{bound_row, bound_value, resting, standing, point_at, Fails, IsSamePoint, IsBoundOrder, relation_of}
 use Rattle.bt_simplex.specs.Pivots.{MovesTowards, MayMove, CanEnter, IsLeast}
 use Rattle.bt_simplex.specs.inner.Bases.{IsLeastOf, MayEnter, Names}
-use Rattle.bt_frac.specs.declared.row.Relation.{Relation}
+use Rattle.bt_frac.specs.declared.relation.Relation.{Relation}
 use Rattle.bt_pivot.proofs.Failing.{same_back, row_is, point_is, less_delta_right, less_delta_left}
 use Rattle.bt_pivot.proofs.BoundRests.{row_of}
 

@@ -8,7 +8,7 @@ use Rattle.bt_frac.specs.Rows.{RowParts}
 use Rattle.bt_frac.specs.Values.{plus, times}
 use Rattle.bt_frac.specs.declared.delta.Delta.{Delta}
 use Rattle.bt_lin.proofs.SameNumbers.{stands_same}
-use Rattle.bt_frac.specs.declared.row.Relation.TheVariants.{AtLeast}
+use Rattle.bt_frac.specs.declared.relation.Relation.TheVariants.{AtLeast}
 use Rattle.bt_linear.specs.Lines.{one}
 use Rattle.bt_pivot.specs.Tableaus.{TableauParts, IsTableau}
 use Rattle.bt_pivot.specs.Points.{bound_row, point_at, IsSamePoint}

@@ -13,8 +13,8 @@ use Rattle.bt_frac.specs.Rows.{RowParts}
 use Rattle.bt_frac.specs.Values.{AreValues, nothing, plus, times, value_in, Stands, RowHolds}
 use Rattle.bt_frac.specs.Deltas.{IsLessDelta}
 use Rattle.bt_frac.specs.declared.delta.Delta.{Delta}
-use Rattle.bt_frac.specs.declared.row.Relation.{Relation}
-use Rattle.bt_frac.specs.declared.row.Relation.TheVariants.{AtLeast, Above, Equal}
+use Rattle.bt_frac.specs.declared.relation.Relation.{Relation}
+use Rattle.bt_frac.specs.declared.relation.Relation.TheVariants.{AtLeast, Above, Equal}
 use Rattle.bt_lin.specs.WeightedRows.{empty_row}
 use Rattle.bt_lin.proofs.SameNumbers.{stands_same}
 use Rattle.bt_linear.specs.Lines.{one, Terms, HasNumber, total}

@@ -12,8 +12,8 @@ use Rattle.bt_frac.specs.Rows.{RowParts, columns_of}
 use Rattle.bt_frac.specs.Values.{AreValues, nothing, plus, times, sum_of_products}
 use Rattle.bt_frac.specs.Deltas.{IsLessDelta}
 use Rattle.bt_frac.specs.declared.delta.Delta.{Delta}
-use Rattle.bt_frac.specs.declared.row.Relation.{Relation}
-use Rattle.bt_frac.specs.declared.row.Relation.TheVariants.{AtLeast, Above, Equal}
+use Rattle.bt_frac.specs.declared.relation.Relation.{Relation}
+use Rattle.bt_frac.specs.declared.relation.Relation.TheVariants.{AtLeast, Above, Equal}
 use Rattle.bt_lin.specs.FalseSums.{MayHave, MayWeigh, MakesStrict, IsStrict, IsFalseBound, Cancels, IsFalseSum}
 use Rattle.bt_lin.specs.WeightedRows.{empty_row, coefficient_at, part_of, pairs_at}
 use Rattle.bt_lin.specs.declared.places.Place.{Place}

@@ -6,10 +6,10 @@ use Rattle.bt_frac.specs.Rows.{RowParts}
 use Rattle.bt_log.specs.Logs.{Step}
 use Rattle.bt_sat.specs.Answering.{Assumes, GivesNext}
 use Rattle.bt_sat.specs.Solving.{SolverParts, IsLearnt, GoesOnBy}
-use Rattle.bt_sat.specs.declared.solver.Answer.{Answer}
-use Rattle.bt_sat.specs.declared.solver.Answer.TheVariants as answer
-use Rattle.bt_sat.specs.declared.solver.Assumed.{Assumed}
-use Rattle.bt_sat.specs.declared.solver.Assumed.TheVariants as assumed
+use Rattle.bt_sat.specs.declared.answer.Answer.{Answer}
+use Rattle.bt_sat.specs.declared.answer.Answer.TheVariants as answer
+use Rattle.bt_sat.specs.declared.answer.Assumed.{Assumed}
+use Rattle.bt_sat.specs.declared.answer.Assumed.TheVariants as assumed
 use Rattle.bt_theory.specs.Outcomes.{Fits}
 use Rattle.bt_theory.specs.declared.base.Base.{Base}
 use Rattle.bt_theory.specs.inner.Goals.{AllFit, GoesOn, IsOfSame, IsPossible, IsGrown, IsTry}

@@ -18,8 +18,8 @@ use Rattle.bt_log.specs.Logs.{Step, Lemma, Learnt}
 use Rattle.bt_log.specs.Validity.{NegatesAtom}
 use Rattle.bt_sat.specs.Solving.{SolverParts, KeepsModel, IsLearnt, GoesOnBy, IsSoundLog, IsSpent}
 use Rattle.bt_sat.specs.Answering.{GivesNext}
-use Rattle.bt_sat.specs.declared.solver.Answer.{Answer}
-use Rattle.bt_sat.specs.declared.solver.Answer.TheVariants as answer
+use Rattle.bt_sat.specs.declared.answer.Answer.{Answer}
+use Rattle.bt_sat.specs.declared.answer.Answer.TheVariants as answer
 use Rattle.bt_pivot.specs.SolvedForms.{basis_of}
 use Rattle.bt_simplex.specs.Weights.{weighted_rows}
 use Rattle.bt_pivot.specs.Tableaus.{TableauParts}

@@ -7,8 +7,8 @@ ghost use Rattle.bt_theory.specs.inner.Bases.{IsBase, base_in};
 ghost use Rattle.bt_theory.specs.inner.Scopes.{IsScopeOf, parts_of};
 ghost use Rattle.bt_theory.specs.inner.Rounds.{AreTablesOf, IsReady, IsRound, IsTrimmedTo, Tells};
 
-use crate::base::{Base, base_of};
-use crate::binding::{atoms_of, tableau_of};
+use crate::base::{Base, atoms_of, base_of};
+use crate::binding::tableau_of;
 use crate::goal::try_goals;
 use crate::outcome::{GaveUp, Outcome, Solution};
 use crate::round::{End, round};

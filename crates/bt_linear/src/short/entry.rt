@@ -65,3 +65,6 @@ impl Entry {
         i64::from(self.number)
     }
 }
+
+/// A list whose entries are dropped, so that a line can be formed in its memory.
+pub type Room = Vec<Entry>;

@@ -1,6 +1,6 @@
 use Rattle.std.proofs.Common.{◌≡◌, ◌+◌, ◌-◌, ℕ, false, get_or, vec_len}
-use Rattle.bt_sat.specs.inner.Agendas.{AreBefore}
-use Rattle.bt_sat.proofs.agenda.mark.Given as goal
+use Rattle.bt_watch.specs.Agendas.{AreBefore}
+use Rattle.bt_watch.proofs.agenda.mark.Given as goal
 
 abbrev pub invariant-loop-marks : goal.invariant-loop-marks
 invariant-loop-marks l = record {

@@ -3,8 +3,8 @@ use Rattle.std.specs.Option.{is_some}
 use Rattle.bt_cnf.specs.Places.{IsPlaceOf}
 use Rattle.bt_theory.specs.Reaching.{atom_vars}
 use Rattle.bt_theory.proofs.Atoms.{IsSplitAt, split_found, split_other, split_all, found_at, not_found}
-use Rattle.bt_theory.proofs.binding.atoms_of.Goals as goal
-use Rattle.bt_theory.proofs.binding.atoms_of.Goals.{then-is_some+in_ok-push, else-is_some}
+use Rattle.bt_theory.proofs.base.atoms_of.Goals as goal
+use Rattle.bt_theory.proofs.base.atoms_of.Goals.{then-is_some+in_ok-push, else-is_some}
 
 -- a place whose variable is an atom, and one whose variable is none
 found : (vars items now : List ℕ) (place end var : ℕ) (o : Option ℕ) → IsPlaceOf vars var o → is_some o ≡ true → var ≡ place → now ≡ items ++ var ∷ [] → IsSplitAt vars items place end

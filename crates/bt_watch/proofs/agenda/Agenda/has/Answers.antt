@@ -1,7 +1,7 @@
 use Rattle.std.proofs.Common.{ap, false, get_or, sym, subst, ◌∙◌}
 use Rattle.std.specs.Prelude.{Contains}
-use Rattle.bt_sat.proofs.Marks.{in_places}
-use Rattle.bt_sat.proofs.agenda.Agenda.has.Goals as goal
+use Rattle.bt_watch.proofs.Marks.{in_places}
+use Rattle.bt_watch.proofs.agenda.Agenda.has.Goals as goal
 
 pub returns : goal.returns
 returns c = λ is.

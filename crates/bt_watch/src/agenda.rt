@@ -1,6 +1,6 @@
 //! Places of the trail that are to be dealt with, the greatest first.
 ghost use Rattle.std.specs.Prelude.{◌≡◌, ◌≤◌, ◌<◌, [], false, length, slice_index_or, IfOk, OnOk, IsTrue, Contains, ◌↔◌};
-ghost use Rattle.bt_sat.specs.inner.Agendas.{places_of, Adds, AreBefore, IsGreatest, NoneMarked, Reaches, Takes};
+ghost use Rattle.bt_watch.specs.Agendas.{places_of, Adds, AreBefore, IsGreatest, NoneMarked, Reaches, Takes};
 
 use std::alloc::{AllocError, Global};
 use std::marker::Model;
@@ -17,7 +17,7 @@ pub struct Agenda {
 
 impl Model for Agenda {
     ghost use Rattle.std.specs.Prelude.{ℕ, List};
-    ghost use Rattle.bt_sat.specs.inner.Agendas.{places_of, AreBefore};
+    ghost use Rattle.bt_watch.specs.Agendas.{places_of, AreBefore};
 
     ghost Value = { List ℕ };
 

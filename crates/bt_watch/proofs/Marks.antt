@@ -5,7 +5,7 @@ use Rattle.std.specs.List.{range_with_len}
 use Rattle.std.proofs.lemmas.List.{get_or-set_other}
 use Rattle.std.proofs.lemmas.List.Elements.{All-contains, filter_passes}
 use Rattle.std.proofs.lemmas.List.FromFn.{get_or-range_with_len, length-range_with_len}
-use Rattle.bt_sat.specs.inner.Agendas.{places_of, Adds, AreBefore, IsGreatest, NoneMarked, Takes}
+use Rattle.bt_watch.specs.Agendas.{places_of, Adds, AreBefore, IsGreatest, NoneMarked, Takes}
 use Rattle.bt_cnf.proofs.Lists.{passes_kept, contains_here, nat_or}
 
 pub marked_within : (marks : List Bool) (k : ℕ) → get_or marks k false ≡ true → k < length marks

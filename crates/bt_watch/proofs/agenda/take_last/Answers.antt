@@ -1,5 +1,5 @@
-use Rattle.bt_sat.proofs.Marks.{before_fewer, marked_of, marked_within, marks_fewer}
-use Rattle.bt_sat.proofs.agenda.take_last.Goals as goal
+use Rattle.bt_watch.proofs.Marks.{before_fewer, marked_of, marked_within, marks_fewer}
+use Rattle.bt_watch.proofs.agenda.take_last.Goals as goal
 
 pub bounds-marks-place : goal.bounds-marks-place
 bounds-marks-place c = marked_within c.args.marks.now c.in-Some.place (marked_of c.args.marks.now c.in-Some.place c.in-Some.ensures.0)

@@ -1,6 +1,6 @@
 use Rattle.std.proofs.Common.{◌<◌, arith, length}
-use Rattle.bt_sat.proofs.Marks.{marks_more}
-use Rattle.bt_sat.proofs.agenda.mark.Goals as goal
+use Rattle.bt_watch.proofs.Marks.{marks_more}
+use Rattle.bt_watch.proofs.agenda.mark.Goals as goal
 
 pub returns-then-end-place-clause-adds : goal.returns-then-end-place-clause-adds
 returns-then-end-place-clause-adds c =

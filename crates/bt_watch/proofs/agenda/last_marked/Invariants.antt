@@ -1,5 +1,5 @@
-use Rattle.bt_sat.specs.inner.Agendas.{AreBefore}
-use Rattle.bt_sat.proofs.agenda.last_marked.Given as goal
+use Rattle.bt_watch.specs.Agendas.{AreBefore}
+use Rattle.bt_watch.proofs.agenda.last_marked.Given as goal
 
 abbrev pub invariant-loop-place : goal.invariant-loop-place
 invariant-loop-place l = AreBefore l.marks l.place

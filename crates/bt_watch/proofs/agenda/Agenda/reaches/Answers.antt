@@ -1,7 +1,7 @@
 use Rattle.std.proofs.Common.{◌≤◌, arith}
 use Rattle.std.proofs.lemmas.Bool.{false≢true}
 use Rattle.std.proofs.lemmas.Bool.Decides.{nat_tests}
-use Rattle.bt_sat.proofs.agenda.Agenda.reaches.Goals as goal
+use Rattle.bt_watch.proofs.agenda.Agenda.reaches.Goals as goal
 
 pub returns-in-Some : goal.returns-in-Some
 returns-in-Some c = (

@@ -1,8 +1,8 @@
 use Rattle.std.proofs.Common.{ap, length, sym, ◌∙◌}
 use Rattle.std.proofs.lemmas.List.{with_items_is}
-use Rattle.bt_sat.specs.inner.Agendas.{places_of}
-use Rattle.bt_sat.proofs.Marks.{none_places}
-use Rattle.bt_sat.proofs.agenda.Agenda.clear.Goals as goal
+use Rattle.bt_watch.specs.Agendas.{places_of}
+use Rattle.bt_watch.proofs.Marks.{none_places}
+use Rattle.bt_watch.proofs.agenda.Agenda.clear.Goals as goal
 
 pub returns : goal.returns
 returns c =

@@ -1,6 +1,6 @@
 use Rattle.std.proofs.Common.{◌-◌, arith}
-use Rattle.bt_sat.proofs.Marks.{last_of, none_of}
-use Rattle.bt_sat.proofs.agenda.last_marked.Goals as goal
+use Rattle.bt_watch.proofs.Marks.{last_of, none_of}
+use Rattle.bt_watch.proofs.agenda.last_marked.Goals as goal
 
 pub returns-then-marks-place : goal.returns-then-marks-place
 returns-then-marks-place c =
