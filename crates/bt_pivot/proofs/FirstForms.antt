@@ -13,7 +13,7 @@ use Rattle.bt_pivot.specs.Tableaus.{AreOverColumns, IsTableau, IsNew, positions_
 use Rattle.bt_pivot.specs.inner.Starts.{kept, start_slots}
 use Rattle.bt_pivot.proofs.FirstLines.{kept_line, kept_total, kept_over}
 use Rattle.bt_linear.proofs.Numbers.{Alike, itself, back, next}
-use Rattle.bt_pivot.proofs.Standing.{stands_some}
+use Rattle.bt_pivot.proofs.Denominators.{stands_some}
 use Rattle.bt_linear.proofs.Zeros.{total_along}
 
 slot_low : (columns p : ℕ) (more : Slots) → p < columns → slot_at (replicate columns None ++ more) p ≡ None

@@ -15,7 +15,7 @@ use Rattle.bt_pivot.specs.SolvedForms.{Slots, slot_at, basis_from, basis_of, at_
 use Rattle.bt_linear.specs.Substituting.{IsSubstituted}
 use Rattle.bt_pivot.specs.PivotedSlots.{IsPivoted}
 use Rattle.bt_linear.proofs.Numbers.{Positive, zero_alike, Alike, alike, itself, back, next, both_plus, both_times, times_positive, differ_none, adds_none}
-use Rattle.bt_pivot.proofs.Standing.{stands_some}
+use Rattle.bt_pivot.proofs.Denominators.{stands_some}
 use Rattle.bt_linear.proofs.Totals.{total_positive}
 use Rattle.bt_linear.proofs.Indicators.{LacksPosition, decide, indicator, indicator_some, having_total, total_at, none_lacks, zero_lacks, over_zero_of, combination_lacks, number_has}
 use Rattle.bt_linear.proofs.Zeros as zeros

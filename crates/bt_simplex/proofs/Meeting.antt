@@ -30,7 +30,7 @@ use Rattle.bt_simplex.proofs.Epsilons.{fall_above, twice_fall, twice_some, twice
 use Rattle.bt_linear.proofs.Indicators.{times_one}
 use Rattle.bt_pivot.proofs.Resting.{rest_value, rest_tiny, point_some, bound_some_of, bound_within}
 use Rattle.bt_simplex.proofs.Signs.{IsAbove, IsNotBelow, above_plus, above_times, not_below_times, above_factor, above_by, not_below_by, less_of, of_less, at_most_of, of_at_most, compared, less_at_most}
-use Rattle.bt_pivot.proofs.Standing.{stands_some}
+use Rattle.bt_pivot.proofs.Denominators.{stands_some}
 use Rattle.bt_linear.proofs.Totals.{total_positive}
 use Rattle.bt_linear.proofs.Zeros.{one_some, one_times, total_along, all_from, named_or_lacks, negated_alike, zero_of}
 

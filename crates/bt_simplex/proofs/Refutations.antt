@@ -35,7 +35,7 @@ use Rattle.bt_linear.proofs.Numbers.{negated_plus, Positive, nothing_some, Alike
 use Rattle.bt_pivot.proofs.Resting.{bound_some_of, point_some, rest_value, rest_tiny, bound_some, tiny_some, bound_within}
 use Rattle.bt_linear.proofs.Shares.{negated_low, negated_twice}
 use Rattle.bt_simplex.proofs.Signs.{IsAbove, IsNotBelow, of_less, above_by, not_below_by, not_below_plus}
-use Rattle.bt_pivot.proofs.Standing.{stands_some}
+use Rattle.bt_pivot.proofs.Denominators.{stands_some}
 use Rattle.bt_linear.proofs.Totals.{total_positive}
 use Rattle.bt_linear.proofs.Zeros.{one_some, one_lowest, one_times, combined_alike, negated_alike, zero_of, named_has, total_along}
 
