@@ -20,7 +20,8 @@ use Rattle.bt_fenc.specs.declared.state_literal.StateLiteral.{StateLiteral}
 use Rattle.bt_fenc.specs.declared.state_literal.StateLiteral.TheVariants.{Mark, Says, First}
 use Rattle.bt_fenc.specs.declared.clause_family.ClauseFamily.{ClauseFamily}
 use Rattle.bt_fenc.specs.declared.clause_family.ClauseFamily.TheVariants as of
-use Rattle.bt_fenc.specs.Columns.{input_edge, output_edge, in_edges, out_edges, edges_at, preferred_at, cap_at, load_column, room_column, at_least, at_most, below as below_cap, beyond, not_below, above}
+use Rattle.bt_flow.specs.EndEdges.{input_edge, output_edge, cap_at, load_column, room_column}
+use Rattle.bt_fenc.specs.Columns.{in_edges, out_edges, edges_at, preferred_at, at_least, at_most, below as below_cap, beyond, not_below, above}
 use Rattle.bt_fenc.specs.Families.{clauses_at, places, family_clauses, families, range_clauses, excuse, even_clause, even_clauses, prior_clause, side_clauses, backing_clause}
 use Rattle.bt_fenc.specs.Pairs.{pair_clause, beside, side_pairs, full, loaded, filled}
 use Rattle.bt_fenc.specs.Laws.{HasTrue}

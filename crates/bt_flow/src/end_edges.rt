@@ -2,10 +2,10 @@
 ghost use Rattle.std.specs.Prelude.{◌≡◌, ◌<◌, ◌≤◌, ◌^◌, IfOk};
 ghost use Rattle.bt_flow.specs.Ports.{numbers_of, ArePorts, numbers_where};
 ghost use Rattle.bt_flow.specs.Properties as properties;
-ghost use Rattle.bt_fenc.specs.Columns as columns;
-ghost use Rattle.bt_fenc.specs.inner.Listed.{first_of};
+ghost use Rattle.bt_flow.specs.EndEdges as end_edges;
+ghost use Rattle.bt_flow.specs.inner.Listed.{first_of};
 
-use bt_flow::{Port, Ports};
+use crate::ports::{Port, Ports};
 use bt_net::{Net, Target};
 use smallvec::SmallVec;
 use std::alloc::{AllocError, Global};
@@ -38,7 +38,7 @@ fn first_of(port: Port) -> usize
 pub fn input_edge(net: &Net, ports: &Ports, input: usize) -> usize
     requires ports { ArePorts net.now ports.now }
     requires input { input < net.now.inputs }
-    ensures edge { result ≡ columns.input_edge net.now input }
+    ensures edge { result ≡ end_edges.input_edge net.now input }
     ensures small { result < 2 ^ 16 }
 {
     first_of(ports.inputs[input])
@@ -48,7 +48,7 @@ pub fn input_edge(net: &Net, ports: &Ports, input: usize) -> usize
 pub fn output_edge(net: &Net, ports: &Ports, output: usize) -> usize
     requires ports { ArePorts net.now ports.now }
     requires output { output < net.now.outputs }
-    ensures edge { result ≡ columns.output_edge net.now output }
+    ensures edge { result ≡ end_edges.output_edge net.now output }
     ensures small { result < 2 ^ 16 }
 {
     first_of(ports.outputs[output])
@@ -56,7 +56,7 @@ pub fn output_edge(net: &Net, ports: &Ports, output: usize) -> usize
 
 /// The cap of the edge with a number, or 0 where there is none.
 pub fn cap_at(net: &Net, edge: usize) -> u32
-    ensures { result ≡ columns.cap_at net.now edge }
+    ensures { result ≡ end_edges.cap_at net.now edge }
 {
     match net.edges().get(edge) {
         Some(found) => found.cap,
@@ -67,7 +67,7 @@ pub fn cap_at(net: &Net, edge: usize) -> u32
 /// The column of an input's load.
 pub fn load_column(net: &Net, input: usize) -> usize
     requires { input ≤ net.now.inputs }
-    ensures column { result ≡ columns.load_column net.now input }
+    ensures column { result ≡ end_edges.load_column net.now input }
     ensures small { result < 2 ^ 16 }
 {
     net.edges().len() + input
@@ -76,7 +76,7 @@ pub fn load_column(net: &Net, input: usize) -> usize
 /// The column of an output's room.
 pub fn room_column(net: &Net, output: usize) -> usize
     requires { output ≤ net.now.outputs }
-    ensures column { result ≡ columns.room_column net.now output }
+    ensures column { result ≡ end_edges.room_column net.now output }
     ensures small { result < 2 ^ 16 }
 {
     net.edges().len() + net.inputs() as usize + output

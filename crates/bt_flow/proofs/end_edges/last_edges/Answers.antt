@@ -4,8 +4,8 @@ use Rattle.bt_flow.specs.Ports.{numbers_where}
 use Rattle.bt_flow.specs.Properties.{is_last}
 use Rattle.bt_flow.proofs.Adding.{is_last-yes, is_last-no, no_edge}
 use Rattle.bt_flow.proofs.Numbers.{numbers_more}
-use Rattle.bt_fenc.proofs.ends.last_edges.Goals as goal
-use Rattle.bt_fenc.proofs.ends.last_edges.Goals.{in-Output+in_ok-push-in-Output, in-Split}
+use Rattle.bt_flow.proofs.end_edges.last_edges.Goals as goal
+use Rattle.bt_flow.proofs.end_edges.last_edges.Goals.{in-Output+in_ok-push-in-Output, in-Split}
 
 one_more : (edges es : List Edge) (same : es ≡ edges) (i : ℕ) (d : Edge) → i < length es → (b : Bool) → is_last (get_or es i d) ≡ b → (now new : List ℕ)
     → now ≡ numbers_where is_last 0 (take i edges) → new ≡ now ++ cond b (i ∷ []) [] → new ≡ numbers_where is_last 0 (take (i + 1) edges)
