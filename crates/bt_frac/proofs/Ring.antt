@@ -49,16 +49,16 @@ mul_assoc (negsuc n) y z =
 pub mul_distrib_right : (x y z : ℤ) → (x +ℤ y) *ℤ z ≡ x *ℤ z +ℤ y *ℤ z
 mul_distrib_right x y z = *ℤ_comm (x +ℤ y) z ∙ mul_distrib z x y ∙ ap (λ t. t +ℤ z *ℤ y) (*ℤ_comm z x) ∙ ap (λ t. x *ℤ z +ℤ t) (*ℤ_comm z y)
 
-mul_left_comm : (x y z : ℤ) → x *ℤ (y *ℤ z) ≡ y *ℤ (x *ℤ z)
+pub mul_left_comm : (x y z : ℤ) → x *ℤ (y *ℤ z) ≡ y *ℤ (x *ℤ z)
 mul_left_comm x y z = sym (mul_assoc x y z) ∙ ap (λ t. t *ℤ z) (*ℤ_comm x y) ∙ mul_assoc y x z
 
 pub add_comm : (x y : ℤ) → x +ℤ y ≡ y +ℤ x
 add_comm x y = omega (arith, ints)
 
-add_assoc : (x y z : ℤ) → x +ℤ y +ℤ z ≡ x +ℤ (y +ℤ z)
+pub add_assoc : (x y z : ℤ) → x +ℤ y +ℤ z ≡ x +ℤ (y +ℤ z)
 add_assoc x y z = omega (arith, ints)
 
-add_left_comm : (x y z : ℤ) → x +ℤ (y +ℤ z) ≡ y +ℤ (x +ℤ z)
+pub add_left_comm : (x y z : ℤ) → x +ℤ (y +ℤ z) ≡ y +ℤ (x +ℤ z)
 add_left_comm x y z = omega (arith, ints)
 
 pub mul_neg : (x y : ℤ) → x *ℤ neg_ℤ y ≡ neg_ℤ (x *ℤ y)
