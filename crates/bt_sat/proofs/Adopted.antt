@@ -179,7 +179,6 @@ module _ (all : List (List Lit)) (s : Search) (lits : List Lit) (is : IsAssertin
 
   -- one of two or more
   module _ (mid : Search) (keeps : Keeps lits (length all) s mid) (many : 1 < length lits) where
-
     -- where a false literal of a front would leave the clause to propagate, there is none
     no_first : (front : List Lit) → ((m : Lit) → Contains front m → Contains s.assignment.trail.items m) → Contains front (opposite (first lits)) → ⊥
     no_first front within among = is.not_false (is.ready.ordered.whole.truths.true_in (opposite (first lits)) (within (opposite (first lits)) among))

@@ -4,9 +4,9 @@ ghost use Rattle.bt_sat.specs.Answering.{Assumes, GivesNext, IsAdded, MayAnswer}
 ghost use Rattle.bt_sat.specs.Solving.{begun, log_of, IsLemmaOf, LacksMemory};
 ghost use Rattle.bt_sat.specs.inner.Kernels.{MayGoOn, stage_after, stage_assumed};
 
+use crate::answer::{Added, Answer, Assumed};
 use crate::loading::load;
 use crate::progress::Progress;
-use crate::answer::{Added, Answer, Assumed};
 use crate::turns::{add, answer, supposed};
 use bt_choosers::Plan;
 use bt_cnf::{Chooser, Formula, Lit};

@@ -7,12 +7,12 @@ ghost use Rattle.bt_sat.specs.inner.Kernels.{AddsTo, AnswersBy, AssumesBy, IsOpe
 ghost use Rattle.bt_sat.specs.inner.Progressing.{HasRoom, IsNextStep, IsRunning, KeepsFormula};
 ghost use Rattle.bt_cnf.specs.Truths.{IsFalseIn};
 
+use crate::answer::{Answer, Assumed};
 use crate::assuming::{assume, has_true};
 use crate::cdcl::{Found, find_model, restart};
 use crate::lemmas::take_lemma;
 use crate::progress::Progress;
 use crate::serving::{begins_epoch, tell};
-use crate::answer::{Answer, Assumed};
 use bt_cnf::{Chooser, Lit, Values};
 use bt_frac::Frac;
 use std::alloc::{AllocError, Global};
