@@ -15,9 +15,9 @@ use Rattle.bt_cert.specs.declared.fault.CertFault.TheVariants.{CertLine, BadStep
 use Rattle.bt_cert.specs.Certificates.{IsCertRead}
 use Rattle.bt_cert.specs.Readings.{AnswersWhole, IsLogChecked}
 use Rattle.bt_cert.proofs.OneAnswer.{certificate_shows_unmet}
-use Rattle.bt_top.specs.declared.answer.Answer.TheVariants as answer
-use Rattle.bt_top.specs.declared.answer.Brief.TheVariants as brief
-use Rattle.bt_top.specs.Replies.{Reply}
+use Rattle.bt_replies.specs.declared.answer.Answer.TheVariants as answer
+use Rattle.bt_replies.specs.declared.answer.Brief.TheVariants as brief
+use Rattle.bt_replies.specs.Replies.{Reply}
 use Rattle.bt_top.specs.Certificates.{cert_told, IsYesChecked}
 use Rattle.bt_designs.specs.Steps.{went_on}
 use Rattle.bt_designs.proofs.InTurns.{stops}

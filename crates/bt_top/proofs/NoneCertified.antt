@@ -17,12 +17,12 @@ use Rattle.bt_layout.specs.Layouts.{HasNoLayout}
 use Rattle.bt_layout.proofs.Certified.{nowhere_is_certificate}
 use Rattle.bt_layout.proofs.Formulas.{place_is_formula}
 use Rattle.bt_layout.proofs.Refuted.{unmet_has_no_layout}
-use Rattle.bt_top.specs.declared.answer.Answer.TheVariants as answer
-use Rattle.bt_top.specs.declared.answer.Brief.TheVariants as brief
-use Rattle.bt_top.specs.Replies.{Reply}
+use Rattle.bt_replies.specs.declared.answer.Answer.TheVariants as answer
+use Rattle.bt_replies.specs.declared.answer.Brief.TheVariants as brief
+use Rattle.bt_replies.specs.Replies.{Reply}
 use Rattle.bt_top.specs.Certificates.{cert_told}
 use Rattle.bt_top.specs.NoneCertificates.{IsNoneChecked, SaysNone, NoneIsAccepted}
-use Rattle.bt_top.specs.Answers.{none_word, nowhere_text}
+use Rattle.bt_replies.specs.Answers.{none_word, nowhere_text}
 use Rattle.bt_designs.specs.Steps.{went_on}
 use Rattle.bt_designs.proofs.InTurns.{stops}
 

@@ -16,11 +16,11 @@ use Rattle.bt_decide.specs.declared.verdict.Verdict.TheVariants.{Yes, No, GaveUp
 use Rattle.bt_decide.specs.Verdicts.{IsVerdict}
 use Rattle.bt_words.specs.declared.command.NetworkFamily.{NetworkFamily}
 use Rattle.bt_words.specs.declared.command.NetworkFamily.TheVariants.{Butterfly, Chain}
-use Rattle.bt_top.specs.declared.answer.Answer.{Answer}
-use Rattle.bt_top.specs.declared.answer.Answer.TheVariants as answer
-use Rattle.bt_top.specs.declared.answer.Brief.TheVariants as brief
+use Rattle.bt_replies.specs.declared.answer.Answer.{Answer}
+use Rattle.bt_replies.specs.declared.answer.Answer.TheVariants as answer
+use Rattle.bt_replies.specs.declared.answer.Brief.TheVariants as brief
 use Rattle.bt_designs.specs.declared.refusal.Refusal.TheVariants as refusal
-use Rattle.bt_top.specs.Replies.{Reply}
+use Rattle.bt_replies.specs.Replies.{Reply}
 use Rattle.bt_designs.specs.Steps.{InTurn}
 
 -- what is said of a network that was made

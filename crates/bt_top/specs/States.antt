@@ -11,11 +11,11 @@ use Rattle.bt_flow.specs.declared.property.Property.{Property}
 use Rattle.bt_flow.specs.Judging.{IsBreakingAnswer}
 use Rattle.bt_flow.specs.States.{Fractions}
 use Rattle.bt_flow.specs.StateReading.{IsStateRead}
-use Rattle.bt_top.specs.declared.answer.Answer.TheVariants as answer
-use Rattle.bt_top.specs.declared.answer.Brief.{Brief}
-use Rattle.bt_top.specs.declared.answer.Brief.TheVariants as brief
+use Rattle.bt_replies.specs.declared.answer.Answer.TheVariants as answer
+use Rattle.bt_replies.specs.declared.answer.Brief.{Brief}
+use Rattle.bt_replies.specs.declared.answer.Brief.TheVariants as brief
 use Rattle.bt_designs.specs.Designs.{IsDesign}
-use Rattle.bt_top.specs.Replies.{Reply, design_told}
+use Rattle.bt_replies.specs.Replies.{Reply, design_told}
 use Rattle.bt_designs.specs.Steps.{InTurn}
 
 -- the line at which a text stops to be that of a state

@@ -3,7 +3,6 @@ pub mod Claims
 pub mod Fronts
 pub mod Gathering
 pub mod Grids
-pub mod Lines
 pub mod PairParts
 pub mod RequestParts
 pub mod Telling

@@ -3,8 +3,8 @@ ghost use Rattle.std.specs.Prelude.{alloc_error};
 ghost use Rattle.bt_answers.specs.Answers.{UnlessMemory};
 ghost use Rattle.bt_top.specs.Building.{IsBuiltFor};
 
-use crate::answer::Answer;
 use bt_cnf::Limits;
+use bt_replies::Answer;
 use bt_wish::Wish;
 use bt_words::BuiltText;
 use std::alloc::{AllocError, Global};

@@ -4,10 +4,10 @@ ghost use Rattle.bt_answers.specs.Answers.{UnlessMemory};
 ghost use Rattle.bt_flow.specs.States.{Fits};
 ghost use Rattle.bt_top.specs.States.{IsFlowChecked, IsStateChecked, IsStateJudged, IsJudged, state_told};
 
-use crate::answer::{Answer, Brief, refused};
 use bt_designs::read_design;
 use bt_flow::{Judgement, Property, State, StateFault, WideSum, breaks, read_state};
 use bt_net::Net;
+use bt_replies::{Answer, Brief, refused};
 use bt_text::skip_blanks;
 use std::alloc::{AllocError, Global};
 

@@ -2,11 +2,11 @@
 ghost use Rattle.std.specs.Prelude.{IfOk, MatchOption};
 ghost use Rattle.bt_top.specs.inner.Fronts.{TellsRefusal};
 
-use crate::answer::Brief;
 use bt_cnf::Formula;
 use bt_designs::DesignFault;
 use bt_flow::Property;
 use bt_net::Net;
+use bt_replies::Brief;
 use std::alloc::AllocError;
 
 /// Steps of a certificate of which some lines were read.

@@ -8,12 +8,12 @@ ghost use Rattle.bt_same.specs.Sameness.{HaveEqualEnds};
 ghost use Rattle.bt_top.specs.inner.Fronts.{AnswersRest, DrainsRest, IsFit, IsPairReply, IsReply, IsStateReply};
 ghost use Rattle.bt_top.specs.inner.Fronts.{IsStepsReply, ReadsRest, judged_answer, steps_told};
 
-use crate::answer::{Answer, Brief};
 use crate::flow_check::judge_text;
 use crate::front::{Front, Steps, WrittenPair, WrittenState};
 use crate::pair_check::judge_pair_text;
 use bt_cert::{CertFault, check_log};
 use bt_io::{ReadAll, SliceSource, Source, drain, read_all};
+use bt_replies::{Answer, Brief};
 use std::alloc::{AllocError, Global};
 
 /// The answer that a front tells, where the input goes on in the source, or has ended.

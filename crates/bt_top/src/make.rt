@@ -7,14 +7,13 @@ ghost use Rattle.bt_gen.specs.Orders.{IsGenerated};
 ghost use Rattle.bt_top.specs.Making.{IsMade, IsBalanceDecided, IsSaidBalanced, balance_told, gen_told, made_of};
 ghost use Rattle.bt_designs.specs.Steps.{InTurn};
 
-use crate::answer::{Answer, Brief};
-use crate::made::Made;
 use bt_cnf::{Chooser, Limits};
 use bt_decide::{Verdict, decide};
 use bt_designs::Refusal;
 use bt_flow::Property;
 use bt_gen::{GenFault, MOST_IN_CHAIN, MOST_STAGES, butterfly, chain};
 use bt_net::Net;
+use bt_replies::{Answer, Brief, Made};
 use bt_words::NetworkFamily;
 use std::alloc::{AllocError, Global};
 

@@ -8,16 +8,16 @@ ghost use Rattle.bt_grids.specs.Grids.{area_of};
 ghost use Rattle.bt_grids.specs.Asked.{NamesNoCells};
 ghost use Rattle.bt_layout.specs.Smallest.{IsSmallest};
 ghost use Rattle.bt_words.specs.Commands.{HasFewCells};
-ghost use Rattle.bt_top.specs.Replies.{UnlessLarge};
+ghost use Rattle.bt_replies.specs.Replies.{UnlessLarge};
 ghost use Rattle.bt_top.specs.Searching.{IsFoundAgain, IsPreferred, IsSearched, IsSearchedFrom};
 
-use crate::answer::{Answer, refused};
 use bt_designs::{DesignFault, Refusal, read_sided_request};
 use bt_hands::Priority;
 use bt_layout::{Smallest, priorities_on};
 use bt_model::Request;
 use bt_parts::{Rect, Tier};
 use bt_place::has_formula;
+use bt_replies::{Answer, refused};
 use std::alloc::{AllocError, Global};
 
 /// The answer of `smallest` to the bytes of its input.

@@ -6,7 +6,6 @@ ghost use Rattle.bt_grids.specs.Asked.{NamesNoCells};
 ghost use Rattle.bt_layout.specs.Small.{IsSmall};
 ghost use Rattle.bt_top.specs.Finding.{IsDesignRequest, IsDrawnRequest, IsFound, IsFoundAgain, IsFoundFrom, IsOwn, IsPreferred, IsSmallFound, IsSmallTold};
 
-use crate::answer::{Answer, refused};
 use bt_designs::{DesignFault, is_json, read_kept_request, read_lone_request, read_sided_request};
 use bt_entities::parts_and_priorities;
 use bt_grids::spanned;
@@ -14,6 +13,7 @@ use bt_hands::Priority;
 use bt_layout::{Small, find_small, priorities_on};
 use bt_model::{MOST_ACROSS, Request};
 use bt_parts::{Part, Rect, Tier};
+use bt_replies::{Answer, refused};
 use bt_words::{AskedSides, USUAL_ACROSS};
 use std::alloc::{AllocError, Global};
 

@@ -11,10 +11,10 @@ use Rattle.bt_cert.specs.Certificates.{IsCertRead}
 use Rattle.bt_cert.specs.declared.fault.CertFault.{CertFault}
 use Rattle.bt_cert.specs.declared.fault.CertFault.TheVariants as cert
 use Rattle.bt_same.specs.Sameness.{HaveEqualEnds}
-use Rattle.bt_top.specs.declared.answer.Answer.{Answer}
-use Rattle.bt_top.specs.declared.answer.Answer.TheVariants as answer
-use Rattle.bt_top.specs.declared.answer.Brief.{Brief}
-use Rattle.bt_top.specs.declared.answer.Brief.TheVariants as brief
+use Rattle.bt_replies.specs.declared.answer.Answer.{Answer}
+use Rattle.bt_replies.specs.declared.answer.Answer.TheVariants as answer
+use Rattle.bt_replies.specs.declared.answer.Brief.{Brief}
+use Rattle.bt_replies.specs.declared.answer.Brief.TheVariants as brief
 use Rattle.bt_designs.specs.declared.fault.DesignFault.{DesignFault}
 use Rattle.bt_designs.specs.declared.fault.DesignFault.TheVariants as design
 use Rattle.bt_top.specs.declared.front.Front.{Front}
@@ -24,7 +24,7 @@ use Rattle.bt_top.specs.declared.front.WrittenPair.{WrittenPair}
 use Rattle.bt_top.specs.declared.front.WrittenState.{WrittenState}
 use Rattle.bt_designs.specs.declared.held.Held.{Held}
 use Rattle.bt_top.specs.Certificates.{cert_told}
-use Rattle.bt_top.specs.Replies.{Reply}
+use Rattle.bt_replies.specs.Replies.{Reply}
 use Rattle.bt_top.specs.SameCertificates.{IsPairTextJudged}
 use Rattle.bt_top.specs.States.{IsStateJudged}
 use Rattle.bt_designs.specs.Told.{MayFollow}

@@ -2,21 +2,57 @@
 ghost use Rattle.bt_io.specs.Bytes.{WritesText};
 ghost use Rattle.bt_io.specs.Passages.{passage};
 ghost use Rattle.std.specs.Prelude.{◌≡◌};
-ghost use Rattle.bt_top.specs.Answers.{balance_word, built_text, family_name, gave_up_text, made_text, proved_text, same_text, spent_text, steps_text};
+ghost use Rattle.bt_replies.specs.Answers.{balance_word, built_text, family_name, gave_up_text, made_text, proved_text, same_text, spent_text, steps_text, text_of};
+ghost use Rattle.bt_replies.specs.Lines.{formed_text};
 
+use crate::answer::Answer;
 use crate::made::Made;
 use bt_extend::{Definition, print_definitions};
-use bt_flow::Property;
+use bt_flow::{Property, print_state};
+use bt_grids::{print_none, print_small, print_smallest};
 use bt_io::{Sink, WriteFault, write_all_of, write_pieces};
 use bt_log::Log;
 use bt_net::Net;
-use bt_print::{print, print_pivots, print_wide, print_with};
+use bt_print::{
+    print, print_flow_formula, print_pivots, print_place_formula, print_wide, print_with,
+};
+use bt_same::print_pair;
 use bt_theory::GaveUp;
 use bt_words::{BuiltText, NetworkFamily};
 use itoa::Buffer;
 
+/// Gives an answer's text to the sink, where this is what had to be formed of it.
+pub fn print_answer<K: Sink>(answer: &Answer, formed: &[u8], sink: &mut K) -> Result<(), WriteFault>
+    requires { formed.now ≡ formed_text answer.now }
+    ensures { WritesText (passage K.held K.faults sink.old sink.new) (text_of answer.now) result }
+{
+    match answer {
+        Answer::Brief(_) => write_all_of(sink, formed),
+        Answer::LaidOut(..) => write_all_of(sink, formed),
+        Answer::Least(first, found, _) => print_smallest(*first, found, formed, sink),
+        Answer::Small(found, _) => print_small(found, formed, sink),
+        Answer::Usage => write_all_of(sink, b"usage\n"),
+        Answer::TooLong => write_all_of(sink, b"too long\n"),
+        Answer::NotFound => write_all_of(sink, b"not found\n"),
+        Answer::Recovered(net) => print(net, sink),
+        Answer::Proved(property, definitions, log) => {
+            print_proof(*property, definitions, log, sink)
+        }
+        Answer::Broken(property, state) => print_state(state, *property, sink),
+        Answer::GaveUp(cause) => print_gave_up(&[], cause, sink),
+        Answer::Undecided(definitions, cause) => print_gave_up(definitions, cause, sink),
+        Answer::Made(made) => print_made(made, sink),
+        Answer::Nowhere(log) => print_none(log, sink),
+        Answer::FlowFormula(columns, formula) => print_flow_formula(*columns, formula, sink),
+        Answer::PlaceFormula(starts, formula) => print_place_formula(*starts, formula, sink),
+        Answer::Same(definitions, log) => print_same(definitions, log, sink),
+        Answer::Differ(pair) => print_pair(pair, sink),
+        Answer::Built(net, text) => print_built(net, *text, sink),
+    }
+}
+
 /// Writes the yes certificate for a property.
-pub fn print_proof<K: Sink>(
+fn print_proof<K: Sink>(
     property: Property,
     definitions: &[Definition],
     log: &Log,
@@ -43,7 +79,7 @@ fn print_steps<K: Sink>(
 }
 
 /// Writes the certificate that two networks behave the same.
-pub fn print_same<K: Sink>(
+fn print_same<K: Sink>(
     definitions: &[Definition],
     log: &Log,
     sink: &mut K,
@@ -56,7 +92,7 @@ pub fn print_same<K: Sink>(
 }
 
 /// Writes why a search was given up.
-pub fn print_gave_up<K: Sink>(
+fn print_gave_up<K: Sink>(
     definitions: &[Definition],
     cause: &GaveUp,
     sink: &mut K,
@@ -89,7 +125,7 @@ fn print_spent<K: Sink>(
 }
 
 /// Writes the lines of a network that was made.
-pub fn print_made<K: Sink>(made: &Made, sink: &mut K) -> Result<(), WriteFault>
+fn print_made<K: Sink>(made: &Made, sink: &mut K) -> Result<(), WriteFault>
     ensures { WritesText (passage K.held K.faults sink.old sink.new) (made_text made.now) result }
 {
     let mut order = Buffer::new();
@@ -118,7 +154,7 @@ pub fn print_made<K: Sink>(made: &Made, sink: &mut K) -> Result<(), WriteFault>
 }
 
 /// Writes a network that is built, which may be as a request for a layout.
-pub fn print_built<K: Sink>(net: &Net, text: BuiltText, sink: &mut K) -> Result<(), WriteFault>
+fn print_built<K: Sink>(net: &Net, text: BuiltText, sink: &mut K) -> Result<(), WriteFault>
     ensures { WritesText (passage K.held K.faults sink.old sink.new) (built_text text net.now) result }
 {
     match text {

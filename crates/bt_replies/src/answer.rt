@@ -1,7 +1,7 @@
 //! The answers of the program. Each has a status and a text.
 ghost use Rattle.std.specs.Prelude.{◌≡◌};
-ghost use Rattle.bt_top.specs.Answers.{brief_status, gave_up_status, least_status, small_status, status_of};
-ghost use Rattle.bt_top.specs.Replies.{design_told};
+ghost use Rattle.bt_replies.specs.Answers.{brief_status, gave_up_status, least_status, small_status, status_of};
+ghost use Rattle.bt_replies.specs.Replies.{design_told};
 
 use crate::made::Made;
 use bt_cert::Cause;
