@@ -1,1 +1,2 @@
 mod Formed
+mod BuiltTexts

@@ -1,3 +1,4 @@
 pub mod Answers
+pub mod BuiltTexts
 pub mod Replies
 pub mod Lines

@@ -5,9 +5,6 @@ use Rattle.bt_hands.specs.declared.hand.Priority.{Priority}
 use Rattle.bt_parts.specs.declared.part.Part.{Part}
 use Rattle.bt_parts.specs.declared.part.Rect.{Rect}
 use Rattle.bt_parts.specs.declared.part.Tier.{Tier}
-use Rattle.bt_json.specs.Json.{Json}
-use Rattle.bt_json.specs.Answers.{IsRead}
-use Rattle.bt_entities.specs.Answers.{IsPrioritisedOf}
 use Rattle.bt_model.specs.Laying.{LaysPreferring}
 use Rattle.bt_model.specs.Requests.{LayoutRequest}
 use Rattle.bt_write.specs.ReadBack.{IsReadBack}
@@ -24,7 +21,7 @@ use Rattle.bt_replies.specs.declared.answer.Answer.TheVariants as answer
 use Rattle.bt_designs.specs.declared.fault.DesignFault.{DesignFault}
 use Rattle.bt_designs.specs.Designs.{IsJsonText}
 use Rattle.bt_replies.specs.Replies.{Reply, design_told}
-use Rattle.bt_designs.specs.Kept.{IsKeptRequest}
+use Rattle.bt_designs.specs.Kept.{AreDrawn, IsKeptRequest}
 use Rattle.bt_designs.specs.Requested.{IsLoneRequest, IsSidedRequest}
 use Rattle.bt_designs.specs.Steps.{InTurn}
 
@@ -44,15 +41,11 @@ abbrev pub IsDesignRequest : AskedSides → Option Rect → Option Tier → List
 IsDesignRequest sides most tier bytes answer = (IsJsonText bytes × IsDrawnRequest sides (unwrap_or most greatest_grid) tier bytes answer)
     ⊎ ((IsJsonText bytes → ⊥) × IsSidedRequest (unwrap_or most usual_grid) tier bytes answer)
 
--- the JSON value at the front of the bytes is a blueprint of these parts, whatever their priorities
-abbrev pub AreLaidOut : List ℕ → List Part → Type 0
-AreLaidOut bytes parts = (read : Json × ℕ) × IsRead bytes (Ok read) × (priorities : List Priority) × IsPrioritisedOf read.0 (Ok (parts, priorities))
-
 -- how many cells a grid has to have fewer of: of a blueprint, those of its least rectangle; of a network text there is
 -- no such number
 abbrev pub IsOwn : List ℕ → Option ℕ → Type 0
 IsOwn bytes None = IsJsonText bytes → ⊥
-IsOwn bytes (Some cells) = (parts : List Part) × AreLaidOut bytes parts × IsSpanned cells parts
+IsOwn bytes (Some cells) = (parts : List Part) × AreDrawn bytes parts × IsSpanned cells parts
 
 -- the blueprint that is written of the parts is read as these parts with these priorities
 abbrev pub IsFoundAgain : Small → List Priority → Type 0

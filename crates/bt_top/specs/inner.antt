@@ -1,4 +1,5 @@
 -- What private functions tell of their results: definitions that no public clause cites.
+pub mod Asking
 pub mod Claims
 pub mod Fronts
 pub mod Gathering
