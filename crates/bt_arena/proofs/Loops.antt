@@ -54,7 +54,7 @@ pub mapped_all : {X A : Type 0} (f : X → A) (xs : List X) (old now : List A) (
 mapped_all f xs old now i l e = e ∙ ap (λ x. old ++ map f x) (take_all i xs l)
 
 -- a number more of those from 1 on
-pub range_from_one : (n : ℕ) → 1 ≤ n → range_with_len 1 (n + 1 - 1) ≡ range_with_len 1 (n - 1) ++ n ∷ []
+range_from_one : (n : ℕ) → 1 ≤ n → range_with_len 1 (n + 1 - 1) ≡ range_with_len 1 (n - 1) ++ n ∷ []
 range_from_one n le =
     ap (range_with_len 1) (let e : n + 1 - 1 ≡ n - 1 + 1 = omega (arith, le) in e) ∙ range_more 1 (n - 1)
     ∙ ap (λ m. range_with_len 1 (n - 1) ++ m ∷ []) (let e : 1 + (n - 1) ≡ n = omega (arith, le) in e)

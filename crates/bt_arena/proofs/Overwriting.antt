@@ -32,7 +32,7 @@ filled_over items place others within =
     ) in
     take-append-le (length items) now (drop (length now) items) enough ∙ taken_over items place others
 
-pub length-written : {T : Type 0} (items : List T) (place : ℕ) (others : List T) → length (written_over items place others) ≡ length items
+length-written : {T : Type 0} (items : List T) (place : ℕ) (others : List T) → length (written_over items place others) ≡ length items
 length-written [] place others = refl
 length-written (x ∷ items) zero [] = refl
 length-written (x ∷ items) zero (y ∷ others) = ap suc (length-written items zero others)

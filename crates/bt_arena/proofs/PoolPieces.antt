@@ -14,7 +14,7 @@ get-pieces from [] items place h = absurd (omega (arith, h))
 get-pieces from (end ∷ ends) items zero h = refl
 get-pieces from (end ∷ ends) items (suc place) h = get-pieces end ends items place (omega (arith, h))
 
-pub start-suc : (from : ℕ) (ends : List ℕ) (place : ℕ) → place < length ends → start_of from ends (suc place) ≡ get_or ends place 0
+start-suc : (from : ℕ) (ends : List ℕ) (place : ℕ) → place < length ends → start_of from ends (suc place) ≡ get_or ends place 0
 start-suc from [] place h = absurd (omega (arith, h))
 start-suc from (end ∷ []) zero h = refl
 start-suc from (end ∷ next ∷ ends) zero h = refl
@@ -60,14 +60,14 @@ range_last from items more is =
     rw (is, drop-append_seam items more, size) (take-length more)
 
 -- with one list more, every earlier list is where it was
-pub pieces-add : {T : Type 0} (from : ℕ) (ends : List ℕ) (items more : List T) → AreEnds from ends items
+pieces-add : {T : Type 0} (from : ℕ) (ends : List ℕ) (items more : List T) → AreEnds from ends items
     → pieces from (ends ++ length (items ++ more) ∷ []) (items ++ more) ≡ pieces from ends items ++ more ∷ []
 pieces-add from [] items more are = ap (λ xs. xs ∷ []) (range_last from items more are)
 pieces-add from (end ∷ ends) items more are =
     rw (range_stays from end items more are.0 (from_within end ends items are.1), pieces-add end ends items more are.1)
 
 -- the ends of a pool with one list more
-pub ends-add : {T : Type 0} (from : ℕ) (ends : List ℕ) (items more : List T) → AreEnds from ends items
+ends-add : {T : Type 0} (from : ℕ) (ends : List ℕ) (items more : List T) → AreEnds from ends items
     → AreEnds from (ends ++ length (items ++ more) ∷ []) (items ++ more)
 ends-add from [] items more are = (omega (arith, are, length-append items more), refl)
 ends-add from (end ∷ ends) items more are = (are.0, ends-add end ends items more are.1)

@@ -2,7 +2,7 @@
 ghost use Rattle.std.specs.Prelude.{◌≡◌, ◌<◌, ◌≤◌, [], ◌∷◌, ◌++◌, length, slice_get, slice_range, Some, OnErr, OnOk, IfOk, IsOkAnd, IfSome, IsNone, ◌↔◌};
 ghost use Rattle.std.specs.Allocator.{alloc_error};
 ghost use Rattle.std.specs.Borrow.{sem};
-ghost use Rattle.bt_answers.specs.Answers.{seen, Answers};
+ghost use Rattle.bt_text.specs.Answers.{seen, Answers};
 ghost use Rattle.bt_arena.specs.Items.{with_id, IsAdded, KeepsItems};
 ghost use Rattle.bt_arena.specs.Pieces.{AreEnds, start_of, IsSpan};
 ghost use Rattle.bt_arena.specs.PoolLends.{lends_list};

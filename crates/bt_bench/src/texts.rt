@@ -1,8 +1,7 @@
 //! Writing of blueprints.
-use bt_entities::parts_of;
+use bt_entities::{parts_of, text_of};
 use bt_json::read;
 use bt_parts::Part;
-use bt_write::text_of;
 use std::alloc::Global;
 
 /// The parts of the blueprint at the front of a text.

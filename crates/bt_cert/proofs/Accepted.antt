@@ -13,7 +13,7 @@ use Rattle.bt_cert.specs.Judging.{IsAccepted, IsWideNowhere}
 use Rattle.bt_cert.specs.Certificates.{AreAccepted, AreRight, clauses_after, log_of}
 
 -- one more step
-pub accepted_push : (f : FormulaParts) (clauses : List (List Lit)) (steps : List WrittenStep) (step : WrittenStep) → AreAccepted f clauses steps
+accepted_push : (f : FormulaParts) (clauses : List (List Lit)) (steps : List WrittenStep) (step : WrittenStep) → AreAccepted f clauses steps
     → IsAccepted f (clauses ++ map written_clause steps) step → AreAccepted f clauses (steps ++ step ∷ [])
 accepted_push f clauses [] step h k = (subst (λ c. IsAccepted f c step) (append-nil clauses) k, tt)
 accepted_push f clauses (s ∷ steps) step h k = (

@@ -73,11 +73,3 @@ module _ (values : List (Option Bool)) where
   -- a clause of false literals
   pub no_unit_false : (clause : List Lit) → All (IsFalseIn values) clause → HasNoUnit values clause
   no_unit_false clause all l unit = unset_not_false values l unit.unset (All-contains (IsFalseIn values) clause l all unit.among)
-
-  -- the unit is the only one
-  pub one_unit : (clause : List Lit) (l other : Lit) → IsUnitIn values clause l → IsUnitIn values clause other → other ≡ l
-  one_unit clause l other unit also =
-      elim (All-contains (Other l) clause other unit.others also.among) [
-        | inl same ↦ same
-        | inr is_false ↦ absurd (unset_not_false values other also.unset is_false)
-      ]

@@ -74,11 +74,11 @@ some_text (Cases var first second) e = absurd cc
 some_text (Disjunction lits) e = absurd cc
 
 -- no definition comes where nothing does
-pub none_in_nothing : (f : FormulaParts) → NoneComesFirst f []
+none_in_nothing : (f : FormulaParts) → NoneComesFirst f []
 none_in_nothing f d after c = some_text d (IsFirstLine-unique [] [] (definition_text d) [] after (inr (All-nil (λ b. b ≢ 10), refl, refl)) c.1).0
 
 -- or where another line does
-pub none_at_line : (f : FormulaParts) (text line after : List ℕ) → IsFirstLine text line after → DefinesNothing f line → NoneComesFirst f text
+none_at_line : (f : FormulaParts) (text line after : List ℕ) → IsFirstLine text line after → DefinesNothing f line → NoneComesFirst f text
 none_at_line f text line after is nothing d behind c = nothing d c.0 (IsFirstLine-unique text line (definition_text d) after behind is c.1).0
 
 extended_push : (f : FormulaParts) (ds : List Definition) (d : Definition) → extended f (ds ++ d ∷ []) ≡ with_definition (extended f ds) d

@@ -2,8 +2,8 @@
 use Rattle.std.proofs.Common.{◌≡◌, ℕ, ◌+◌, ◌-◌, ◌≤◌, List, [], ◌++◌, length, Option, Result, Ok, Err, refl, subst, inl, inr, arith, append_assoc, append-nil, length-append}
 use Rattle.std.specs.Io.KnownBytes.{Consumes, IsAtEnd, Keeps}
 use Rattle.std.proofs.KnownBytes.{Consumes-nil, Consumes-trans, Consumes-kept}
-use Rattle.bt_answers.specs.Answers.{UnlessMemory}
-use Rattle.bt_answers.proofs.OneAnswer.{answers_of}
+use Rattle.bt_text.specs.Answers.{UnlessMemory}
+use Rattle.bt_text.proofs.OneAnswer.{answers_of}
 use Rattle.bt_io.specs.Bytes.{Takes, TakesAtMost}
 use Rattle.bt_io.specs.Passages.{Passage, passage}
 use Rattle.bt_io.specs.Causes.{Rose}

@@ -1,8 +1,8 @@
 -- A certificate that is read from a source, block by block.
 use Rattle.std.proofs.Common.{◌≡◌, ℕ, ◌+◌, ◌≤◌, List, [], ◌++◌, length, Option, None, Some, Result, Ok, Err, refl, sym, ◌∙◌, ap, subst, inl, inr, arith, append_assoc, append-nil, length-append}
 use Rattle.std.specs.Io.KnownBytes.{Consumes, IsAtEnd, Keeps}
-use Rattle.bt_answers.specs.Answers.{UnlessMemory}
-use Rattle.bt_answers.proofs.OneAnswer.{answers_of}
+use Rattle.bt_text.specs.Answers.{UnlessMemory}
+use Rattle.bt_text.proofs.OneAnswer.{answers_of}
 use Rattle.bt_io.specs.Bytes.{TakesAtMost}
 use Rattle.bt_io.specs.Passages.{Passage}
 use Rattle.bt_cnf.specs.Formulas.{FormulaParts, IsFormula}

@@ -1,7 +1,7 @@
 -- A text has one right answer.
 use Rattle.std.proofs.Common.{◌≡◌, ◌≢◌, ℕ, ◌+◌, List, [], ◌∷◌, ◌++◌, All, length, Result, Ok, Err, refl, sym, ◌∙◌, ap, subst, inl, inr}
 use Rattle.std.proofs.lemmas.List.Elements.{All-head, All-tail}
-use Rattle.bt_answers.specs.Answers.{HasOneAnswer}
+use Rattle.bt_text.specs.Answers.{HasOneAnswer}
 use Rattle.bt_text.specs.Blanks.{IsBlank}
 use Rattle.bt_text.specs.Lines.{line_feeds}
 use Rattle.bt_cnf.specs.Formulas.{FormulaParts, IsFormula}

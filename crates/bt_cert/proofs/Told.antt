@@ -26,7 +26,7 @@ some_same a b e = cc
 abbrev pub Joins : List Lit → Lit → List Lit → Type 0
 Joins before x after = (m : Lit) → Contains after m ↔ ((x ≡ m) ⊎ Contains before m)
 
-pub joins_front : (before : List Lit) (x : Lit) → Joins before x (x ∷ before)
+joins_front : (before : List Lit) (x : Lit) → Joins before x (x ∷ before)
 joins_front before x m = (λ (k, inside, is). cases k inside is, back)
   where
     cases : (k : ℕ) → k < length (x ∷ before) → get_or (x ∷ before) k m ≡ m → (x ≡ m) ⊎ Contains before m
@@ -146,7 +146,7 @@ module _ (values : List (Option Bool)) (falses : List Lit) (tells : Tells values
     told_false all k d within = (tells (get_or clause k d) (below k d within)).1 (all k d within)
 
 -- the unit's literal true: its opposite is false
-pub tells_unit : (values : List (Option Bool)) (falses clause : List Lit) (l : Lit) → Tells values falses → LitsBelow (length values) clause → IsUnitIn values clause l
+tells_unit : (values : List (Option Bool)) (falses clause : List Lit) (l : Lit) → Tells values falses → LitsBelow (length values) clause → IsUnitIn values clause l
     → Tells (with_value values l.var l.positive) (opposite l ∷ falses)
 tells_unit values falses clause l tells below unit =
     let inside : l.var < length values = All-contains (λ m. m.var < length values) clause l below unit.among in

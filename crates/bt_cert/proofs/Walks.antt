@@ -43,12 +43,12 @@ hint_inside clauses hints units last i are is inside =
     (subst (λ n. n < length clauses) (place_at hints i within) (are i (get_or hints i 0 - 1) (place_below hints i within)))
 
 -- the hinted clauses are the ones before the last, and the last
-pub hinted_split : (known : Checking) (hints units : List ℕ) (last : ℕ) → hints ≡ units ++ last ∷ [] → hinted known hints ≡ hinted known units ++ clause_at known.clauses (last - 1) ∷ []
+hinted_split : (known : Checking) (hints units : List ℕ) (last : ℕ) → hints ≡ units ++ last ∷ [] → hinted known hints ≡ hinted known units ++ clause_at known.clauses (last - 1) ∷ []
 hinted_split known hints units last is =
     ap (hinted known) is ∙ ap (map (clause_at known.clauses)) (map-append (λ n. n - 1) units (last ∷ [])) ∙ map-append (clause_at known.clauses) (places_of units) ((last - 1) ∷ [])
 
 -- the literals of the hinted clauses are of variables
-pub hinted_below : (known : Checking) (hints : List ℕ) → IsSound known → AreHints known.clauses (places_of hints) → All (LitsBelow known.formula.vars) (hinted known hints)
+hinted_below : (known : Checking) (hints : List ℕ) → IsSound known → AreHints known.clauses (places_of hints) → All (LitsBelow known.formula.vars) (hinted known hints)
 hinted_below known hints sound are =
     All-map (LitsBelow known.formula.vars) (clause_at known.clauses) (places_of hints)
     (λ k d inside. sound.clauses (get_or (places_of hints) k d) [] (are k d inside))

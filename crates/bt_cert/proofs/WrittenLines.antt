@@ -52,7 +52,7 @@ after_lits text lits other rest after stand stops other_stand begins e =
     (zero_is_none IsWrittenLit written_lit_text lit_not_zero after begins) e
 
 -- a text behind `f` is that of a lemma where it is read as literals, `0`, weights and nothing more
-pub lemma_is : (text after : List ℕ) (lits : List WrittenLit) (weights : List Ratio) (rest : List ℕ)
+lemma_is : (text after : List ℕ) (lits : List WrittenLit) (weights : List Ratio) (rest : List ℕ)
     → StopsAfter IsWrittenLit written_lit_text text lits rest → rest ≡ 32 ∷ 48 ∷ after → (last : List ℕ) → StopsAfter IsLowest frac_text after weights last → last ≡ []
     → 102 ∷ text ≡ written_text (Lemma lits weights)
 lemma_is text after lits weights rest stops zero last stops' none =
@@ -69,7 +69,7 @@ no_lemma_at_zero text rest lits stand stops none (Learnt other hints) written e 
     differ 102 114 _ _ (λ same. omega arith) (e ∙ learnt_line other hints)
 
 -- or where something follows the weights
-pub no_lemma_at_end : (text after : List ℕ) (lits : List WrittenLit) (weights : List Ratio) (rest last : List ℕ) → All IsWrittenLit lits
+no_lemma_at_end : (text after : List ℕ) (lits : List WrittenLit) (weights : List Ratio) (rest last : List ℕ) → All IsWrittenLit lits
     → StopsAfter IsWrittenLit written_lit_text text lits rest → rest ≡ 32 ∷ 48 ∷ after → All IsLowest weights → StopsAfter IsLowest frac_text after weights last
     → (last ≡ [] → ⊥) → SpellsNoStep (102 ∷ text)
 no_lemma_at_end text after lits weights rest last stand stops zero low stops' some (Lemma other others) written e =
@@ -82,7 +82,7 @@ no_lemma_at_end text after lits weights rest last stand stops zero low stops' so
     differ 102 114 _ _ (λ same. omega arith) (e ∙ learnt_line other hints)
 
 -- a text behind `r` is that of a learnt clause where it is read as literals, `0`, hints and `0`
-pub learnt_is : (text after : List ℕ) (lits : List WrittenLit) (hints : List ℕ) (rest : List ℕ)
+learnt_is : (text after : List ℕ) (lits : List WrittenLit) (hints : List ℕ) (rest : List ℕ)
     → StopsAfter IsWrittenLit written_lit_text text lits rest → rest ≡ 32 ∷ 48 ∷ after → (last : List ℕ) → StopsAfter IsNumber decimal after hints last → last ≡ 32 ∷ 48 ∷ []
     → 114 ∷ text ≡ written_text (Learnt lits hints)
 learnt_is text after lits hints rest stops zero last stops' ends =
@@ -97,7 +97,7 @@ no_learnt_at_zero text rest lits stand stops none (Learnt other hints) written e
 no_learnt_at_zero text rest lits stand stops none (Lemma other weights) written e =
     differ 114 102 _ _ (λ same. omega arith) (e ∙ lemma_line other weights)
 
-pub no_learnt_at_end : (text after : List ℕ) (lits : List WrittenLit) (hints : List ℕ) (rest last : List ℕ) → All IsWrittenLit lits
+no_learnt_at_end : (text after : List ℕ) (lits : List WrittenLit) (hints : List ℕ) (rest last : List ℕ) → All IsWrittenLit lits
     → StopsAfter IsWrittenLit written_lit_text text lits rest → rest ≡ 32 ∷ 48 ∷ after → All IsNumber hints → StopsAfter IsNumber decimal after hints last
     → (last ≡ 32 ∷ 48 ∷ [] → ⊥) → SpellsNoStep (114 ∷ text)
 no_learnt_at_end text after lits hints rest last stand stops zero numbers stops' some (Learnt other others) written e =

@@ -1,6 +1,6 @@
 -- What reading a certificate from a source tells.
 use Rattle.std.specs.Prelude.{ℕ, ◌+◌, ◌≤◌, List, ◌++◌, length, Result, Ok, Err}
-use Rattle.bt_answers.specs.Answers.{Answers}
+use Rattle.bt_text.specs.Answers.{Answers}
 use Rattle.bt_io.specs.Bytes.{IsAllOf, Takes, TakesAtMost}
 use Rattle.bt_io.specs.Passages.{Passage, HasFault}
 use Rattle.bt_cnf.specs.Formulas.{FormulaParts}

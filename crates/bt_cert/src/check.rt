@@ -1,6 +1,6 @@
 //! Checking a certificate that a source tells.
 ghost use Rattle.std.specs.Prelude.{◌+◌, ◌<◌, ◌≤◌, ◌^◌};
-ghost use Rattle.bt_answers.specs.Answers.{UnlessMemory};
+ghost use Rattle.bt_text.specs.Answers.{UnlessMemory};
 ghost use Rattle.bt_io.specs.Passages.{passage};
 ghost use Rattle.bt_cert.specs.Certificates.{AreStepsRead};
 ghost use Rattle.bt_cert.specs.Readings.{ChecksBy, ChecksLog};

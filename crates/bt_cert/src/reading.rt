@@ -2,7 +2,7 @@
 //!
 //! What was read of a text is known by its stage, so that pieces may end anywhere, also within a line.
 ghost use Rattle.std.specs.Prelude.{◌≡◌, ℕ, ◌+◌, ◌<◌, ◌≤◌, ◌^◌, List, [], ◌∷◌, ◌++◌, ◌↔◌, IsTrue, false, length, IfOk};
-ghost use Rattle.bt_answers.specs.Answers.{UnlessMemory};
+ghost use Rattle.bt_text.specs.Answers.{UnlessMemory};
 ghost use Rattle.bt_text.specs.Lines.{Lacks};
 ghost use Rattle.bt_cnf.specs.Formulas.{IsFormula};
 ghost use Rattle.bt_cert.specs.Certificates.{AreStepsRead};

@@ -21,7 +21,7 @@ firsts_zip [] (y ∷ ys) same = absurd (omega (arith, same))
 firsts_zip (x ∷ xs) [] same = absurd (omega (arith, same))
 firsts_zip (x ∷ xs) (y ∷ ys) same = ap (λ rest. x ∷ rest) (firsts_zip xs ys (omega (arith, same)))
 
-pub zip_more : {X Y : Type 0} (xs : List X) (ys : List Y) (x : X) (y : Y) → length xs ≡ length ys → zip (xs ++ x ∷ []) (ys ++ y ∷ []) ≡ zip xs ys ++ (x, y) ∷ []
+zip_more : {X Y : Type 0} (xs : List X) (ys : List Y) (x : X) (y : Y) → length xs ≡ length ys → zip (xs ++ x ∷ []) (ys ++ y ∷ []) ≡ zip xs ys ++ (x, y) ∷ []
 zip_more [] [] x y same = refl
 zip_more [] (w ∷ ys) x y same = absurd (omega (arith, same))
 zip_more (v ∷ xs) [] x y same = absurd (omega (arith, same))
@@ -98,14 +98,14 @@ places_more places atoms var place are below is other inside =
           (place_before atoms var other (get_or places other None) differs (are other (omega (arith, length-set places var (Some place)))))
     ]
 
-pub parts_more : (places : List (Option ℕ)) (clauses : List (List Lit)) (atoms : List ℕ) (rows : List RowParts) (var : ℕ) (row : RowParts) (place : ℕ) → length atoms ≡ length rows
+parts_more : (places : List (Option ℕ)) (clauses : List (List Lit)) (atoms : List ℕ) (rows : List RowParts) (var : ℕ) (row : RowParts) (place : ℕ) → length atoms ≡ length rows
     → record (parts_of places clauses atoms rows) { atoms = zip atoms rows ++ (var, row) ∷ [] } ≡ parts_of (set places var (Some place)) clauses (atoms ++ var ∷ []) (rows ++ row ∷ [])
 parts_more places clauses atoms rows var row place same =
     ap (λ n. record { vars = n; clauses = clauses; atoms = zip atoms rows ++ (var, row) ∷ [] }) (sym (length-set places var (Some place)))
     ∙ ap (λ pairs. record { vars = length (set places var (Some place)); clauses = clauses; atoms = pairs }) (sym (zip_more atoms rows var row same))
 
 -- what a formula is kept in, with one more atom
-pub stored_more : (places : List (Option ℕ)) (clauses : List (List Lit)) (atoms : List ℕ) (rows : List RowParts) (columns var : ℕ) (row : RowParts) (place end : ℕ)
+stored_more : (places : List (Option ℕ)) (clauses : List (List Lit)) (atoms : List ℕ) (rows : List RowParts) (columns var : ℕ) (row : RowParts) (place end : ℕ)
     → IsStored places clauses atoms rows columns → IsNextAtom (parts_of places clauses atoms rows) var → IsRow row → place ≡ length rows → end ≡ end_of (columns_of row.terms)
     → IsStored (set places var (Some place)) clauses (atoms ++ var ∷ []) (rows ++ row ∷ []) (max columns end)
 stored_more places clauses atoms rows columns var row place end is next is_row place_is end_is = record {
@@ -156,7 +156,7 @@ places_longer places atoms place are is other inside =
     at_end [] x d = refl
     at_end (y ∷ xs) x d = at_end xs x d
 
-pub parts_longer : (places : List (Option ℕ)) (clauses : List (List Lit)) (atoms : List ℕ) (rows : List RowParts) (row : RowParts) (place : ℕ) → length atoms ≡ length rows
+parts_longer : (places : List (Option ℕ)) (clauses : List (List Lit)) (atoms : List ℕ) (rows : List RowParts) (row : RowParts) (place : ℕ) → length atoms ≡ length rows
     → record { vars = length places + 1; clauses = clauses; atoms = zip atoms rows ++ (length places, row) ∷ [] }
     ≡ parts_of (places ++ Some place ∷ []) clauses (atoms ++ length places ∷ []) (rows ++ row ∷ [])
 parts_longer places clauses atoms rows row place same =
@@ -164,7 +164,7 @@ parts_longer places clauses atoms rows row place same =
     ∙ ap (λ pairs. record { vars = length (places ++ Some place ∷ []); clauses = clauses; atoms = pairs }) (sym (zip_more atoms rows (length places) row same))
 
 -- what a formula is kept in, with one more variable that is an atom
-pub stored_longer : (places : List (Option ℕ)) (clauses : List (List Lit)) (atoms : List ℕ) (rows : List RowParts) (columns : ℕ) (row : RowParts) (place end : ℕ)
+stored_longer : (places : List (Option ℕ)) (clauses : List (List Lit)) (atoms : List ℕ) (rows : List RowParts) (columns : ℕ) (row : RowParts) (place end : ℕ)
     → IsStored places clauses atoms rows columns → IsRow row → place ≡ length rows → end ≡ end_of (columns_of row.terms)
     → IsStored (places ++ Some place ∷ []) clauses (atoms ++ length places ∷ []) (rows ++ row ∷ []) (max columns end)
 stored_longer places clauses atoms rows columns row place end is is_row place_is end_is = record {
@@ -245,7 +245,7 @@ next_above places clauses rows var paired next =
     subst (All (λ a. a < var)) (firsts_zip (atoms_in places) rows paired) (All-firsts (λ n. n < var) (zip (atoms_in places) rows) next.above)
 
 -- a variable has been given the place of its row
-pub atoms_after : (places : List (Option ℕ)) (clauses : List (List Lit)) (rows : List RowParts) (columns var place : ℕ) → IsStored places clauses (atoms_in places) rows columns
+atoms_after : (places : List (Option ℕ)) (clauses : List (List Lit)) (rows : List RowParts) (columns var place : ℕ) → IsStored places clauses (atoms_in places) rows columns
     → IsNextAtom (parts_of places clauses (atoms_in places) rows) var → atoms_in (set places var (Some place)) ≡ atoms_in places ++ var ∷ []
 atoms_after places clauses rows columns var place is next = atoms_set places var place next.below (next_above places clauses rows var is.paired next)
 
@@ -336,7 +336,7 @@ pub appended : {X U E : Type 0} (r : Result U E) (u : U) (old mid new : List X) 
 appended r u old mid new x ok same is = is ∙ ap (λ b. if b then mid ++ x ∷ [] else mid) (ap is_ok ok) ∙ ap (λ xs. xs ++ x ∷ []) same
 
 -- a new formula
-pub stored_new : (places : List (Option ℕ)) → All (λ o. o ≡ None) places → IsStored places [] [] [] 0
+stored_new : (places : List (Option ℕ)) → All (λ o. o ≡ None) places → IsStored places [] [] [] 0
 stored_new places none = record {
   formula = record { clauses = All-nil (LitsBelow (length places)); atoms = tt; rows = All-nil (λ a. IsRow a.1) };
   paired = refl;

@@ -11,7 +11,7 @@ use Rattle.bt_cnf.specs.Truths.{IsUnset, unset, LacksValue}
 use Rattle.bt_cnf.proofs.Lists.{lt_or_eq, nat_or}
 
 -- numbers ascend with a greater one behind
-pub ascends_push : (xs : List ℕ) (x : ℕ) → Ascends xs → ((k : ℕ) → Contains xs k → k < x) → Ascends (xs ++ x ∷ [])
+ascends_push : (xs : List ℕ) (x : ℕ) → Ascends xs → ((k : ℕ) → Contains xs k → k < x) → Ascends (xs ++ x ∷ [])
 ascends_push [] x ascends below = (All-nil (λ m. x < m), tt)
 ascends_push (y ∷ xs) x ascends below = (
   All-push (λ m. y < m) xs x ascends.0 (below y (0, omega arith, refl)),

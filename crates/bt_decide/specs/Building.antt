@@ -3,8 +3,8 @@ use Rattle.std.specs.Prelude.{◌≡◌, ℕ, IsTrue, All}
 use Rattle.bt_net.specs.Network.{Network}
 use Rattle.bt_flow.specs.declared.property.Property.{Property}
 use Rattle.bt_flow.specs.Properties.{Holds}
-use Rattle.bt_wish.specs.declared.wish.Wish.{Wish}
-use Rattle.bt_wish.specs.Wishes.{wishes_for}
+use Rattle.bt_gen.specs.declared.wish.Wish.{Wish}
+use Rattle.bt_gen.specs.Wishes.{wishes_for}
 
 -- the network has each property of the wish
 abbrev pub Grants : Wish → Network → Type 0

@@ -17,7 +17,7 @@ use Rattle.bt_extend.specs.Extending.{extended, AreDefinitions}
 use Rattle.bt_extend.specs.declared.definition.Definition.{Definition}
 use Rattle.bt_theory.specs.declared.outcome.GaveUp as cause
 use Rattle.bt_theory.specs.Outcomes.{IsRefutation, IsGivenUpOver}
-use Rattle.bt_trim.specs.Trimming.{IsTightOver}
+use Rattle.bt_log.specs.Trimming.{IsTightOver}
 use Rattle.bt_decide.specs.declared.verdict.Verdict.{Verdict}
 use Rattle.bt_decide.specs.declared.verdict.Verdict.TheVariants.{Yes, No, GaveUp}
 use Rattle.bt_decide.specs.declared.verdict.SameVerdict.{SameVerdict}

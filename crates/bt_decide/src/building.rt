@@ -4,8 +4,8 @@ ghost use Rattle.bt_decide.specs.Building.{IsBuilt};
 
 use crate::granting::grants;
 use bt_cnf::Limits;
+use bt_gen::Wish;
 use bt_net::{Edge, Net};
-use bt_wish::Wish;
 use hint_balancers::candidates;
 use std::alloc::{AllocError, Global};
 

@@ -9,8 +9,8 @@ use crate::verdict::Verdict;
 use bt_choosers::Active;
 use bt_cnf::Limits;
 use bt_flow::Property;
+use bt_gen::Wish;
 use bt_net::Net;
-use bt_wish::Wish;
 use std::alloc::{AllocError, Global};
 
 /// Whether a network has each property of a wish, as far as is decided within the limits for each of them.

@@ -29,7 +29,7 @@ grid_near rect grid c h =
     (omega (arith, x), omega (arith, y))
 
 -- a cell that is found inside is inside
-pub true_inside : (rect : Rect) (c : Cell) → is_inside rect c ≡ true → IsInside rect c
+true_inside : (rect : Rect) (c : Cell) → is_inside rect c ≡ true → IsInside rect c
 true_inside rect c t = ⊎_elim (λ h. h.0) (λ h. absurd (false≢true (sym h.1 ∙ t))) (inside_cases rect c)
 
 -- all cells of a place are

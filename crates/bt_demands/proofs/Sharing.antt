@@ -162,23 +162,6 @@ side_is (demand.Side s ∷ demands) apart side e (inr there) named =
     by true t rest = absurd (head_apart (demand.Side s) demands apart (demand.Side side) there (refl, (e, true_names s.ends e t, named)))
     by false t rest = ap (λ b. cond b (Some s.dir) (side_of demands e)) t ∙ rest
 
--- a line that tells no side, or tells it
-pub side_found : (d : Demand) (e : End) (dir : Dir) (others : Option Dir) → side_by d e None ≡ Some dir → side_by d e others ≡ Some dir
-side_found (demand.Pin pin) e dir others h = absurd (cc)
-side_found (demand.Row row) e dir others h = absurd (cc)
-side_found (demand.Side side) e dir others h = by (names side.ends e) h where
-  by : (b : Bool) → cond b (Some side.dir) None ≡ Some dir → cond b (Some side.dir) others ≡ Some dir
-  by true h = h
-  by false h = absurd (cc)
-
-pub side_missed : (d : Demand) (e : End) (others : Option Dir) → side_by d e None ≡ None → side_by d e others ≡ others
-side_missed (demand.Pin pin) e others h = refl
-side_missed (demand.Row row) e others h = refl
-side_missed (demand.Side side) e others h = by (names side.ends e) h where
-  by : (b : Bool) → cond b (Some side.dir) None ≡ None → cond b (Some side.dir) others ≡ others
-  by true h = absurd (cc)
-  by false h = refl
-
 -- ---- inputs of one class stand at one side
 
 pub class_side : (demands : List Demand) (j k : ℕ) (a b : Target) (dir : Dir) → class_between demands (from.Input j) a ≡ class_between demands (from.Input k) b

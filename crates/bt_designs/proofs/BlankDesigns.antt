@@ -5,12 +5,12 @@ use Rattle.std.specs.Prelude.{All, slice_get}
 use Rattle.std.proofs.lemmas.List.{length-drop}
 use Rattle.std.proofs.lemmas.List.Elements.{All-head, All-tail, All-append}
 use Rattle.std.proofs.lemmas.Option.{slice_get_within}
-use Rattle.bt_answers.specs.Answers.{seen}
+use Rattle.bt_text.specs.Answers.{seen}
 use Rattle.bt_text.specs.Blanks.{IsBlank}
 use Rattle.bt_text.specs.Lines.{IsFirstLine}
 use Rattle.bt_text.proofs.FirstLines.{first_line_of}
 use Rattle.bt_parts.specs.declared.part.Part.{Part}
-use Rattle.bt_hands.specs.declared.hand.Priority.{Priority}
+use Rattle.bt_parts.specs.declared.hand.Priority.{Priority}
 use Rattle.bt_json.specs.Json.{Json}
 use Rattle.bt_json.specs.Grammar.{Blanks, is_blank}
 use Rattle.bt_json.specs.Answers.{IsBad, IsFirst}
@@ -18,8 +18,8 @@ use Rattle.bt_json.specs.declared.fault.JsonFault.{JsonFault}
 use Rattle.bt_json.specs.declared.fault.JsonFault.TheVariants as json
 use Rattle.bt_entities.specs.declared.fault.EntityFault.{EntityFault}
 use Rattle.bt_entities.specs.declared.fault.EntityFault.TheVariants as entity
-use Rattle.bt_grid.specs.declared.grid.GridFault.{GridFault}
-use Rattle.bt_grid.specs.declared.grid.GridFault.TheVariants as grid
+use Rattle.bt_recover.specs.declared.grid.GridFault.{GridFault}
+use Rattle.bt_recover.specs.declared.grid.GridFault.TheVariants as grid
 use Rattle.bt_recover.specs.declared.fault.RecoverFault.{RecoverFault}
 use Rattle.bt_recover.specs.declared.fault.RecoverFault.TheVariants as layout
 use Rattle.bt_net.specs.declared.fault.NetFault.{NetFault}
@@ -85,7 +85,7 @@ json_before_blanks blanks bytes are (rest, s) =
 
 -- ---- refusals without offsets
 
-abbrev pub NoOffset : DesignFault → Type 0
+abbrev NoOffset : DesignFault → Type 0
 NoOffset (design.Refused (refusal.Json at)) = ⊥
 NoOffset (design.Refused (refusal.Deep at)) = ⊥
 NoOffset (design.Refused (refusal.DuplicateKey at)) = ⊥

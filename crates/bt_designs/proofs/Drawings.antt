@@ -1,11 +1,11 @@
 -- A blueprint's layout: of its parts, where they are placed; and a request for one is a request for a design.
 use Rattle.std.proofs.Common.{◌≡◌, ℕ, List, Option, Result, Ok, Err, inl, inr, refl, ap}
-use Rattle.bt_answers.specs.Answers.{UnlessMemory, seen}
-use Rattle.bt_hands.specs.declared.hand.Priority.{Priority}
+use Rattle.bt_text.specs.Answers.{UnlessMemory, seen}
+use Rattle.bt_parts.specs.declared.hand.Priority.{Priority}
 use Rattle.bt_parts.specs.declared.part.Part.{Part}
 use Rattle.bt_parts.specs.declared.part.Rect.{Rect}
 use Rattle.bt_parts.specs.declared.part.Tier.{Tier}
-use Rattle.bt_grid.specs.Placing.{IsPlaced}
+use Rattle.bt_recover.specs.Placing.{IsPlaced}
 use Rattle.bt_model.specs.Requests.{LayoutRequest}
 use Rattle.bt_designs.specs.declared.design.Laid.{Laid}
 use Rattle.bt_designs.specs.declared.fault.DesignFault.{DesignFault}

@@ -1,6 +1,6 @@
 -- What two steps answer in turn.
 use Rattle.std.proofs.Common.{◌≡◌, Result, Ok, Err, inl, inr, sym, ap, ◌∙◌, subst}
-use Rattle.bt_answers.specs.Answers.{UnlessMemory, HasOneAnswer}
+use Rattle.bt_text.specs.Answers.{UnlessMemory, HasOneAnswer}
 use Rattle.bt_designs.specs.Steps.{InTurn, stopped, went_on}
 
 -- equal answers have equal values, or equal faults, and no answer has both

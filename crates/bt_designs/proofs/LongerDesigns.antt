@@ -106,7 +106,7 @@ ends_anyhow bytes v after (rest, s) front =
     all_blank (x ∷ xs) all = (blank_is x all.0, all_blank xs all.1)
 
 -- what comes of the JSON text of longer bytes
-pub json_of_stays : {X : Type 0} (IsOf : Json → Result X DesignFault → Type 0) (bytes more : List ℕ) (answer : Result (X × ℕ) DesignFault) → IsJsonText bytes → ((fault : JsonFault) → answer ≡ Err (json_told fault) → fault ≢ json.Json (length bytes))
+json_of_stays : {X : Type 0} (IsOf : Json → Result X DesignFault → Type 0) (bytes more : List ℕ) (answer : Result (X × ℕ) DesignFault) → IsJsonText bytes → ((fault : JsonFault) → answer ≡ Err (json_told fault) → fault ≢ json.Json (length bytes))
     → IsJsonOf IsOf bytes answer → IsJsonOf IsOf (bytes ++ more) answer
 json_of_stays IsOf bytes more answer is settled (stopped fault h e) = stopped fault (fault_stays bytes more fault (settled fault e) h) e
 json_of_stays IsOf bytes more answer is settled (went_on read h k) = went_on read (value_stays bytes more read.0 read.1 (ends_anyhow bytes read.0 read.1 is h.front) h) k
@@ -132,7 +132,7 @@ net_first (b ∷ bytes) rest n ls begins =
 
 -- ---- designs
 
-pub json_within : {X : Type 0} (IsOf : Json → Result X DesignFault → Type 0) (bytes : List ℕ) (n : X) (used : ℕ) → IsJsonOf IsOf bytes (Ok (n, used)) → used ≤ length bytes
+json_within : {X : Type 0} (IsOf : Json → Result X DesignFault → Type 0) (bytes : List ℕ) (n : X) (used : ℕ) → IsJsonOf IsOf bytes (Ok (n, used)) → used ≤ length bytes
 json_within {X} IsOf bytes n used (stopped fault h e) = absurd (not_both (n, used) (json_told fault) e)
 json_within {X} IsOf bytes n used (went_on read h k) =
     let found = seen_ok (λ (m : X). (m, read.1)) k.0 (n, used) k.2 in
@@ -197,7 +197,7 @@ read_refused IsRead stays value bytes more lines fault is other (stopped why h e
     next same = other (told ∙ ap net_told same ∙ ap (λ b. Refused (NetLine (line_feeds b + 1))) (sym is))
 
 -- a refusal of JSON text that isn't that it ends there is none of its end below
-pub json_settled : {A : Type 0} (bytes : List ℕ) (fault : DesignFault) → fault ≢ Refused (refusal.Json (length bytes)) → (why : JsonFault) → ◌≡◌ {A = Result A DesignFault} (Err fault) (Err (json_told why)) → why ≢ json.Json (length bytes)
+json_settled : {A : Type 0} (bytes : List ℕ) (fault : DesignFault) → fault ≢ Refused (refusal.Json (length bytes)) → (why : JsonFault) → ◌≡◌ {A = Result A DesignFault} (Err fault) (Err (json_told why)) → why ≢ json.Json (length bytes)
 json_settled bytes fault other why e same = other (same_fault_of fault (json_told why) e ∙ ap json_told same)
 
 -- what is told of the layout that comes of JSON text

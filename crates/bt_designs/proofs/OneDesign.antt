@@ -1,6 +1,6 @@
 -- Bytes have one design at their front, or one refusal.
 use Rattle.std.proofs.Common.{◌≡◌, ℕ, List, [], ◌∷◌, Option, Some, None, Result, Ok, Err, inl, inr, refl, ap, sym, subst, ◌∙◌, arith}
-use Rattle.bt_answers.specs.Answers.{HasOneAnswer, seen}
+use Rattle.bt_text.specs.Answers.{HasOneAnswer, seen}
 use Rattle.bt_json.specs.Json.{Json}
 use Rattle.bt_json.specs.Answers.{IsRead}
 use Rattle.bt_json.proofs.OneRead.{one_read}
@@ -10,11 +10,11 @@ use Rattle.bt_net.specs.Network.{Network, IsNetwork}
 use Rattle.bt_net.specs.declared.network.Admitted.TheVariants.{Nothing, Priorities}
 use Rattle.bt_net.specs.Readings.{IsNetRead, IsPlainRead}
 use Rattle.bt_net.proofs.OneReading.{one_read as one_net_read}
-use Rattle.bt_hands.specs.declared.hand.Priority.{Priority}
+use Rattle.bt_parts.specs.declared.hand.Priority.{Priority}
 use Rattle.bt_parts.specs.declared.part.Part.{Part}
 use Rattle.bt_parts.specs.declared.part.Tier.{Tier}
-use Rattle.bt_grid.specs.Placing.{IsPlaced}
-use Rattle.bt_grid.proofs.OneAnswer.{one_placed}
+use Rattle.bt_recover.specs.Placing.{IsPlaced}
+use Rattle.bt_recover.proofs.OneAnswer.{one_placed}
 use Rattle.bt_recover.specs.Recovered.{IsRecovered}
 use Rattle.bt_recover.specs.Preferred.{IsRecoveredWith}
 use Rattle.bt_recover.proofs.OneRecovery.{one_recovery}
@@ -71,13 +71,13 @@ one_json_of : {X : Type 0} (IsOf : Json → Result X DesignFault → Type 0) →
 one_json_of {X} IsOf one bytes = one_in_turn (IsRead bytes) _ _ (one_read bytes)
     (λ read a b h k. h.2 ∙ ap (seen (λ (n : X). (n, read.1))) (one read.0 h.0 k.0 h.1 k.1) ∙ sym k.2)
 
-pub one_json_design : (bytes : List ℕ) → HasOneAnswer (IsJsonDesign bytes)
+one_json_design : (bytes : List ℕ) → HasOneAnswer (IsJsonDesign bytes)
 one_json_design bytes = one_json_of IsPreferringNet one_preferring_net bytes
 
 one_told_of : {Y : Type 0} (IsOf : Json → Result Laid DesignFault → Type 0) → ((value : Json) → HasOneAnswer (IsOf value)) → (told : Laid → Y) (bytes : List ℕ) → HasOneAnswer (IsToldOf IsOf told bytes)
 one_told_of IsOf one told bytes = one_in_turn (IsJsonOf IsOf bytes) Err _ (one_json_of IsOf one bytes) (λ found a b h k. h ∙ sym k)
 
-pub one_told_of_layout : {Y : Type 0} (told : Laid → Y) (bytes : List ℕ) → HasOneAnswer (IsToldOfLayout told bytes)
+one_told_of_layout : {Y : Type 0} (told : Laid → Y) (bytes : List ℕ) → HasOneAnswer (IsToldOfLayout told bytes)
 one_told_of_layout told bytes = one_told_of IsTieredBlueprint one_blueprint told bytes
 
 -- and to that of a blueprint
@@ -88,7 +88,7 @@ pub one_told_of_preferring : {Y : Type 0} (told : Laid → Y) (bytes : List ℕ)
 one_told_of_preferring told bytes = one_told_of IsTieredPreferring one_preferring_layout told bytes
 
 -- two right answers to network text are equal
-pub one_text_design : (bytes : List ℕ) → HasOneAnswer (IsTextDesign bytes)
+one_text_design : (bytes : List ℕ) → HasOneAnswer (IsTextDesign bytes)
 one_text_design bytes = one_in_turn (IsPlainRead bytes) _ _ (one_net_read Priorities bytes) (λ read a b h k. h ∙ sym k)
 
 -- two right answers to the bytes of a design are equal
@@ -99,7 +99,7 @@ one_design bytes a b (inr h) (inl k) = absurd (h.0 k.0)
 one_design bytes a b (inr h) (inr k) = one_text_design bytes a b h.1 k.1
 
 -- two right answers to the text of a bare design are equal
-pub one_bare_text : (bytes : List ℕ) → HasOneAnswer (IsBareText bytes)
+one_bare_text : (bytes : List ℕ) → HasOneAnswer (IsBareText bytes)
 one_bare_text bytes = one_in_turn (IsNetRead Nothing bytes) _ _ (one_net_read Nothing bytes) (λ read a b h k. h ∙ sym k)
 
 -- and to the bytes of one

@@ -3,7 +3,7 @@ use Rattle.std.proofs.Common.{◌≡◌, ℕ, List, Ok, sym, ap, subst}
 use Rattle.bt_json.proofs.OneRead.{one_read}
 use Rattle.bt_entities.specs.Answers.{IsPrioritisedOf}
 use Rattle.bt_entities.proofs.OneAnswer.{one_reading}
-use Rattle.bt_hands.specs.declared.hand.Priority.{Priority}
+use Rattle.bt_parts.specs.declared.hand.Priority.{Priority}
 use Rattle.bt_parts.specs.declared.part.Part.{Part}
 use Rattle.bt_designs.specs.Kept.{AreDrawn}
 use Rattle.bt_designs.proofs.InTurns.{same_value}

@@ -1,6 +1,6 @@
 -- Bytes are one pair of designs, or one refusal.
 use Rattle.std.proofs.Common.{ℕ, ◌+◌, ◌-◌, List, Err, length, drop, inl, inr, ap, sym, subst, ◌∙◌}
-use Rattle.bt_answers.specs.Answers.{HasOneAnswer, seen}
+use Rattle.bt_text.specs.Answers.{HasOneAnswer, seen}
 use Rattle.bt_net.specs.Network.{Network}
 use Rattle.bt_designs.specs.Alone.{IsAlone}
 use Rattle.bt_designs.specs.Designs.{IsBareDesign}

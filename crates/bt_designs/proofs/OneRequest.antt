@@ -1,6 +1,6 @@
 -- Bytes have one request at their front, or one refusal.
 use Rattle.std.proofs.Common.{◌≡◌, ℕ, List, Option, Result, Ok, Err, inl, inr, refl, ap, sym, subst, ◌∙◌}
-use Rattle.bt_answers.specs.Answers.{HasOneAnswer, seen}
+use Rattle.bt_text.specs.Answers.{HasOneAnswer, seen}
 use Rattle.bt_parts.specs.declared.part.Part.{Part}
 use Rattle.bt_parts.specs.declared.part.Rect.{Rect}
 use Rattle.bt_parts.specs.declared.part.Tier.{Tier}
@@ -63,7 +63,7 @@ one_kept_request rect tier bytes = one_in_turn (IsAlone IsJsonPreferring bytes) 
 
 -- ---- what is found is a request
 
-pub request_made : (rect : Rect) (tier : Option Tier) (n : PinnedNet) (answer : Result LayoutRequest DesignFault) (r : LayoutRequest) → answer ≡ Ok r
+request_made : (rect : Rect) (tier : Option Tier) (n : PinnedNet) (answer : Result LayoutRequest DesignFault) (r : LayoutRequest) → answer ≡ Ok r
     → IsRequestFor rect tier n answer → IsRequest r
 request_made rect tier n answer r is (stopped fault h e) = absurd (not_both r _ (sym is ∙ e))
 request_made rect tier n answer r is (went_on made h e) = subst IsRequest (same_value made r (sym e ∙ is)) h.1

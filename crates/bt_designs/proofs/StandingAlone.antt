@@ -1,7 +1,7 @@
 -- What stands alone in bytes, from what stands at their front and what is refused behind it.
 use Rattle.std.proofs.Common.{◌≡◌, ℕ, List, [], Result, Ok, Err, length, drop, inl, inr, refl, ap, sym, subst, ◌∙◌, arith}
 use Rattle.std.specs.Prelude.{Some, None}
-use Rattle.bt_answers.specs.Answers.{UnlessMemory, HasOneAnswer}
+use Rattle.bt_text.specs.Answers.{UnlessMemory, HasOneAnswer}
 use Rattle.bt_designs.specs.declared.fault.DesignFault.{DesignFault}
 use Rattle.bt_designs.specs.declared.fault.DesignFault.TheVariants.{Refused, Memory}
 use Rattle.bt_designs.specs.declared.refusal.Refusal.{Refusal}

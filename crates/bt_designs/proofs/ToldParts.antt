@@ -1,7 +1,7 @@
 -- What is told of something that is to stand at the front of an input, by a part of what is held of it.
-use Rattle.std.proofs.Common.{◌≡◌, ◌⊎◌, ℕ, ◌+◌, ◌<◌, ◌≤◌, Bool, true, false, List, [], ◌∷◌, ◌++◌, length, Some, Result, Ok, Err, refl, sym, ◌∙◌, ap, subst, inl, inr, arith, append_assoc, append-nil, length-append}
+use Rattle.std.proofs.Common.{◌≡◌, ◌⊎◌, ℕ, ◌+◌, ◌<◌, ◌≤◌, true, false, List, [], ◌∷◌, ◌++◌, length, Some, Result, Ok, Err, refl, sym, ◌∙◌, ap, subst, inl, inr, arith, append_assoc, append-nil, length-append}
 use Rattle.std.specs.Prelude.{All, IfErr, IfOk, IfSome, Option, None}
-use Rattle.bt_answers.specs.Answers.{UnlessMemory, seen}
+use Rattle.bt_text.specs.Answers.{UnlessMemory, seen}
 use Rattle.bt_text.specs.Blanks.{IsBlank, SkipsBlanks}
 use Rattle.bt_text.specs.Lines.{line, line_feeds}
 use Rattle.bt_text.specs.Whole.{EndsLines}
@@ -34,18 +34,11 @@ text_some part (inl (rest, s)) = omega (arith, ap length s.text_is, length-appen
 text_some part (inr ((byte, rest, s, other), ends)) = omega (arith, ap length s.text_is, length-append s.blanks (byte ∷ rest))
 
 -- what follows blanks, where that isn't JSON text, begins other text
-pub other_text : (bytes text : List ℕ) → (IsJsonText bytes → ⊥) → SkipsBlanks bytes text → 0 < length text → IsOtherText bytes
+other_text : (bytes text : List ℕ) → (IsJsonText bytes → ⊥) → SkipsBlanks bytes text → 0 < length text → IsOtherText bytes
 other_text bytes [] none skips some = absurd (omega (arith, some))
 other_text bytes (byte ∷ text) none skips some = (byte, text, skips, λ same. none (text, subst (λ b. SkipsBlanks bytes (b ∷ text)) same skips))
 
 module _ (held : Held) where
-  json_kind : IsJsonText held.bytes.now → (ended : Bool) → held.ended ≡ ended → ((held.ended ≡ true) × (◌≡◌ {A = List ℕ} [] [])) ⊎ ((held.ended ≡ false) × IsToldText held.bytes.now)
-  json_kind is true e = inl (e, refl)
-  json_kind is false e = inr (e, inl is)
-
-  -- JSON text is told whole
-  pub json_part : IsJsonText held.bytes.now → IsToldPart held held.bytes.now
-  json_part is = record { rest = []; bytes_are = sym (append-nil held.bytes.now); kind = json_kind is held.ended refl; behind = inl is }
 
   -- and all is told where the input has ended
   ended_part : held.ended ≡ true → (IsJsonText held.bytes.now ⊎ (held.skipped ≡ 0)) → IsToldPart held held.bytes.now

@@ -1,15 +1,15 @@
 -- What a design is: network text, or blueprint JSON of a layout. And of what isn't one, the first refusal.
 use Rattle.std.specs.Prelude.{◌≡◌, ◌<◌, ℕ, All, List, ◌∷◌, ◌⊎◌, MatchOption, Option, Some, None, Result, Ok, Err, length, map}
-use Rattle.bt_answers.specs.Answers.{seen}
+use Rattle.bt_text.specs.Answers.{seen}
 use Rattle.bt_text.specs.Blanks.{SkipsBlanks}
 use Rattle.bt_json.specs.Json.{Json}
 use Rattle.bt_json.specs.Answers.{IsRead}
 use Rattle.bt_entities.specs.Answers.{IsPartsOf, IsPrioritisedOf}
-use Rattle.bt_hands.specs.declared.hand.Priority.{Priority}
+use Rattle.bt_parts.specs.declared.hand.Priority.{Priority}
 use Rattle.bt_parts.specs.declared.part.Part.{Part}
 use Rattle.bt_parts.specs.declared.part.Tier.{Tier}
 use Rattle.bt_parts.specs.Tiers.{speed_of}
-use Rattle.bt_grid.specs.Placing.{IsPlaced}
+use Rattle.bt_recover.specs.Placing.{IsPlaced}
 use Rattle.bt_recover.specs.Recovered.{IsRecovered}
 use Rattle.bt_recover.specs.Preferred.{IsRecoveredWith}
 use Rattle.bt_net.specs.Network.{Network, network_of}

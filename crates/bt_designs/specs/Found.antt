@@ -30,5 +30,5 @@ abbrev pub laid_and_used : Drawing × ℕ → Laid × ℕ
 laid_and_used found = (found.0.laid, found.1)
 
 -- the request for a blueprint
-abbrev pub request_in : BlueprintRequest → LayoutRequest
-request_in found = found.request
+abbrev pub blueprint_request_of : BlueprintRequest → LayoutRequest
+blueprint_request_of found = found.request

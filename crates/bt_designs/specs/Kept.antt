@@ -3,7 +3,7 @@ use Rattle.std.specs.Prelude.{ℕ, List, Option, Result, Ok, Err}
 use Rattle.bt_json.specs.Json.{Json}
 use Rattle.bt_json.specs.Answers.{IsRead}
 use Rattle.bt_entities.specs.Answers.{IsPrioritisedOf}
-use Rattle.bt_hands.specs.declared.hand.Priority.{Priority}
+use Rattle.bt_parts.specs.declared.hand.Priority.{Priority}
 use Rattle.bt_parts.specs.declared.part.Part.{Part}
 use Rattle.bt_parts.specs.declared.part.Rect.{Rect}
 use Rattle.bt_parts.specs.declared.part.Tier.{Tier}

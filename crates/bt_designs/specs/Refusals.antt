@@ -6,8 +6,8 @@ use Rattle.bt_entities.specs.declared.fault.EntityFault.{EntityFault}
 use Rattle.bt_entities.specs.declared.fault.EntityFault.TheVariants as entity
 use Rattle.bt_entities.specs.declared.fault.Member.{Member}
 use Rattle.bt_entities.specs.declared.fault.Member.TheVariants as member
-use Rattle.bt_grid.specs.declared.grid.GridFault.{GridFault}
-use Rattle.bt_grid.specs.declared.grid.GridFault.TheVariants as grid
+use Rattle.bt_recover.specs.declared.grid.GridFault.{GridFault}
+use Rattle.bt_recover.specs.declared.grid.GridFault.TheVariants as grid
 use Rattle.bt_recover.specs.declared.fault.RecoverFault.{RecoverFault}
 use Rattle.bt_recover.specs.declared.fault.RecoverFault.TheVariants as layout
 use Rattle.bt_net.specs.declared.fault.NetFault.{NetFault}

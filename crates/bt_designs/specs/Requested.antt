@@ -1,7 +1,7 @@
 -- What a request is: a design, whose network text may also name pins, sides, rows and blocks, with a rectangle and a
 -- tier, which is the design's own where none is named.
 use Rattle.std.specs.Prelude.{◌≡◌, ℕ, List, [], ◌⊎◌, Option, None, Result, Ok, Err, unwrap_or}
-use Rattle.bt_answers.specs.Answers.{seen}
+use Rattle.bt_text.specs.Answers.{seen}
 use Rattle.bt_parts.specs.declared.part.Rect.{Rect}
 use Rattle.bt_parts.specs.declared.part.Tier.{Tier}
 use Rattle.bt_parts.specs.declared.part.Tier.TheVariants.{Basic}

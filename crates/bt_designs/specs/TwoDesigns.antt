@@ -1,6 +1,6 @@
 -- Two designs, one behind the other, whose networks are to be compared.
 use Rattle.std.specs.Prelude.{◌≡◌, ℕ, ◌+◌, ◌-◌, All, List, length, drop, ◌⊎◌, Result, Ok, Err}
-use Rattle.bt_answers.specs.Answers.{seen}
+use Rattle.bt_text.specs.Answers.{seen}
 use Rattle.bt_text.specs.Blanks.{SkipsBlanks}
 use Rattle.bt_net.specs.Network.{Network}
 use Rattle.bt_net.specs.declared.network.Edge.{Edge}

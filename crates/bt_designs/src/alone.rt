@@ -1,6 +1,6 @@
 //! A design that nothing but blanks follows.
 ghost use Rattle.std.specs.Prelude.{◌≡◌, ◌≤◌, length};
-ghost use Rattle.bt_answers.specs.Answers.{UnlessMemory};
+ghost use Rattle.bt_text.specs.Answers.{UnlessMemory};
 ghost use Rattle.bt_designs.specs.Alone.{IsAlone, IsLoneNet, IsRefusedAt, line_at};
 ghost use Rattle.bt_designs.specs.Designs.{IsBareDesign};
 ghost use Rattle.bt_designs.specs.inner.Behind.{IsBehind};

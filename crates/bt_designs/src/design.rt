@@ -3,7 +3,7 @@
 //! JSON goes through four layers (its text, the blueprint, the places of parts, the layout), network
 //! text through one. Each step stands in a function of its own, whose fault is told as a refusal.
 ghost use Rattle.std.specs.Prelude.{◌≡◌, ◌↔◌, ◌≤◌, ◌∷◌, ℕ, IsTrue, List, IfOk, length, map};
-ghost use Rattle.bt_answers.specs.Answers.{UnlessMemory, seen};
+ghost use Rattle.bt_text.specs.Answers.{UnlessMemory, seen};
 ghost use Rattle.bt_parts.specs.Layouts.{AreInRange};
 ghost use Rattle.bt_net.specs.Network.{IsCap};
 ghost use Rattle.bt_json.specs.Stands.{json_of};
@@ -16,12 +16,10 @@ ghost use Rattle.bt_designs.specs.Designs.{in_basic_belts, with_cap, with_caps};
 
 use crate::fault::DesignFault;
 use bt_entities::{Prioritised, parts_and_priorities, parts_of};
-use bt_grid::Grid;
-use bt_hands::Priority;
 use bt_json::Tree;
 use bt_net::{Admitted, Edge, Net};
-use bt_parts::{Part, Tier};
-use bt_recover::{Traced, recover, recover_with};
+use bt_parts::{Part, Priority, Tier};
+use bt_recover::{Grid, Traced, recover, recover_with};
 use bt_text::skip_blanks;
 use std::alloc::{AllocError, Global};
 

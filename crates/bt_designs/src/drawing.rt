@@ -1,7 +1,7 @@
 //! The blueprint at the front of an input, read with its parts on their cells.
 ghost use Rattle.std.specs.Prelude.{◌≡◌, ◌≤◌, List, IfOk, Ok, length};
-ghost use Rattle.bt_answers.specs.Answers.{UnlessMemory, seen};
-ghost use Rattle.bt_hands.specs.declared.hand.Priority.{Priority as APriority};
+ghost use Rattle.bt_text.specs.Answers.{UnlessMemory, seen};
+ghost use Rattle.bt_parts.specs.declared.hand.Priority.{Priority as APriority};
 ghost use Rattle.bt_parts.specs.Layouts.{AreInRange};
 ghost use Rattle.bt_json.specs.Stands.{json_of};
 ghost use Rattle.bt_entities.specs.Answers.{IsPrioritisedOf, parts_and_priorities_in};
@@ -15,10 +15,9 @@ use crate::alone::refused_behind;
 use crate::design::{Laid, net_of_grid_with, tier_of};
 use crate::fault::DesignFault;
 use bt_entities::{Prioritised, parts_and_priorities};
-use bt_grid::Grid;
-use bt_hands::Priority;
+use bt_recover::Grid;
+use bt_parts::{Priority, Tier};
 use bt_json::Tree;
-use bt_parts::Tier;
 use std::alloc::Global;
 
 /// A blueprint: the network and the tier of its layout, and its parts on their cells.

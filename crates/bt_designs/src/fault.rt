@@ -5,11 +5,10 @@ ghost use Rattle.std.specs.Prelude.{◌≡◌};
 
 use crate::refusal::Refusal;
 use bt_entities::EntityFault;
-use bt_grid::GridFault;
 use bt_json::JsonFault;
 use bt_model::RequestFault;
 use bt_net::NetFault;
-use bt_recover::RecoverFault;
+use bt_recover::{GridFault, RecoverFault};
 
 /// Why there is no design.
 #[derive(Clone, Copy)]

@@ -1,8 +1,8 @@
 //! Requests for a blueprint, with its ends anywhere or at the sides at which they stand in it, beside its own parts.
 ghost use Rattle.std.specs.Prelude.{◌≡◌, IfOk};
-ghost use Rattle.bt_answers.specs.Answers.{UnlessMemory, seen};
+ghost use Rattle.bt_text.specs.Answers.{UnlessMemory, seen};
 ghost use Rattle.bt_model.specs.Requests.{IsGrid};
-ghost use Rattle.bt_designs.specs.Found.{request_in};
+ghost use Rattle.bt_designs.specs.Found.{blueprint_request_of};
 ghost use Rattle.bt_designs.specs.Kept.{AreDrawn, IsBlueprintRequest, IsKeptFor, IsKeptRequest};
 ghost use Rattle.bt_designs.specs.Requested.{IsRequestFor, pinned_laid};
 
@@ -10,11 +10,10 @@ use crate::design::Laid;
 use crate::drawing::{Drawing, read_lone_drawing};
 use crate::fault::DesignFault;
 use crate::request::tier_for;
-use bt_grid::Grid;
+use bt_recover::{Grid, end_sides};
 use bt_model::Request;
 use bt_net::Demand;
 use bt_parts::{Rect, Tier};
-use bt_recover::end_sides;
 use std::alloc::Global;
 
 /// The request for a blueprint, and the blueprint's own parts on their cells.
@@ -33,7 +32,7 @@ pub fn read_blueprint_request(
 ) -> Result<BlueprintRequest, DesignFault>
     requires { IsGrid rect }
     ensures request { UnlessMemory DesignFault.Memory (IsBlueprintRequest rect tier bytes.now)
-        (seen request_in result) }
+        (seen blueprint_request_of result) }
     ensures drawn { IfOk result (λ found. AreDrawn bytes.now found.grid) }
 {
     match read_lone_drawing(alloc, bytes) {
@@ -52,7 +51,7 @@ pub fn read_kept_request(
 ) -> Result<BlueprintRequest, DesignFault>
     requires { IsGrid rect }
     ensures request { UnlessMemory DesignFault.Memory (IsKeptRequest rect tier bytes.now)
-        (seen request_in result) }
+        (seen blueprint_request_of result) }
     ensures drawn { IfOk result (λ found. AreDrawn bytes.now found.grid) }
 {
     match read_lone_drawing(alloc, bytes) {
@@ -70,7 +69,7 @@ fn kept_request(
 ) -> Result<BlueprintRequest, DesignFault>
     requires { IsGrid rect }
     ensures request { UnlessMemory DesignFault.Memory (IsKeptFor rect tier drawing.grid drawing.laid)
-        (seen request_in result) }
+        (seen blueprint_request_of result) }
     ensures grid { IfOk result (λ found. found.grid ≡ drawing.grid) }
 {
     match end_sides(alloc, &drawing.grid) {
@@ -91,7 +90,7 @@ fn blueprint_request(
     requires { IsGrid rect }
     ensures request { UnlessMemory DesignFault.Memory
         (IsRequestFor rect tier (record (pinned_laid drawing.laid) { demands = demands.items }))
-        (seen request_in result) }
+        (seen blueprint_request_of result) }
     ensures grid { IfOk result (λ found. found.grid ≡ drawing.grid) }
 {
     let Drawing { laid, grid } = drawing;

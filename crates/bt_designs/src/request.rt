@@ -1,7 +1,7 @@
 //! The request at the front of an input: a design, whose network text may also name pins, sides, rows and blocks,
 //! with the rectangle and the tier of the command.
 ghost use Rattle.std.specs.Prelude.{◌≡◌, ◌≤◌, IfOk, length};
-ghost use Rattle.bt_answers.specs.Answers.{UnlessMemory, seen};
+ghost use Rattle.bt_text.specs.Answers.{UnlessMemory, seen};
 ghost use Rattle.bt_model.specs.Requests.{IsGrid};
 ghost use Rattle.bt_designs.specs.Found.{pinned_and_used, pinned_of};
 ghost use Rattle.bt_designs.specs.Alone.{IsAlone};

@@ -1,6 +1,6 @@
 //! Two designs, one behind the other: the networks that are to be compared.
 ghost use Rattle.std.specs.Prelude.{◌≡◌, ◌↔◌, ◌≤◌, ℕ, All, IfOk, IsTrue, length};
-ghost use Rattle.bt_answers.specs.Answers.{UnlessMemory};
+ghost use Rattle.bt_text.specs.Answers.{UnlessMemory};
 ghost use Rattle.bt_same.specs.Sameness.{HaveEqualEnds};
 ghost use Rattle.bt_net.specs.declared.network.Start.TheVariants.{Input};
 ghost use Rattle.bt_net.specs.declared.network.Target.TheVariants.{Output};

@@ -4,3 +4,7 @@ pub mod Placed
 pub mod Lowest
 pub mod Whole
 pub mod OneAnswer
+pub mod Behind
+pub mod Joining
+pub mod CompactJson
+pub mod ReadBack

@@ -78,7 +78,7 @@ lowest_special members major first i v member r on h = lowest members major firs
 }) (refl, h)
 
 -- what the entities with a name have right
-pub has_object : (major : ℕ) (v : Json) (name : List ℕ) → HasText v (codes "name") name → ¬ IsWrong major v Entity
+has_object : (major : ℕ) (v : Json) (name : List ℕ) → HasText v (codes "name") name → ¬ IsWrong major v Entity
 has_object major v name at wrong = wrong (object_of v (codes "name") _ at)
 
 pub has_name : (major : ℕ) (v : Json) (name : List ℕ) → HasText v (codes "name") name → ¬ IsWrong major v Name

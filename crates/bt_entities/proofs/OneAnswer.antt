@@ -3,13 +3,13 @@ use Rattle.std.proofs.Common.{◌≡◌, ℕ, suc, ◌/◌, ◌<◌, ◌≤◌, 
 use Rattle.std.specs.Prelude.{slice_get, codes, Result, Ok, Err}
 use Rattle.std.proofs.lemmas.Bool.{cases_order}
 use Rattle.std.proofs.lemmas.Option.{same_Some, slice_get_within}
-use Rattle.bt_answers.specs.Answers.{UnlessMemory, Answers}
-use Rattle.bt_answers.proofs.OneAnswer.{answers_of}
+use Rattle.bt_text.specs.Answers.{UnlessMemory, Answers}
+use Rattle.bt_text.proofs.OneAnswer.{answers_of}
 use Rattle.bt_json.specs.Json.{Json, no_items, item, list}
 use Rattle.bt_json.specs.Stands.{items_of}
-use Rattle.bt_hands.specs.declared.hand.Hand.{Hand}
-use Rattle.bt_hands.specs.declared.hand.Hand.TheVariants.{Left, Right}
-use Rattle.bt_hands.specs.declared.hand.Priority.{Priority}
+use Rattle.bt_parts.specs.declared.hand.Hand.{Hand}
+use Rattle.bt_parts.specs.declared.hand.Hand.TheVariants.{Left, Right}
+use Rattle.bt_parts.specs.declared.hand.Priority.{Priority}
 use Rattle.bt_parts.specs.declared.part.Cell.{Cell}
 use Rattle.bt_parts.specs.declared.part.Dir.{Dir}
 use Rattle.bt_parts.specs.declared.part.Kind.{Kind}
@@ -74,7 +74,7 @@ pub record SameBlueprint (m n : ℕ) (es fs : List Json) : Type 0 where
   pub major : m ≡ n
   pub entities : es ≡ fs
 
-pub same_blueprint : (root : Json) (m n : ℕ) (es fs : List Json) → IsBlueprint root m es → IsBlueprint root n fs → SameBlueprint m n es fs
+same_blueprint : (root : Json) (m n : ℕ) (es fs : List Json) → IsBlueprint root m es → IsBlueprint root n fs → SameBlueprint m n es fs
 same_blueprint root m n es fs a b =
     let e : a.blueprint ≡ b.blueprint = same_member root (codes "blueprint") _ _ a.is_there b.is_there in
     record {

@@ -16,9 +16,9 @@ use Rattle.bt_entities.specs.declared.fault.Member.{Member}
 use Rattle.bt_entities.specs.declared.fault.Member.TheVariants.{Entity, Name, Position, Direction, PieceType, InputPriority, OutputPriority, ControlBehavior, Filter}
 use Rattle.bt_entities.specs.declared.name.EntityFamily.TheVariants.{Belts, Undergrounds, Splitters}
 use Rattle.bt_entities.specs.declared.piece.Piece.{Piece}
-use Rattle.bt_hands.specs.declared.hand.Hand.{Hand}
-use Rattle.bt_hands.specs.declared.hand.Hand.TheVariants.{Left, Right}
-use Rattle.bt_hands.specs.declared.hand.Priority.{Priority}
+use Rattle.bt_parts.specs.declared.hand.Hand.{Hand}
+use Rattle.bt_parts.specs.declared.hand.Hand.TheVariants.{Left, Right}
+use Rattle.bt_parts.specs.declared.hand.Priority.{Priority}
 use Rattle.bt_entities.specs.declared.shift.Shift.{Shift}
 use Rattle.bt_entities.specs.Members.{Lacks, HasMember, HasText}
 use Rattle.bt_entities.specs.Names.{name_of}
@@ -38,7 +38,7 @@ halves_at : (n : Number) (o : Option ℤ) (z : ℤ) → AreHalves n o → o ≡ 
 halves_at n o z h e = rw e at h
 
 -- what is placed for an entity is its piece's cell
-pub placed_on : (major : ℕ) (v : Json) (piece : Piece) (shift : Shift) (cell : Cell) → IsPiece major v piece → IsPlaced major shift v cell → IsOn piece shift cell
+placed_on : (major : ℕ) (v : Json) (piece : Piece) (shift : Shift) (cell : Cell) → IsPiece major v piece → IsPlaced major shift v cell → IsOn piece shift cell
 placed_on major v piece shift cell p a =
     let k : a.kind ≡ piece.kind = same_kind v _ _ a.has_kind p.has_kind in
     let d : a.dir ≡ piece.dir = same_dir major v _ _ a.has_dir p.has_dir in
@@ -54,7 +54,7 @@ placed_on major v piece shift cell p a =
       middle_y = rw (k, d) at a.middle_y;
     }
 
-pub on_placed : (major : ℕ) (v : Json) (piece : Piece) (shift : Shift) (cell : Cell) → IsPiece major v piece → IsOn piece shift cell → IsPlaced major shift v cell
+on_placed : (major : ℕ) (v : Json) (piece : Piece) (shift : Shift) (cell : Cell) → IsPiece major v piece → IsOn piece shift cell → IsPlaced major shift v cell
 on_placed major v piece shift cell p a = record {
   kind = piece.kind;
   has_kind = p.has_kind;
@@ -153,7 +153,7 @@ even_or_sided v name even sided = elim even [
   | inr none ↦ none_hand v name sided.0 none sided.1
 ]
 
-pub preference_right : (v : Json) (name : List ℕ) (preferred : Option Hand) → Prefers v name preferred
+preference_right : (v : Json) (name : List ℕ) (preferred : Option Hand) → Prefers v name preferred
     → HasFamily v Splitters × (¬ IsEven v name) × (¬ IsSided v name) → ⊥
 preference_right v name None p wrong = wrong.1 (p wrong.0)
 preference_right v name (Some hand) p wrong = wrong.2 (hand, p.1)
@@ -207,7 +207,7 @@ entity_sound members major first i v part e fault =
     }) fault (number_small fault)
 
 -- a piece with a shift stands on the grid
-pub sets_shift : (major : ℕ) (v : Json) (piece : Piece) (shift : Shift) → IsPiece major v piece → HasShift piece shift → SetsShift major v shift
+sets_shift : (major : ℕ) (v : Json) (piece : Piece) (shift : Shift) → IsPiece major v piece → HasShift piece shift → SetsShift major v shift
 sets_shift major v piece shift p h = record { small_x = h.small_x; small_y = h.small_y; cell = h.cell; placed = on_placed major v piece shift h.cell p h.on }
 
 pub has_shift : (piece : Piece) (x y : ℤ) (w h s t : ℕ) (c d : ℤ) → piece.x ≡ Some x → piece.y ≡ Some y

@@ -69,7 +69,7 @@ same_pair f g t u h =
     let e : pair f t ≡ pair g u = same_Some (pair f t) (pair g u) h in
     (ap (λ (p : EntityFamily × Tier). p.0) e, ap (λ (p : EntityFamily × Tier). p.1) e)
 
-pub same_name : (f g : EntityFamily) (t u : Tier) → name_of f t ≡ name_of g u → (f ≡ g) × (t ≡ u)
+same_name : (f g : EntityFamily) (t u : Tier) → name_of f t ≡ name_of g u → (f ≡ g) × (t ≡ u)
 same_name f g t u e = same_pair f g t u (sym (found_name f t) ∙ ap found e ∙ found_name g u)
 
 pub same_text : (v : Json) (name s t : List ℕ) → HasText v name s → HasText v name t → s ≡ t
@@ -126,10 +126,10 @@ scale_small true North = omega arith
 scale_small false North = omega arith
 scale_small b d = omega arith
 
-pub direction_value_fits : (major : ℕ) (d : Dir) → direction_value major d < 2 ^ 64
+direction_value_fits : (major : ℕ) (d : Dir) → direction_value major d < 2 ^ 64
 direction_value_fits major d = scale_small (nat_lt major 2) d
 
-pub same_direction_value : (major : ℕ) (d e : Dir) → direction_value major d ≡ direction_value major e → d ≡ e
+same_direction_value : (major : ℕ) (d e : Dir) → direction_value major d ≡ direction_value major e → d ≡ e
 same_direction_value major d e h = same_quarters (cond (nat_lt major 2) 2 4) d e (scale_positive (nat_lt major 2)) h
 
 -- a number's value has one whole multiple by a number at most
@@ -155,7 +155,7 @@ same_whole v m n a b =
     same_pos m n (same_times 1 b.0 (pos m) (pos n) (rw w at a.2) b.2)
 
 -- the number's value is what the direction's member has to be
-pub whole_direction : (major : ℕ) (v m : Json) (d : Dir) → HasMember v (codes "direction") m → HasDirection major v d → IsWhole m (direction_value major d)
+whole_direction : (major : ℕ) (v m : Json) (d : Dir) → HasMember v (codes "direction") m → HasDirection major v d → IsWhole m (direction_value major d)
 whole_direction major v m d at h = elim h [
   | inl none ↦ absurd (lacks_or_has v (codes "direction") m none.0 at)
   | inr there ↦ rw (same_member v (codes "direction") m there.0 at there.1) there.2

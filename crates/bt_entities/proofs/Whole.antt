@@ -4,11 +4,11 @@ use Rattle.std.specs.Prelude.{slice_get, option_map, MatchOption, Result, Ok, Er
 use Rattle.std.proofs.lemmas.Option.{slice_get-map, slice_get_within, none-some, same_Some}
 use Rattle.std.proofs.lemmas.List.{length-append}
 use Rattle.std.proofs.lemmas.List.Elements.{All-nil, All-cons}
-use Rattle.bt_answers.specs.Answers.{UnlessMemory}
+use Rattle.bt_text.specs.Answers.{UnlessMemory}
 use Rattle.bt_json.specs.Json.{Json}
 use Rattle.bt_json.specs.Stands.{json_of}
 use Rattle.bt_json.specs.declared.tree.Tree.{Tree}
-use Rattle.bt_hands.specs.declared.hand.Priority.{Priority}
+use Rattle.bt_parts.specs.declared.hand.Priority.{Priority}
 use Rattle.bt_parts.specs.declared.part.Part.{Part}
 use Rattle.bt_parts.specs.Cells.{IsInRange}
 use Rattle.bt_parts.specs.Layouts.{AreInRange}

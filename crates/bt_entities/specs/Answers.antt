@@ -2,7 +2,7 @@
 use Rattle.std.specs.Prelude.{List, Vec, Result, Ok, Err}
 use Rattle.std.specs.declared.alloc.Global.{Global}
 use Rattle.bt_json.specs.Json.{Json}
-use Rattle.bt_hands.specs.declared.hand.Priority.{Priority}
+use Rattle.bt_parts.specs.declared.hand.Priority.{Priority}
 use Rattle.bt_parts.specs.declared.part.Part.{Part}
 use Rattle.bt_parts.specs.Layouts.{AreInRange}
 use Rattle.bt_entities.specs.declared.fault.EntityFault.{EntityFault}

@@ -2,7 +2,7 @@
 use Rattle.std.specs.Prelude.{◌≡◌, ℕ, ◌<◌, ◌≤◌, ◌/◌, ◌^◌, List, [], length, slice_get, Some, codes, ◌⊎◌}
 use Rattle.bt_json.specs.Json.{Json, list}
 use Rattle.bt_json.specs.Stands.{items_of}
-use Rattle.bt_hands.specs.declared.hand.Priority.{Priority}
+use Rattle.bt_parts.specs.declared.hand.Priority.{Priority}
 use Rattle.bt_parts.specs.declared.part.Part.{Part}
 use Rattle.bt_entities.specs.declared.blueprint.TheConstants.{MOST_ENTITIES}
 use Rattle.bt_entities.specs.Members.{HasMember, Lacks, IsObject, IsWhole}

@@ -1,8 +1,8 @@
 -- Which part an entity of a blueprint stands for.
 use Rattle.std.specs.Prelude.{◌≡◌, ℕ, ◌*◌, ◌<◌, ◌≤◌, ℤ, unsigned_abs, List, [], ◌∷◌, Option, Some, None, codes, ◌⊎◌, if◌then◌else◌, nat_lt}
-use Rattle.bt_hands.specs.declared.hand.Hand.{Hand}
-use Rattle.bt_hands.specs.declared.hand.Hand.TheVariants.{Left, Right}
-use Rattle.bt_hands.specs.declared.hand.Priority.{Priority}
+use Rattle.bt_parts.specs.declared.hand.Hand.{Hand}
+use Rattle.bt_parts.specs.declared.hand.Hand.TheVariants.{Left, Right}
+use Rattle.bt_parts.specs.declared.hand.Priority.{Priority}
 use Rattle.bt_json.specs.declared.limits.TheConstants.{MOST_HALVES}
 use Rattle.bt_json.specs.Json.{Json, Number}
 use Rattle.bt_json.specs.Value.{IsTimes}

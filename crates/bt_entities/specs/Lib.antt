@@ -5,4 +5,6 @@ pub mod Entities
 pub mod Blueprints
 pub mod Refusals
 pub mod Answers
+pub mod Written
+pub mod ReadBack
 pub mod inner

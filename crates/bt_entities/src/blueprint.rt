@@ -2,7 +2,7 @@
 //! after another, since entity 0 sets the grid of all.
 
 ghost use Rattle.std.specs.Prelude.{◌≡◌, ◌⊎◌, ℕ, List, map, codes, MatchOption, MatchResult};
-ghost use Rattle.bt_answers.specs.Answers.{seen, UnlessMemory, Answers};
+ghost use Rattle.bt_text.specs.Answers.{seen, UnlessMemory, Answers};
 ghost use Rattle.bt_json.specs.Json.{Json};
 ghost use Rattle.bt_json.specs.Stands.{json_of};
 ghost use Rattle.bt_entities.specs.declared.fault.EntityFault.TheVariants.{Memory};
@@ -18,9 +18,8 @@ use crate::fault::EntityFault;
 use crate::member::{as_list, as_number, has_member, is_object, member};
 use crate::piece::{Piece, Reading, piece_of};
 use crate::shift::Shift;
-use bt_hands::Priority;
 use bt_json::Tree;
-use bt_parts::Part;
+use bt_parts::{Part, Priority};
 use std::alloc::Global;
 
 /// The most entities of a blueprint that is read.

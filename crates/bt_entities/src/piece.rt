@@ -1,7 +1,7 @@
 //! An entity as its members tell it, before its cell is known, which depends on entity 0.
 
 ghost use Rattle.std.specs.Prelude.{◌≡◌, ◌≢◌, ℕ, ℤ, codes, MatchOption, MatchResult};
-ghost use Rattle.bt_answers.specs.Answers.{UnlessMemory};
+ghost use Rattle.bt_text.specs.Answers.{UnlessMemory};
 ghost use Rattle.bt_json.specs.Json.{Json, Number};
 ghost use Rattle.bt_json.specs.Stands.{json_of, number_of};
 ghost use Rattle.bt_parts.specs.declared.part.Dir.{Dir};
@@ -23,9 +23,8 @@ use crate::member::{
 };
 use crate::name::{EntityFamily, named};
 use crate::shift::{Shift, first_tile, height, shift_of, width};
-use bt_hands::{Hand, Priority};
 use bt_json::{Decimal, Tree};
-use bt_parts::{Cell, Dir, Kind, Tier};
+use bt_parts::{Cell, Dir, Hand, Kind, Priority, Tier};
 use std::alloc::Global;
 
 /// For what entities are read.

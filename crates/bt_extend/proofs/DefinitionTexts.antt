@@ -34,14 +34,14 @@ more_whole text rest form h more other g = more (one_form text rest [] form othe
 pub two_forms : (text : List ℕ) (a b : FormParts) → AreForms text a b → BeginsWithForm text a (form_text b)
 two_forms text a b h = record { is_form = h.is_first; text_is = h.text_is; begins = inr (_, refl) }
 
-pub forms_are : (text rest : List ℕ) (first second : FormParts) → BeginsWithForm text first rest → IsFormText rest second → AreForms text first second
+forms_are : (text rest : List ℕ) (first second : FormParts) → BeginsWithForm text first rest → IsFormText rest second → AreForms text first second
 forms_are text rest first second h k =
     record { is_first = h.is_form; is_second = k.is_form; text_is = h.text_is ∙ ap (λ r. form_text first ++ r) k.text_is }
 
 pub none_first : (text : List ℕ) → BeginsWithNoForm text → AreNoForms text
 none_first text none a b h = none a (form_text b) (two_forms text a b h)
 
-pub none_second : (text rest : List ℕ) (first : FormParts) → BeginsWithForm text first rest → IsNoForm rest → AreNoForms text
+none_second : (text rest : List ℕ) (first : FormParts) → BeginsWithForm text first rest → IsNoForm rest → AreNoForms text
 none_second text rest first h none a b k =
     let same = (one_form text rest (form_text b) first a h (two_forms text a b k)).1 in
     none b (record { is_form = k.is_second; text_is = same })

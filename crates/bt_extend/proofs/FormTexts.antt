@@ -93,7 +93,7 @@ none_at_zero : (rest : List ℕ) → BeginsWith 32 rest → LeadsToNone IsNonzer
 none_at_zero rest begins = zero_is_none IsNonzero nonzero_text not_zero_word rest begins
 
 -- terms are told by their words
-pub words_tell : (xs ys : List (ℕ × Ratio)) → words_of xs ≡ words_of ys → xs ≡ ys
+words_tell : (xs ys : List (ℕ × Ratio)) → words_of xs ≡ words_of ys → xs ≡ ys
 words_tell [] [] e = refl
 words_tell [] (y ∷ ys) e = cc
 words_tell (x ∷ xs) [] e = cc

@@ -115,12 +115,12 @@ comparison_formed f form is formed = record {
       (All-cons (λ a. IsRow a.1) (f.vars + 1, missed form) [] (missed_row form formed) (All-nil (λ a. IsRow a.1))));
 }
 
-pub column_formed : (f : FormulaParts) (column : ℕ) (form : FormParts) → IsFormula f → IsFormOver column form → column < 2 ^ 64 - 1 → IsFormula (with_column f column form)
+column_formed : (f : FormulaParts) (column : ℕ) (form : FormParts) → IsFormula f → IsFormOver column form → column < 2 ^ 64 - 1 → IsFormula (with_column f column form)
 column_formed f column form is over below =
     comparison_formed (with_comparison f (column_less column form)) (less_column column form)
     (comparison_formed f (column_less column form) is (column_less_form column form over below)) (less_column_form column form over below)
 
-pub cases_formed : (f : FormulaParts) (var : ℕ) (first second : FormParts) → IsFormula f → IsDefinition f (Cases var first second) → IsFormula (with_cases f var first second)
+cases_formed : (f : FormulaParts) (var : ℕ) (first second : FormParts) → IsFormula f → IsDefinition f (Cases var first second) → IsFormula (with_cases f var first second)
 cases_formed f var first second is d =
     let column = formula.columns_of f in
     let g = with_column (with_column f column first) column second in
@@ -145,7 +145,7 @@ pub named_below : (vars : ℕ) (least : ℕ) (lits : List NamedLit) → AscendBe
 named_below vars least [] ascend = All-nil (λ (l : NamedLit). l.var < vars)
 named_below vars least (l ∷ lits) ascend = All-cons (λ (m : NamedLit). m.var < vars) l lits ascend.1 (named_below vars (l.var + 1) lits ascend.2)
 
-pub disjunction_formed : (f : FormulaParts) (lits : List NamedLit) → IsFormula f → IsDefinition f (Disjunction lits) → IsFormula (with_disjunction f lits)
+disjunction_formed : (f : FormulaParts) (lits : List NamedLit) → IsFormula f → IsDefinition f (Disjunction lits) → IsFormula (with_disjunction f lits)
 disjunction_formed f lits is d =
     let vars = f.vars + 1 in
     let below = named_below f.vars 0 lits d.1 in

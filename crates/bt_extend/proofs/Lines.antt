@@ -11,7 +11,7 @@ use Rattle.bt_extend.specs.declared.definition.Definition.TheVariants.{Compariso
 use Rattle.bt_extend.specs.inner.Printed.{form_after, forms_after}
 
 -- a head and a form behind it
-pub after_head : (head : List ℕ) (form : FormParts) → form_after head form ≡ head ++ form_text form
+after_head : (head : List ℕ) (form : FormParts) → form_after head form ≡ head ++ form_text form
 after_head head form =
     let number = 32 ∷ frac_text form.constant in
     let terms = words term_text form.terms in
@@ -20,7 +20,7 @@ after_head head form =
 pub comparison_line : (form : FormParts) → form_after (codes "p") form ++ 10 ∷ [] ≡ definition_line (Comparison form)
 comparison_line form = ap (λ t. t ++ 10 ∷ []) (after_head (codes "p") form)
 
-pub forms_text : (first second : FormParts) → forms_after first second ≡ form_text first ++ form_text second
+forms_text : (first second : FormParts) → forms_after first second ≡ form_text first ++ form_text second
 forms_text first second = ap (λ t. t ++ form_after (codes "") second) (after_head (codes "") first) ∙ ap (λ t. form_text first ++ t) (after_head (codes "") second)
 
 pub cases_line : (var : ℕ) (first second : FormParts) → (codes "c " ++ decimal (var + 1)) ++ forms_after first second ++ 10 ∷ [] ≡ definition_line (Cases var first second)

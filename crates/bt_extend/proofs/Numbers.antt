@@ -102,7 +102,7 @@ pub value_so_far : (w : List ℕ) (i : ℕ) → AllDigits 10 (take i w) → i < 
 value_so_far w i all inside few = value_below (take i w) 17 all (omega (arith, length-take i w))
 
 -- a word like that is the word of its value
-pub number_of_word : (w : List ℕ) (n : ℕ) → IsNumberWord w → n ≡ digits_value 10 w → IsNumber n × (w ≡ decimal n)
+number_of_word : (w : List ℕ) (n : ℕ) → IsNumberWord w → n ≡ digits_value 10 w → IsNumber n × (w ≡ decimal n)
 number_of_word w n is value =
     let s : Spells w n = record { some_digit = is.some; digits = is.digits; no_zero = λ zero. absurd (is.no_zero zero); value = sym value } in
     let below : digits_value 10 w < 10 ^ 18 = value_below w 18 is.digits is.short in

@@ -19,7 +19,7 @@ valued_same values others columns (t ∷ terms) same within =
     ap (λ v. (t.1, v) ∷ valued others terms) (same t.0 (omega (arith, within)))
     ∙ ap (λ ps. (t.1, values t.0) ∷ ps) (valued_same values others columns terms same (omega (arith, within)))
 
-pub row_same : (values others : ℕ → Ratio) (columns : ℕ) (row : RowParts) → ((column : ℕ) → column < columns → others column ≡ values column)
+row_same : (values others : ℕ → Ratio) (columns : ℕ) (row : RowParts) → ((column : ℕ) → column < columns → others column ≡ values column)
     → end_of (columns_of row.terms) ≤ columns → RowHolds row values → RowHolds row others
 row_same values others columns row same within holds =
     subst (λ ps. Stands row.relation (sum_of_products ps) row.bound) (sym (valued_same values others columns row.terms same within)) holds

@@ -32,7 +32,7 @@ column_clauses f column form =
     omega (arith, one_more f.clauses c, one_more (f.clauses ++ c ∷ []) e)
 
 -- a definition adds at most so many clauses
-pub clauses_with : (f : FormulaParts) (d : Definition) → IsDefinition f d → length (with_definition f d).clauses ≤ length f.clauses + f.vars + 8
+clauses_with : (f : FormulaParts) (d : Definition) → IsDefinition f d → length (with_definition f d).clauses ≤ length f.clauses + f.vars + 8
 clauses_with f (Comparison form) is = omega (arith, one_more f.clauses (asserted f.vars ∷ asserted (f.vars + 1) ∷ []))
 clauses_with f (Cases var first second) is =
     let g = with_column f (formula.columns_of f) first in

@@ -3,7 +3,7 @@ use Rattle.std.specs.Prelude.{◌≡◌, ◌≤◌, ℕ, pos, List, [], ◌∷�
 use Rattle.std.specs.List.{All}
 use Rattle.bt_frac.specs.Ratio.{Ratio, IsLowest, negated}
 use Rattle.bt_frac.specs.Rows.{RowParts, HaveColumns, columns_of, end_of}
-use Rattle.bt_frac.specs.declared.row.Relation.TheVariants.{AtLeast, Above}
+use Rattle.bt_frac.specs.declared.relation.Relation.TheVariants.{AtLeast, Above}
 
 -- the number, and the columns with their coefficients
 pub record FormParts : Type 0 where

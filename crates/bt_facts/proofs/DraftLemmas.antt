@@ -19,7 +19,7 @@ following_of [] [] = refl
 following_of [] (f ∷ one_of) = ap (λ l. f ∷ l) (following_of [] one_of)
 following_of (f ∷ given) one_of = following_of given one_of
 
-pub same_rule : (given one_of : List Fact) → rule_of (map (claim false) given ++ map (claim true) one_of) ≡ rule given one_of
+same_rule : (given one_of : List Fact) → rule_of (map (claim false) given ++ map (claim true) one_of) ≡ rule given one_of
 same_rule given one_of =
     ap (λ g. rule g (map (λ c. c.fact) (filter (λ c. c.follows) (map (claim false) given ++ map (claim true) one_of)))) (given_of given one_of) ∙ ap (rule given) (following_of given one_of)
 

@@ -1,7 +1,7 @@
 -- What loops over lists have found so far.
-use Rattle.std.proofs.Common.{◌≡◌, ℕ, zero, suc, ◌<◌, ◌≤◌, ◌+◌, Bool, true, false, cond, ◌||◌, List, [], ◌∷◌, ◌++◌, length, map, take, get_or, refl, ap, sym, ◌∙◌, subst, arith, append_assoc, append-nil, length-append}
+use Rattle.std.proofs.Common.{◌≡◌, ℕ, zero, suc, ◌<◌, ◌+◌, Bool, true, false, cond, ◌||◌, List, [], ◌∷◌, ◌++◌, length, map, take, get_or, refl, ap, sym, ◌∙◌, subst, arith, append_assoc, append-nil, length-append}
 use Rattle.std.specs.List.{AllByRecursion, flat_map, filter, list_any, range_with_len, count_by}
-use Rattle.std.proofs.lemmas.List.{take_all, take_more, map-append}
+use Rattle.std.proofs.lemmas.List.{take_more, map-append}
 use Rattle.std.proofs.lemmas.List.Elements.{filter-append}
 use Rattle.std.proofs.lemmas.Grind.{flat_map-append}
 use Rattle.std.proofs.lemmas.List.Sums.{length-filter}
@@ -14,16 +14,10 @@ pub none_more : {X : Type 0} (p : X → Bool) (xs : List X) (i : ℕ) (d : X) �
     → list_any p (take (i + 1) xs) ≡ false
 none_more p xs i d lt none here = list_any_more p xs i d lt ∙ ap (λ b. b || p (get_or xs i d)) none ∙ here
 
-pub none_all : {X : Type 0} (p : X → Bool) (xs : List X) (i : ℕ) → length xs ≤ i → list_any p (take i xs) ≡ false → false ≡ list_any p xs
-none_all p xs i le none = sym none ∙ ap (list_any p) (take_all i xs le)
-
 pub some_at : {X : Type 0} (p : X → Bool) (xs : List X) (i : ℕ) (d : X) → i < length xs → p (get_or xs i d) ≡ true → true ≡ list_any p xs
 some_at p xs i d lt here = sym (list_any_at p xs i d lt here)
 
 -- ---- the numbers that pass a test
-
-filter_one : {X : Type 0} (p : X → Bool) (x : X) → filter p (x ∷ []) ≡ cond (p x) (x ∷ []) []
-filter_one p x = refl
 
 pub number_kept : (p : ℕ → Bool) (now new : List ℕ) (n : ℕ) → now ≡ filter p (range_with_len 0 n) → new ≡ now ++ cond (p n) (n ∷ []) []
     → new ≡ filter p (range_with_len 0 (n + 1))

@@ -11,7 +11,7 @@ use Rattle.bt_flow.specs.States.{Flows, IsStateOf, flow_at, backed_at, load_at, 
 use Rattle.bt_flow.specs.Steady.{HasEdge, IsSteady, sum_where}
 use Rattle.bt_flow.specs.Properties.{IsLoaded, IsOpen, IsLesser, PassesAll, HasEqualOutputs, HasEqualInputs, Breaks, is_last, total}
 use Rattle.bt_flow.proofs.Numbers.{length-numbers_where}
-use Rattle.bt_fenc.specs.Columns.{input_edge, output_edge, input_edges, output_edges, cap_at, load_column, room_column}
+use Rattle.bt_flow.specs.EndEdges.{input_edge, output_edge, input_edges, output_edges, cap_at, load_column, room_column}
 use Rattle.bt_fenc.specs.Families.{family_clauses, families}
 use Rattle.bt_fenc.specs.Properties.{property_clauses, loaded_clauses, open_clauses, short_clauses, unequal_clause, differ}
 use Rattle.bt_cnf.specs.Meeting.{Meets}

@@ -6,8 +6,8 @@ use Rattle.std.proofs.lemmas.Bool.{ltb-true}
 use Rattle.bt_frac.specs.Ratio.{Ratio, IsLowest, negated}
 use Rattle.bt_frac.specs.Columns.{AreColumnsFrom}
 use Rattle.bt_frac.specs.Rows.{IsRow, columns_of}
-use Rattle.bt_frac.specs.declared.row.Relation.{Relation}
-use Rattle.bt_frac.specs.declared.row.Relation.TheVariants.{AtLeast, Above, Equal}
+use Rattle.bt_frac.specs.declared.relation.Relation.{Relation}
+use Rattle.bt_frac.specs.declared.relation.Relation.TheVariants.{AtLeast, Above, Equal}
 use Rattle.bt_frac.proofs.Gcds.{whole_lowest}
 use Rattle.bt_net.specs.declared.network.Edge.{Edge}
 use Rattle.bt_net.specs.Network.{Network, IsNetwork, IsCap, leaves, enters}
@@ -22,7 +22,8 @@ use Rattle.bt_fenc.specs.declared.state_literal.StateLiteral.{StateLiteral}
 use Rattle.bt_fenc.specs.declared.state_literal.StateLiteral.TheVariants.{Says, First}
 use Rattle.bt_fenc.specs.declared.clause_family.ClauseFamily.{ClauseFamily}
 use Rattle.bt_fenc.specs.declared.clause_family.ClauseFamily.TheVariants as of
-use Rattle.bt_fenc.specs.Columns.{input_edge, output_edge, input_edges, output_edges, in_edges, out_edges, preferred_at, cap_at, load_column, room_column, whole, plus, minus, zero_row, at_least, at_most, below, beyond, less, not_below, above, in_less_out, above_outputs}
+use Rattle.bt_flow.specs.EndEdges.{input_edge, output_edge, input_edges, output_edges, cap_at, load_column, room_column}
+use Rattle.bt_fenc.specs.Columns.{in_edges, out_edges, preferred_at, whole, plus, minus, zero_row, at_least, at_most, below, beyond, less, not_below, above, in_less_out, above_outputs}
 use Rattle.bt_fenc.specs.Families.{clauses_at, places, family_clauses, families, range_clauses, end_clauses, even_clauses, side_clauses, backing_clause}
 use Rattle.bt_fenc.proofs.Sides.{beside_edge}
 use Rattle.bt_fenc.specs.Pairs.{pair_clause, beside, side_pairs, full, loaded, filled}
@@ -110,7 +111,7 @@ all_minus (c ∷ columns) = (minus_is, all_minus columns)
 abbrev pub MentionsRow : StateLiteral → Type 0
 MentionsRow claim = AllByRecursion IsRow (mentioned claim)
 
-abbrev pub MentionRows : List (List StateLiteral) → Type 0
+abbrev MentionRows : List (List StateLiteral) → Type 0
 MentionRows clauses = AllByRecursion (AllByRecursion MentionsRow) clauses
 
 small_cap : (es : List Edge) → AllByRecursion (λ e. IsCap e.cap) es → (a : ℕ) → get_or (map (λ e. e.cap) es) a 0 < 2 ^ 127

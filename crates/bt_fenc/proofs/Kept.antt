@@ -75,7 +75,7 @@ pub side_few : (n : Network) (side : Side) (k : ℕ) → side_rows n side k ≤ 
 side_few n side k = rows_few (λ j. map pair_clause (pairs_at n side j)) 4 0 k (λ j. pairs_at_most (preferred_at n side j) side j (edges_at n side j))
 
 -- the variable of a splitter's first pair at a side
-pub side_start : (n : Network) (side : Side) (first k : ℕ) → k ≤ n.splitters → get_or (side_starts n side first) k 0 ≡ first + side_rows n side k
+side_start : (n : Network) (side : Side) (first k : ℕ) → k ≤ n.splitters → get_or (side_starts n side first) k 0 ≡ first + side_rows n side k
 side_start n side first k l = get_or-map-range_with_len (λ j. first + side_rows n side j) 0 (n.splitters + 1) k k 0 (omega (arith, l)) (let z : 0 + k ≡ k = omega arith in z)
 
 -- and of the side that comes after the last

@@ -42,7 +42,7 @@ merged_both m xs ys =
     ∙ ap (λ b. cond b (minus m ∷ merged_from m xs (merged xs) ys) (merged xs ys)) same
 
 -- the numbers of edges are above the number before the first
-pub numbers_above : (p : Edge → Bool) (m k : ℕ) (es : List Edge) → k < m → AreAbove k (numbers_where p m es)
+numbers_above : (p : Edge → Bool) (m k : ℕ) (es : List Edge) → k < m → AreAbove k (numbers_where p m es)
 numbers_above p m k [] l = tt
 numbers_above p m k (e ∷ es) l = elim (p e) as (λ b. AreAbove k (cond b (m ∷ numbers_where p (m + 1) es) (numbers_where p (m + 1) es))) [
   | true ↦ (l, numbers_above p (m + 1) k es (omega arith))

@@ -18,7 +18,8 @@ use Rattle.bt_fenc.specs.declared.state_literal.StateLiteral.{StateLiteral}
 use Rattle.bt_fenc.specs.declared.state_literal.StateLiteral.TheVariants.{Mark, Says, First}
 use Rattle.bt_fenc.specs.declared.clause_family.ClauseFamily.{ClauseFamily}
 use Rattle.bt_fenc.specs.declared.clause_family.ClauseFamily.TheVariants as of
-use Rattle.bt_fenc.specs.Columns.{input_edge, output_edge, input_edges, output_edges, in_edges, out_edges, edges_at, preferred_at, cap_at, load_column, room_column}
+use Rattle.bt_flow.specs.EndEdges.{input_edge, output_edge, input_edges, output_edges, cap_at, load_column, room_column}
+use Rattle.bt_fenc.specs.Columns.{in_edges, out_edges, edges_at, preferred_at}
 use Rattle.bt_fenc.specs.Pairs.{first_row, opposite_row, pair_clause, even_pairs, beside, side_pairs, pairs_at, full}
 use Rattle.bt_fenc.specs.Families.{clauses_at, places, family_clauses, bounds, pair_families, laws, families, even_clauses, side_clauses, backing_clause}
 use Rattle.bt_fenc.specs.Properties.{property_clauses, loaded_clauses, open_clauses, short_clauses, unequal_clause, differ}
@@ -29,7 +30,7 @@ use Rattle.bt_fenc.proofs.Sides.{at_side, side_edges, side_ascends, preferred_is
 use Rattle.bt_fenc.proofs.Withins.{each-append, each-three, each-flat_map, each-map, each-range, each_any, all_below, input_below, output_below}
 
 -- these two are the edges
-abbrev pub AreTwo : List ℕ → ℕ → ℕ → Type 0
+abbrev AreTwo : List ℕ → ℕ → ℕ → Type 0
 AreTwo edges a b = ((edges ≡ a ∷ b ∷ []) × (a < b)) ⊎ ((edges ≡ b ∷ a ∷ []) × (b < a))
 
 -- the pair is one of the network

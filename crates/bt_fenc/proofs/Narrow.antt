@@ -13,7 +13,8 @@ use Rattle.bt_fenc.specs.declared.state_literal.StateLiteral.{StateLiteral}
 use Rattle.bt_fenc.specs.declared.state_literal.StateLiteral.TheVariants.{Says, First}
 use Rattle.bt_fenc.specs.declared.clause_family.ClauseFamily.{ClauseFamily}
 use Rattle.bt_fenc.specs.declared.clause_family.ClauseFamily.TheVariants as of
-use Rattle.bt_fenc.specs.Columns.{input_edge, output_edge, in_edges, out_edges, preferred_at, cap_at, load_column, room_column, plus, minus, not_below, above, in_less_out}
+use Rattle.bt_flow.specs.EndEdges.{input_edge, output_edge, cap_at, load_column, room_column}
+use Rattle.bt_fenc.specs.Columns.{in_edges, out_edges, preferred_at, plus, minus, not_below, above, in_less_out}
 use Rattle.bt_fenc.specs.Families.{clauses_at, places, family_clauses, families, range_clauses, end_clauses, even_clauses, side_clauses, backing_clause}
 use Rattle.bt_fenc.specs.Pairs.{pair_clause, side_pairs, full, loaded, filled}
 use Rattle.bt_fenc.specs.FlowFormula.{steady_clauses}
@@ -41,10 +42,10 @@ less_narrow a b l m true u = (l, (m, tt))
 less_narrow a b l m false true = (m, (l, tt))
 less_narrow a b l m false false = tt
 
-pub not_below_narrow : (a b : ℕ) → IsNarrow a → IsNarrow b → IsNarrowRow (not_below a b)
+not_below_narrow : (a b : ℕ) → IsNarrow a → IsNarrow b → IsNarrowRow (not_below a b)
 not_below_narrow a b l m = less_narrow a b l m (ltb a b) (ltb b a)
 
-pub above_narrow : (a b : ℕ) → IsNarrow a → IsNarrow b → IsNarrowRow (above a b)
+above_narrow : (a b : ℕ) → IsNarrow a → IsNarrow b → IsNarrowRow (above a b)
 above_narrow a b l m = less_narrow a b l m (ltb a b) (ltb b a)
 
 edge_narrow : (b c : Bool) (m : ℕ) (terms : List (ℕ × Ratio)) → IsNarrow m → AllByRecursion IsNarrow (columns_of terms)

@@ -12,7 +12,7 @@ use Rattle.bt_flow.specs.Steady.{HasEdge}
 use Rattle.bt_flow.proofs.Adding.{no_edge}
 use Rattle.bt_flow.proofs.Each.{each_edge, numbers_from}
 use Rattle.bt_flow.proofs.Numbers.{length-numbers_where, within}
-use Rattle.bt_fenc.specs.Columns.{input_edge, output_edge, cap_at}
+use Rattle.bt_flow.specs.EndEdges.{input_edge, output_edge, cap_at}
 
 -- the list has a first number, and it is one of them
 first_holds : (P : ℕ → Type 0) (numbers : List ℕ) → 0 < length numbers → AllByRecursion P numbers → P (get_or numbers 0 0)

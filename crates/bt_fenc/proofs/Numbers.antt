@@ -18,7 +18,7 @@ atoms-append m [] more = ap (λ k. atoms_from k more) (let e : m ≡ m + length 
 atoms-append m (r ∷ rows) more =
     ap (λ l. (m, r) ∷ l) (atoms-append (m + 1) rows more ∙ ap (λ k. atoms_from (m + 1) rows ++ atoms_from k more) (let e : m + 1 + length rows ≡ m + length (r ∷ rows) = omega arith in e))
 
-pub literals-append : (at : Pair → ℕ) (m : ℕ) (claims more : List StateLiteral)
+literals-append : (at : Pair → ℕ) (m : ℕ) (claims more : List StateLiteral)
     → literals_from at m (claims ++ more) ≡ literals_from at m claims ++ literals_from at (m + length (flat_map mentioned claims)) more
 literals-append at m [] more = ap (λ k. literals_from at k more) (let e : m ≡ m + length {A = RowParts} [] = omega arith in e)
 literals-append at m (Mark a b ∷ claims) more = ap (λ l. record { var = a; positive = b } ∷ l) (literals-append at m claims more)
@@ -27,7 +27,7 @@ literals-append at m (Says row ∷ claims) more =
     (literals-append at (m + 1) claims more ∙ ap (λ k. literals_from at (m + 1) claims ++ literals_from at k more) (let e : m + 1 + length (flat_map mentioned claims) ≡ m + length (flat_map mentioned (Says row ∷ claims)) = omega arith in e))
 literals-append at m (First pair ∷ claims) more = ap (λ l. record { var = at pair; positive = true } ∷ l) (literals-append at m claims more)
 
-pub clauses-append : (at : Pair → ℕ) (m : ℕ) (clauses more : List (List StateLiteral))
+clauses-append : (at : Pair → ℕ) (m : ℕ) (clauses more : List (List StateLiteral))
     → clauses_from at m (clauses ++ more) ≡ clauses_from at m clauses ++ clauses_from at (m + length (rows_in clauses)) more
 clauses-append at m [] more = ap (λ k. clauses_from at k more) (let e : m ≡ m + length {A = RowParts} [] = omega arith in e)
 clauses-append at m (first ∷ clauses) more =
@@ -73,7 +73,7 @@ named_in_range at marks n rows l [] h = tt
 named_in_range at marks n rows l (claim ∷ claims) h = (named_within at marks n rows l claim h.0, named_in_range at marks n rows l claims h.1)
 
 -- a claim within a number of variables is within a greater one
-pub claim_wider : (at : Pair → ℕ) (m n : ℕ) → m ≤ n → (claim : StateLiteral) → IsWithin at m claim → IsWithin at n claim
+claim_wider : (at : Pair → ℕ) (m n : ℕ) → m ≤ n → (claim : StateLiteral) → IsWithin at m claim → IsWithin at n claim
 claim_wider at m n l (Mark a b) h = omega (arith, h, l)
 claim_wider at m n l (Says row) h = tt
 claim_wider at m n l (First pair) h = omega (arith, h, l)
@@ -109,7 +109,7 @@ none_after at f = record {
 }
 
 -- a claim is numbered after others
-pub claim_added : (at : Pair → ℕ) (old now new : FormulaParts) (front : List StateLiteral) (claim : StateLiteral) (lits : List Lit) (lit : Lit) → IsAfter at old front now lits → IsAfter at now (claim ∷ []) new (lit ∷ [])
+claim_added : (at : Pair → ℕ) (old now new : FormulaParts) (front : List StateLiteral) (claim : StateLiteral) (lits : List Lit) (lit : Lit) → IsAfter at old front now lits → IsAfter at now (claim ∷ []) new (lit ∷ [])
     → IsAfter at old (front ++ claim ∷ []) new (lits ++ lit ∷ [])
 claim_added at old now new front claim lits lit after g =
     let vars : now.vars ≡ old.vars + length (flat_map mentioned front) = ap (λ f. f.vars) after.formula in

@@ -18,7 +18,8 @@ use Rattle.bt_fenc.specs.declared.state_literal.StateLiteral.TheVariants.{First}
 use Rattle.bt_fenc.specs.Pairs.{pair_clause, side_pairs, full}
 use Rattle.bt_fenc.specs.declared.clause_family.ClauseFamily.{ClauseFamily}
 use Rattle.bt_fenc.specs.declared.clause_family.ClauseFamily.TheVariants as of
-use Rattle.bt_fenc.specs.Columns.{input_edge, output_edge, input_edges, output_edges, in_edges, out_edges, preferred_at, cap_at}
+use Rattle.bt_flow.specs.EndEdges.{input_edge, output_edge, input_edges, output_edges, cap_at}
+use Rattle.bt_fenc.specs.Columns.{in_edges, out_edges, preferred_at}
 use Rattle.bt_fenc.specs.Families.{clauses_at, places, family_clauses, families, even_clause, even_clauses, side_clauses, backing_clause}
 use Rattle.bt_fenc.specs.Properties.{property_clauses, loaded_clauses, open_clauses, short_clauses, unequal_clause, differ}
 use Rattle.bt_fenc.specs.Numbering.{mentioned, rows_in, clauses_from, formula_of}

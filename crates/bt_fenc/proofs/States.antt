@@ -10,7 +10,7 @@ use Rattle.bt_net.specs.Network.{Network, IsNetwork}
 use Rattle.bt_flow.specs.States.{Flows, AreLowest, Fits, StandsFor, flow_at, load_at, room_at}
 use Rattle.bt_flow.proofs.Denominators.{some_flows}
 use Rattle.bt_cnf.specs.Assignments.{truth_in}
-use Rattle.bt_fenc.specs.Columns.{load_column, room_column}
+use Rattle.bt_flow.specs.EndEdges.{load_column, room_column}
 use Rattle.bt_fenc.specs.Solutions.{HasValues, state_at, BreaksWhatIsMet}
 use Rattle.bt_fenc.proofs.Numbers.{all_from, all_to}
 use Rattle.bt_fenc.proofs.Withins.{each-map, each_any}

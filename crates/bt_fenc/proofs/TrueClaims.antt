@@ -7,8 +7,8 @@ use Rattle.std.proofs.lemmas.List.{get_or-append-add}
 use Rattle.bt_frac.specs.Ratio.{Ratio}
 use Rattle.bt_frac.specs.Rows.{RowParts}
 use Rattle.bt_frac.specs.Values.{RowHolds, Stands, sum_of_products, valued}
-use Rattle.bt_frac.specs.declared.row.Relation.{Relation}
-use Rattle.bt_frac.specs.declared.row.Relation.TheVariants.{AtLeast, Above, Equal}
+use Rattle.bt_frac.specs.declared.relation.Relation.{Relation}
+use Rattle.bt_frac.specs.declared.relation.Relation.TheVariants.{AtLeast, Above, Equal}
 use Rattle.bt_cnf.specs.declared.literal.Lit.{Lit}
 use Rattle.bt_cnf.specs.Meeting.{IsTrueUnder, MeetsClause}
 use Rattle.bt_fenc.specs.declared.state_literal.Pair.{Pair}

@@ -6,7 +6,7 @@ use Rattle.std.specs.List.{AllByRecursion, flat_map, range_with_len, count_by}
 use Rattle.bt_net.specs.declared.network.Edge.{Edge}
 use Rattle.bt_net.specs.Network.{Network, IsNetwork, is_input, is_output}
 use Rattle.bt_flow.specs.Ports.{numbers_where}
-use Rattle.bt_fenc.specs.Columns.{input_edge, output_edge}
+use Rattle.bt_flow.specs.EndEdges.{input_edge, output_edge}
 
 pub each-append : {X : Type 0} (P : X → Type 0) (xs ys : List X) → AllByRecursion P xs → AllByRecursion P ys → AllByRecursion P (xs ++ ys)
 each-append P [] ys h g = g

@@ -1,7 +1,7 @@
 -- The clauses that say that a state is admissible and steady, family by family.
 use Rattle.std.specs.List.{range_with_len}
 use Rattle.std.specs.Prelude.{ℕ, nat_lt, Option, Some, None, Bool, true, false, List, [], ◌∷◌, ◌++◌, length, map, flat_map, if◌then◌else◌}
-use Rattle.bt_frac.specs.declared.row.Relation.TheVariants.{Equal}
+use Rattle.bt_frac.specs.declared.relation.Relation.TheVariants.{Equal}
 use Rattle.bt_net.specs.Network.{Network}
 use Rattle.bt_fenc.specs.declared.state_literal.Side.{Side}
 use Rattle.bt_fenc.specs.declared.state_literal.Side.TheVariants.{Out, In}
@@ -11,7 +11,8 @@ use Rattle.bt_fenc.specs.declared.state_literal.StateLiteral.{StateLiteral}
 use Rattle.bt_fenc.specs.declared.state_literal.StateLiteral.TheVariants.{Mark, Says, First}
 use Rattle.bt_fenc.specs.declared.clause_family.ClauseFamily.{ClauseFamily}
 use Rattle.bt_fenc.specs.declared.clause_family.ClauseFamily.TheVariants as of
-use Rattle.bt_fenc.specs.Columns.{out_edges, in_edges, edges_at, preferred_at, input_edge, output_edge, cap_at, load_column, room_column, zero_row, at_least, at_most, not_below, in_less_out}
+use Rattle.bt_flow.specs.EndEdges.{input_edge, output_edge, cap_at, load_column, room_column}
+use Rattle.bt_fenc.specs.Columns.{out_edges, in_edges, edges_at, preferred_at, zero_row, at_least, at_most, not_below, in_less_out}
 use Rattle.bt_fenc.specs.Pairs.{pair_clause, pairs_at, beside, full, loaded, filled}
 
 -- a column is from 0 to a cap

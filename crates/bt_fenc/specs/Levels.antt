@@ -10,7 +10,8 @@ use Rattle.bt_cnf.specs.declared.literal.Lit.{Lit}
 use Rattle.bt_cnf.specs.Formulas.{FormulaParts}
 use Rattle.bt_fenc.specs.declared.level.LevelRow.{LevelRow}
 use Rattle.bt_fenc.specs.declared.level.LevelRow.TheVariants.{Below, Short, Reached}
-use Rattle.bt_fenc.specs.Columns.{input_edge, output_edge, load_column, room_column, not_below, above}
+use Rattle.bt_flow.specs.EndEdges.{input_edge, output_edge, load_column, room_column}
+use Rattle.bt_fenc.specs.Columns.{not_below, above}
 use Rattle.bt_fenc.specs.Numbering.{atoms_from}
 
 -- the column of the level: it comes behind the rooms

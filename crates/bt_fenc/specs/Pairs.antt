@@ -7,7 +7,8 @@ use Rattle.bt_fenc.specs.declared.state_literal.Pair.{Pair}
 use Rattle.bt_fenc.specs.declared.state_literal.Pair.TheVariants.{Even, Empty, Full, Loaded, Filled}
 use Rattle.bt_fenc.specs.declared.state_literal.StateLiteral.{StateLiteral}
 use Rattle.bt_fenc.specs.declared.state_literal.StateLiteral.TheVariants.{Says}
-use Rattle.bt_fenc.specs.Columns.{input_edge, output_edge, edges_at, preferred_at, cap_at, load_column, room_column, at_least, at_most, below, beyond, not_below, above}
+use Rattle.bt_flow.specs.EndEdges.{input_edge, output_edge, cap_at, load_column, room_column}
+use Rattle.bt_fenc.specs.Columns.{edges_at, preferred_at, at_least, at_most, below, beyond, not_below, above}
 
 -- the first row of a pair: a flow is at least that of another edge, the edge's cap, the load or the room, or it is at
 -- most 0

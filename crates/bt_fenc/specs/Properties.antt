@@ -6,7 +6,8 @@ use Rattle.bt_flow.specs.declared.property.Property.{Property}
 use Rattle.bt_flow.specs.declared.property.Property.TheVariants.{Balanced, DrawnEvenly, Unlimited, Full, Fair, DrawnFairly}
 use Rattle.bt_fenc.specs.declared.state_literal.StateLiteral.{StateLiteral}
 use Rattle.bt_fenc.specs.declared.state_literal.StateLiteral.TheVariants.{Says}
-use Rattle.bt_fenc.specs.Columns.{input_edge, output_edge, input_edges, output_edges, cap_at, load_column, room_column, at_least, above, above_outputs}
+use Rattle.bt_flow.specs.EndEdges.{input_edge, output_edge, input_edges, output_edges, cap_at, load_column, room_column}
+use Rattle.bt_fenc.specs.Columns.{at_least, above, above_outputs}
 
 -- every load is at its cap
 abbrev pub loaded_clauses : Network → List (List StateLiteral)

@@ -9,7 +9,7 @@ use Rattle.bt_flow.specs.States.{Flows, Fractions, IsStateOf, IsTrueOf, flow_at,
 use Rattle.bt_flow.specs.Steady.{IsSteady}
 use Rattle.bt_flow.specs.Properties.{IsAdmissible, Breaks}
 use Rattle.bt_cnf.specs.Meeting.{Meets}
-use Rattle.bt_fenc.specs.Columns.{load_column, room_column}
+use Rattle.bt_flow.specs.EndEdges.{load_column, room_column}
 use Rattle.bt_fenc.specs.FlowFormula.{flow_formula, steady_formula}
 
 -- the state has these marks, and its flows, loads and rooms are the values of their columns

@@ -1,5 +1,4 @@
 -- What private functions alone cite.
-pub mod Listed
 pub mod Merging
 pub mod Adding
 pub mod Within

@@ -1,7 +1,7 @@
 //! The clauses that say that a state is admissible and steady.
 ghost use Rattle.std.specs.Prelude.{◌≡◌, ◌<◌, ◌-◌, ◌^◌, OnOk, IfOk, map};
 ghost use Rattle.bt_flow.specs.Ports.{ArePorts};
-ghost use Rattle.bt_frac.specs.declared.row.Relation.TheVariants as Relation;
+ghost use Rattle.bt_frac.specs.declared.relation.Relation.TheVariants as Relation;
 ghost use Rattle.bt_fenc.specs.Columns as columns;
 ghost use Rattle.bt_fenc.specs.Families as families;
 ghost use Rattle.bt_fenc.specs.declared.clause_family.ClauseFamily.TheVariants as of;
@@ -11,14 +11,13 @@ ghost use Rattle.bt_fenc.specs.inner.Variables.{at_in, HasColumns};
 ghost use Rattle.bt_fenc.specs.inner.Within.{AreWithin};
 
 use crate::clause_family::ClauseFamily;
-use crate::ends::{cap_at, input_edge, load_column, numbers_of, output_edge, room_column};
 use crate::numbering::{add_row, add_two};
 use crate::rows::{at_least, at_most, not_below, row_of_vec};
 use crate::splitters::{add_backing, add_pair, add_pairs, add_sharing, merge};
 use crate::state_literal::{Pair, Side, StateLiteral};
 use crate::variables::{PairVars, port_at, preferred_at};
 use bt_cnf::Formula;
-use bt_flow::Ports;
+use bt_flow::{Ports, cap_at, input_edge, load_column, numbers_of, output_edge, room_column};
 use bt_frac::{Frac, Relation, Row};
 use bt_net::Net;
 use std::alloc::{AllocError, Global};

@@ -4,11 +4,10 @@ ghost use Rattle.bt_flow.specs.Ports.{ArePorts};
 ghost use Rattle.bt_fenc.specs.FlowFormula.{leveled};
 ghost use Rattle.bt_fenc.specs.Levels as levels;
 
-use crate::ends::{input_edge, load_column, output_edge, room_column};
 use crate::numbering::var_at;
 use crate::rows::{above, not_below};
 use bt_cnf::{Formula, Lit};
-use bt_flow::{End, Ports, Property};
+use bt_flow::{End, Ports, Property, input_edge, load_column, output_edge, room_column};
 use bt_frac::Row;
 use bt_net::Net;
 use std::alloc::{AllocError, Global};

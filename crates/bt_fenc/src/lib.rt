@@ -4,7 +4,6 @@
 
 mod clause_family;
 mod encoding;
-mod ends;
 mod families;
 mod law;
 mod level;
@@ -17,7 +16,6 @@ mod state_literal;
 mod variables;
 
 pub use encoding::{encode, encode_steady};
-pub use ends::output_edge;
 pub use law::{
     breaking_is_met, breaking_meets, flow_formula_is_even, flow_formulas_are_small, meeting_breaks,
     meeting_is_steady, refuted_holds, steady_formulas_are_small, steady_meets, true_claims_meet,

@@ -1,18 +1,18 @@
 //! The clauses that say that a state meets the condition of a property and fails its conclusion.
 ghost use Rattle.std.specs.Prelude.{◌≡◌, ◌∷◌, [], ◌<◌, ◌≤◌, ◌+◌, ◌-◌, ◌^◌, All, OnOk, IfOk, length};
 ghost use Rattle.bt_flow.specs.Ports.{ArePorts};
+ghost use Rattle.bt_flow.specs.EndEdges as end_edges;
 ghost use Rattle.bt_fenc.specs.Columns as columns;
 ghost use Rattle.bt_fenc.specs.Properties as properties;
 ghost use Rattle.bt_fenc.specs.inner.Adding.{IsAfter, with_clauses};
 ghost use Rattle.bt_fenc.specs.inner.Variables.{at_in};
 
-use crate::ends::{cap_at, input_edge, last_edges, load_column, output_edge, room_column};
 use crate::numbering::{add_row, literal_of};
 use crate::rows::{above, at_least, minus, plus, row_of_vec};
 use crate::state_literal::StateLiteral;
 use crate::variables::PairVars;
 use bt_cnf::{Formula, Lit};
-use bt_flow::{Ports, Property};
+use bt_flow::{Ports, Property, cap_at, input_edge, last_edges, load_column, output_edge, room_column};
 use bt_frac::{Frac, Relation, Row};
 use bt_net::Net;
 use std::alloc::{AllocError, Global};
@@ -60,7 +60,7 @@ fn add_open(
 /// The edges of the inputs.
 fn input_edges(alloc: Global, net: &Net, ports: &Ports) -> Result<Vec<usize>, AllocError>
     requires { ArePorts net.now ports.now }
-    ensures { IfOk result (λ edges. (edges.items ≡ columns.input_edges net.now)
+    ensures { IfOk result (λ edges. (edges.items ≡ end_edges.input_edges net.now)
         × All (λ a. a < 2 ^ 64 - 1) edges.items) }
 {
     let mut edges = Vec::new(alloc);
@@ -73,7 +73,7 @@ fn input_edges(alloc: Global, net: &Net, ports: &Ports) -> Result<Vec<usize>, Al
 /// The edges of the outputs.
 fn output_edges(alloc: Global, net: &Net, ports: &Ports) -> Result<Vec<usize>, AllocError>
     requires { ArePorts net.now ports.now }
-    ensures { IfOk result (λ edges. (edges.items ≡ columns.output_edges net.now)
+    ensures { IfOk result (λ edges. (edges.items ≡ end_edges.output_edges net.now)
         × All (λ a. a < 2 ^ 64 - 1) edges.items) }
 {
     let mut edges = Vec::new(alloc);

@@ -7,9 +7,8 @@ ghost use Rattle.bt_net.specs.Network.{IsNetwork};
 ghost use Rattle.bt_flow.specs.States.{AreLowest};
 ghost use Rattle.bt_fenc.specs.Solutions.{state_at, BreaksWhatIsMet};
 
-use crate::ends::{load_column, room_column};
 use bt_cnf::is_true;
-use bt_flow::State;
+use bt_flow::{State, load_column, room_column};
 use bt_frac::Frac;
 use bt_net::Net;
 use std::alloc::{AllocError, Global};

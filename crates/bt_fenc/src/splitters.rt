@@ -9,13 +9,12 @@ ghost use Rattle.bt_fenc.specs.inner.Merging.{merged};
 ghost use Rattle.bt_fenc.specs.inner.Variables.{at_in, HasColumns};
 ghost use Rattle.bt_fenc.specs.inner.Within.{IsWithin, AreWithin};
 
-use crate::ends::cap_at;
 use crate::numbering::{add_three, add_two};
 use crate::rows::{first_row, minus, opposite_row, plus};
 use crate::state_literal::{Pair, Side, StateLiteral};
 use crate::variables::PairVars;
 use bt_cnf::Formula;
-use bt_flow::Port;
+use bt_flow::{Port, cap_at};
 use bt_frac::Frac;
 use bt_net::Net;
 use std::alloc::{AllocError, Global};

@@ -91,7 +91,7 @@ module _ (p : Edge → Bool) (es : List Edge) (fs : List Ratio) (same : length f
       (wide_at (fractions_where p es fs) (fractions_where p (take i es) (take i fs)) (fractions_where p (drop (i + 1) es) (drop (i + 1) fs)) b f (whole e) h w.2))
 
 -- sums of at most two numbers
-pub sum_one : (z x r : Ratio) → z ≡ nothing → AddsTo z x r → RunsTo nothing (x ∷ []) r
+sum_one : (z x r : Ratio) → z ≡ nothing → AddsTo z x r → RunsTo nothing (x ∷ []) r
 sum_one z x r e h = (r, subst (λ q. AddsTo q x r) e h, refl)
 
 pub wide_first : (z x left right : Ratio) (rest : List Ratio) → z ≡ nothing → (left ≡ z) × (right ≡ x) × IsWide z x → IsWideIn left right (x ∷ rest)

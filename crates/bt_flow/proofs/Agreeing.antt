@@ -51,7 +51,7 @@ so_far_same n t r place first o e h same =
     (g.0, g.1, λ s k a m j. elim (cases_eq a place) [ inl q ↦ same s k ∙ ap (flow_at s) (sym q) | inr q ↦ g.2 s k a (below a place m q) j ])
 
 -- all flows of edges with a role are equal
-abbrev pub AllAgree : Network → Role → Flows → Type 0
+abbrev AllAgree : Network → Role → Flows → Type 0
 AllAgree n r s = (i j a b : ℕ) (e f : Edge) → HasEdge n a e → HasEdge n b f → IsTrue (plays r i e) → IsTrue (plays r j f) → flow_at s a ≡ flow_at s b
 
 agree_by : (n : Network) (t : Fractions) (r : Role) (place : ℕ) (o : Option ℕ) → AgreeSoFar n t r place o → (s : Flows) → StandsFor n t s

@@ -23,7 +23,7 @@ over_at (x ∷ rs) (y ∷ ws) d h zero l r w = h.0
 over_at (x ∷ rs) (y ∷ ws) d h (suc i) l r w = over_at rs ws d h.1 i (omega arith) r w
 
 -- a fraction read from a list, over a denominator
-pub over_read : (rs : List Ratio) (ws : List ℤ) (d : ℕ) → AreOver rs ws d → (i : ℕ) → i < length rs → (r : Ratio) (w : ℤ) → r ≡ get_or rs i r → IsOver r (get_or ws i w) d
+over_read : (rs : List Ratio) (ws : List ℤ) (d : ℕ) → AreOver rs ws d → (i : ℕ) → i < length rs → (r : Ratio) (w : ℤ) → r ≡ get_or rs i r → IsOver r (get_or ws i w) d
 over_read rs ws d h i l r w e = subst (λ q. IsOver q (get_or ws i w) d) (sym e) (over_at rs ws d h i l r w)
 
 -- the flow of an edge, read from the flows

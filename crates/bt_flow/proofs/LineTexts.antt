@@ -26,12 +26,12 @@ first_line a rest lacks =
     cut_lines (a ++ 10 ∷ rest) a (10 ∷ rest) (record { lacks = lacks; text_is = refl; begins = inr (rest, refl) })
 
 -- so is one behind which nothing comes
-pub only_line : (a : List ℕ) → Lacks 10 a → lines_of a ≡ a ∷ []
+only_line : (a : List ℕ) → Lacks 10 a → lines_of a ≡ a ∷ []
 unfolding lines_after
 only_line a lacks = cut_lines a a [] (record { lacks = lacks; text_is = sym (append-nil a); begins = inl refl })
 
 -- the lines of a text that begins with lines
-pub begun_lines : (lines : List (List ℕ)) (rest : List ℕ) → All (Lacks 10) lines → lines_of (flat_map line lines ++ rest) ≡ lines ++ lines_of rest
+begun_lines : (lines : List (List ℕ)) (rest : List ℕ) → All (Lacks 10) lines → lines_of (flat_map line lines ++ rest) ≡ lines ++ lines_of rest
 begun_lines [] rest all = refl
 begun_lines (l ∷ ls) rest all =
     ap lines_of (regrouped (flat_map line ls))
@@ -51,7 +51,7 @@ ends_with_feed l (m ∷ ms) =
     regrouped text = simp append_assoc
 
 -- the lines of a text that is lines without the last line feed
-pub last_lines : (l : List ℕ) (ls : List (List ℕ)) (text : List ℕ) → All (Lacks 10) (l ∷ ls) → line text ≡ flat_map line (l ∷ ls) → lines_of text ≡ l ∷ ls
+last_lines : (l : List ℕ) (ls : List (List ℕ)) (text : List ℕ) → All (Lacks 10) (l ∷ ls) → line text ≡ flat_map line (l ∷ ls) → lines_of text ≡ l ∷ ls
 last_lines l [] text all e =
     ap lines_of (append_cancel_right text l (10 ∷ []) (e ∙ append-nil (line l))) ∙ only_line l (All-head (Lacks 10) l [] all)
 last_lines l (m ∷ ms) text all e =

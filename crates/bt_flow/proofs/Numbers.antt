@@ -18,7 +18,7 @@ use Rattle.bt_flow.specs.declared.ports.Role.TheVariants.{FromInput, ToOutput, O
 use Rattle.bt_flow.specs.Ports.{numbers_where, numbers_of, plays}
 
 -- with one more edge
-pub numbers_where-append : (p : Edge → Bool) (n : ℕ) (edges : List Edge) (e : Edge)
+numbers_where-append : (p : Edge → Bool) (n : ℕ) (edges : List Edge) (e : Edge)
     → numbers_where p n (edges ++ e ∷ []) ≡ numbers_where p n edges ++ cond (p e) ((n + length edges) ∷ []) []
 numbers_where-append p n [] e = elim (p e) as (λ b. cond b (n ∷ []) [] ≡ cond b ((n + 0) ∷ []) []) [ true ↦ ap (λ m. m ∷ []) (omega arith) | false ↦ refl ]
 numbers_where-append p n (x ∷ edges) e =
@@ -51,7 +51,7 @@ numbers_more p edges i d h =
     ∙ ap (λ m. numbers_where p 0 (take i edges) ++ cond (p (get_or edges i d)) (m ∷ []) []) (let e : 0 + length (take i edges) ≡ i = omega arith in e)
 
 -- a part from the front has no more that pass
-pub count_by-take : (p : Edge → Bool) (edges : List Edge) (i : ℕ) → count_by p (take i edges) ≤ count_by p edges
+count_by-take : (p : Edge → Bool) (edges : List Edge) (i : ℕ) → count_by p (take i edges) ≤ count_by p edges
 count_by-take p edges i = let e = sum_by-take-drop (λ x. cond (p x) 1 0) edges i in omega (arith, e)
 
 -- how many numbers a role has

@@ -13,7 +13,7 @@ use Rattle.bt_flow.specs.States.{Flows, Fractions, StandsFor}
 use Rattle.bt_flow.specs.Steady.{IsSteady}
 use Rattle.bt_flow.specs.Properties.{IsAdmissible, Breaks}
 use Rattle.bt_flow.specs.Tests.{order_of, places, PassesAt, IsAmong, IsEarlier, FailsFirst}
-use Rattle.bt_answers.specs.Answers.{HasOneAnswer}
+use Rattle.bt_text.specs.Answers.{HasOneAnswer}
 use Rattle.bt_flow.specs.Sums.{sums_of, IsFirstWide}
 use Rattle.bt_flow.specs.Judging.{JudgesBreaking, JudgesSteady, JudgesState, NeedsFit, IsWideSum, IsBreakingAnswer, IsSteadyAnswer, IsStateAnswer}
 use Rattle.bt_flow.proofs.Judged.{same_order}
@@ -178,7 +178,7 @@ state_answers : (n : Network) (t : Fractions) (s : Flows) → StandsFor n t s �
 state_answers n t s g (Ok j) h = (state_says n s j (h.0.each s g), h.1)
 state_answers n t s g (Err w) h = h
 
-pub state_some : (n : Network) (t : Fractions) (x : Result Judgement WideSum) → IsStateAnswer n t x → (s : Flows) × StandsFor n t s
+state_some : (n : Network) (t : Fractions) (x : Result Judgement WideSum) → IsStateAnswer n t x → (s : Flows) × StandsFor n t s
 state_some n t (Ok j) h = h.0.some
 state_some n t (Err w) h = h.earlier.some
 

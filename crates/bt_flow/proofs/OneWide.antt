@@ -17,7 +17,7 @@ runs_apart a c left right (x ∷ front) rest h k w =
     runs_apart h.0 c left right front rest h.2 (subst (λ q. RunsTo q front left) (adds_one a x k.0 h.0 k.1 h.1) k.2) w
 
 -- a sum doesn't both fit and leave the bits
-pub fits_or_wide : (left right whole : Ratio) (sum : List Ratio) → RunsTo nothing sum whole → IsWideIn left right sum → ⊥
+fits_or_wide : (left right whole : Ratio) (sum : List Ratio) → RunsTo nothing sum whole → IsWideIn left right sum → ⊥
 fits_or_wide left right whole sum h w =
     runs_apart nothing whole left right w.front w.rest (subst (λ l. RunsTo nothing l whole) w.is_split h) w.runs w.wide
 
@@ -36,7 +36,7 @@ wide_same a l r m s (x ∷ front) rest (y ∷ other) after e h k w v =
     let one : k.0 ≡ h.0 = adds_one a x k.0 h.0 (subst (λ z. AddsTo a z k.0) (sym q) k.1) h.1 in
     wide_same h.0 l r m s front rest other after tails h.2 (subst (λ z. RunsTo z other m) one k.2) w v
 
-pub one_wide_in : (l r m s : Ratio) (sum : List Ratio) → IsWideIn l r sum → IsWideIn m s sum → (l ≡ m) × (r ≡ s)
+one_wide_in : (l r m s : Ratio) (sum : List Ratio) → IsWideIn l r sum → IsWideIn m s sum → (l ≡ m) × (r ≡ s)
 one_wide_in l r m s sum h k =
     wide_same nothing l r m s h.front h.rest k.front k.rest (sym h.is_split ∙ k.is_split) h.runs k.runs h.wide k.wide
 

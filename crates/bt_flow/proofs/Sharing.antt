@@ -40,7 +40,7 @@ preferred_of n Into k = take_of n k
 
 -- where none is preferred there, an edge without the mark has a flow at least that of each other edge with the same
 -- role at its splitter, or is full
-abbrev pub Evens : Network → Flows → Role → Bool → ℕ → Type 0
+abbrev Evens : Network → Flows → Role → Bool → ℕ → Type 0
 Evens n s r mark a = (k b : ℕ) (e f : Edge) → HasEdge n a e → HasEdge n b f → b ≢ a → IsTrue (plays r k e) → IsTrue (plays r k f)
     → preferred_of n r k ≡ None → backed_at s a ≡ not mark → (flow_at s b ≤ℤ flow_at s a) ⊎ IsFull s a e
 

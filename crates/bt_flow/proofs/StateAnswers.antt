@@ -1,7 +1,7 @@
 -- What reading a state answers, from what is read of its lines.
 use Rattle.std.proofs.Common.{◌≡◌, ℕ, List, [], ◌∷◌, ◌++◌, length, Bool, refl, sym, subst, codes, inl, inr, Result, Ok, Err}
-use Rattle.bt_answers.specs.Answers.{Answers, HasOneAnswer}
-use Rattle.bt_answers.proofs.OneAnswer.{answers_of}
+use Rattle.bt_text.specs.Answers.{Answers, HasOneAnswer}
+use Rattle.bt_text.proofs.OneAnswer.{answers_of}
 use Rattle.bt_frac.specs.Ratio.{Ratio}
 use Rattle.bt_net.specs.Network.{Network}
 use Rattle.bt_flow.specs.declared.property.Property.{Property}

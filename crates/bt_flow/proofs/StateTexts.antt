@@ -14,7 +14,7 @@ use Rattle.bt_text.specs.Pieces.{CutsAt, LeadsTo}
 use Rattle.bt_flow.specs.Names.{property_name}
 use Rattle.bt_flow.specs.StateText.{mark_text, spaced, state_text, IsStateText}
 use Rattle.bt_flow.specs.StateLines.{SpellsFractions, SpellsMarks, Follows, just, numbers, marks, forms, lines_of, IsWrongLine}
-use Rattle.bt_answers.specs.Answers.{HasOneAnswer}
+use Rattle.bt_text.specs.Answers.{HasOneAnswer}
 use Rattle.bt_flow.specs.declared.fault.StateFault.TheVariants.{CertLine, Memory}
 use Rattle.bt_flow.specs.StateReading.{IsStateRead}
 use Rattle.bt_text.proofs.Lacking.{lacks}

@@ -74,7 +74,7 @@ picked p flows m (e ∷ es) (f ∷ fs) l h =
     [ true ↦ ap (λ x. x ∷ map (λ a. get_or flows a nothing) (numbers_where p (m + 1) es)) d.0 ∙ ap (λ l. f ∷ l) again | false ↦ again ]
 
 -- the flows of the edges of a port are those of the edges with the role
-pub port_flows : (n : Network) (r : Role) (k : ℕ) (port : Port) (flows : List Ratio) → IsPort n r k port → length flows ≡ length n.edges
+port_flows : (n : Network) (r : Role) (k : ℕ) (port : Port) (flows : List Ratio) → IsPort n r k port → length flows ≡ length n.edges
     → map (λ a. get_or flows a nothing) (numbers_of port) ≡ fractions_where (plays r k) n.edges flows
 port_flows n r k port flows e l = ap (map (λ a. get_or flows a nothing)) e ∙ picked (plays r k) flows 0 n.edges flows l refl
 

@@ -38,7 +38,7 @@ cut_lines text line rest cuts =
           ∙ ap (λ r. line ∷ lines_after r) (sym more.1)
     ]
 
-pub next_lines : (text line rest : List ℕ) → LeadsTo 10 text line rest → lines_after text ≡ line ∷ lines_after rest
+next_lines : (text line rest : List ℕ) → LeadsTo 10 text line rest → lines_after text ≡ line ∷ lines_after rest
 unfolding lines_after
 next_lines text line rest leads =
     ap lines_after leads.text_is ∙ cut_lines (line ++ rest) line rest (record { lacks = leads.lacks; text_is = refl; begins = leads.begins })
@@ -150,7 +150,7 @@ stop_unfilled whole bytes form wanted done text line rest reach leads wrong = (d
     at = subst (λ m. IsFirstWrong whole (lines_of bytes) m) (omega arith) (reach.fails 0 unfilled)
 
 -- no right line comes next
-pub stop_at : (whole : List Form) (bytes : List ℕ) (form : Form) (wanted : List Form) (done : ℕ) (text : List ℕ)
+stop_at : (whole : List Form) (bytes : List ℕ) (form : Form) (wanted : List Form) (done : ℕ) (text : List ℕ)
     → Reaches whole bytes (form ∷ wanted) done text → StopsAt (Fills form) text → IsFirstWrongLine whole bytes (done + 1)
 stop_at whole bytes form wanted done text reach (inl none) = stop_missing whole bytes form wanted done text reach none
 stop_at whole bytes form wanted done text reach (inr (rest, other)) = stop_unfilled whole bytes form wanted done text other.line rest reach other.leads other.right
@@ -263,7 +263,7 @@ blank_earlier lines (suc k) h = (
 )
 
 -- blank lines follow, and then one that isn't
-pub stop_blank : (whole : List Form) (bytes : List ℕ) (done : ℕ) (text : List ℕ) (feeds : ℕ)
+stop_blank : (whole : List Form) (bytes : List ℕ) (done : ℕ) (text : List ℕ) (feeds : ℕ)
     → Reaches whole bytes [] done text → HasByteAfter text feeds → IsFirstWrongLine whole bytes (done + feeds)
 unfolding lines_after
 stop_blank whole bytes done text feeds reach h = at (blank_earlier (lines_after text) feeds after)

@@ -9,6 +9,7 @@ pub mod Tests
 pub mod Sums
 pub mod Judging
 pub mod Ports
+pub mod EndEdges
 pub mod Names
 pub mod StateText
 pub mod StateLines

@@ -5,3 +5,4 @@ pub mod Lines
 pub mod Trials
 pub mod Printing
 pub mod Shares
+pub mod Listed

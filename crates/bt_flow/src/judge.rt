@@ -1,7 +1,7 @@
 //! The questions that are asked of a state: whether it is steady, whether it is admissible too, and whether it breaks a
 //! property.
 ghost use Rattle.std.specs.Prelude.{◌<◌, ◌≤◌};
-ghost use Rattle.bt_answers.specs.Answers.{AnswersAlways};
+ghost use Rattle.bt_text.specs.Answers.{AnswersAlways};
 ghost use Rattle.bt_flow.specs.States.{Fits, Flows, StandsFor};
 ghost use Rattle.bt_flow.specs.Judging.{IsSteadyAnswer, IsStateAnswer, IsBreakingAnswer};
 ghost use Rattle.bt_flow.specs.inner.Trials.{IsJudged};

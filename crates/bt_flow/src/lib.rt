@@ -4,6 +4,7 @@
 mod at_ports;
 mod compare;
 mod conclusion;
+mod end_edges;
 mod fault;
 mod judge;
 mod judgement;
@@ -16,6 +17,9 @@ mod sums;
 mod theorems;
 mod trial;
 
+pub use end_edges::{
+    cap_at, input_edge, last_edges, load_column, numbers_of, output_edge, room_column,
+};
 pub use fault::StateFault;
 pub use judge::{admissible_steady, breaks, steady};
 pub use judgement::{FIRST_LAW, Judgement, LAST_LAW, LAST_TEST, TESTS, Test, WideSum};

@@ -4,7 +4,7 @@ mod line;
 mod list;
 
 ghost use Rattle.std.specs.Prelude.{◌≡◌, ◌<◌, ◌^◌, ℕ, List, IfOk, IfErr};
-ghost use Rattle.bt_answers.specs.Answers.{Answers};
+ghost use Rattle.bt_text.specs.Answers.{Answers};
 ghost use Rattle.bt_flow.specs.declared.fault.StateFault.TheVariants.{Memory};
 ghost use Rattle.bt_flow.specs.States.{Fractions};
 ghost use Rattle.bt_flow.specs.StateText.{IsStateText};

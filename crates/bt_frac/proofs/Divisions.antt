@@ -21,7 +21,7 @@ grouped x y m n = ap (λ t. x *ℤ t *ℤ y) (sym (pos-*ℤ-pos m n)) ∙ turned
     turned x y m n = simp products
 
 -- a times 1 over b is what times b is a
-pub divided_is : (a b i r : Ratio) → 0 < i.under → IsInverse b i → IsProduct a i r → IsDivision a b r
+divided_is : (a b i r : Ratio) → 0 < i.under → IsInverse b i → IsProduct a i r → IsDivision a b r
 divided_is a b i r some inverse product =
     mul_cancel (a.over *ℤ pos (r.under * b.under)) (r.over *ℤ b.over *ℤ pos a.under) i.under some
     (sym (split a.over r.under b.under i.under) ∙ ap (λ t. a.over *ℤ pos r.under *ℤ t) (sym inverse)
@@ -38,7 +38,7 @@ divided_is a b i r some inverse product =
     turned x m i y = simp products
 
 -- and what times b is a is a times 1 over b
-pub division_is : (a b i r : Ratio) → 0 < b.under → IsInverse b i → IsDivision a b r → IsProduct a i r
+division_is : (a b i r : Ratio) → 0 < b.under → IsInverse b i → IsDivision a b r → IsProduct a i r
 division_is a b i r some inverse division =
     mul_cancel (r.over *ℤ pos (a.under * i.under)) (a.over *ℤ i.over *ℤ pos r.under) b.under some
     (split r.over a.under i.under b.under ∙ ap (λ t. r.over *ℤ pos a.under *ℤ t) (sym inverse)

@@ -91,7 +91,7 @@ one_coprime m n e = subst (λ k. IsGcd k n 1) (sym e) (one-dvd 1, one-dvd n, λ 
 pub coprime_to_one : (m n : ℕ) → n ≡ 1 → IsGcd m n 1
 coprime_to_one m n e = subst (λ k. IsGcd m k 1) (sym e) (coprime_one m)
 
-pub abs_negated : (z : ℤ) → unsigned_abs (pos 0 -ℤ z) ≡ unsigned_abs z
+abs_negated : (z : ℤ) → unsigned_abs (pos 0 -ℤ z) ≡ unsigned_abs z
 abs_negated z = omega (arith, ints)
 
 -- a whole number

@@ -24,7 +24,7 @@ lt_from_mul x y n h =
     let l : (up x + down y) * n < (up y + down x) * n = omega (arith, ints) in
     omega (arith, ints, lt_of_mul-lt-mul_right n l)
 
-pub le_antisymm : (x y : ℤ) → x ≤ℤ y → y ≤ℤ x → x ≡ y
+le_antisymm : (x y : ℤ) → x ≤ℤ y → y ≤ℤ x → x ≡ y
 le_antisymm x y h k = omega (arith, ints)
 
 -- a positive factor is cancelled

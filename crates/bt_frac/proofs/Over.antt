@@ -87,7 +87,7 @@ over_scaled r w d k e =
     ap (λ t. r.over *ℤ t) (*ℤ_comm (pos k) (pos d)) ∙ sym (mul_assoc r.over (pos d) (pos k)) ∙ ap (λ t. t *ℤ pos k) e
     ∙ turn_last w (pos r.under) (pos k)
 
-pub are_over_scaled : (rs : List Ratio) (ws : List ℤ) (d k : ℕ) → AreOver rs ws d → AreOver rs (map (λ w. w *ℤ pos k) ws) (k * d)
+are_over_scaled : (rs : List Ratio) (ws : List ℤ) (d k : ℕ) → AreOver rs ws d → AreOver rs (map (λ w. w *ℤ pos k) ws) (k * d)
 are_over_scaled [] [] d k e = tt
 are_over_scaled [] (w ∷ ws) d k e = e
 are_over_scaled (r ∷ rs) [] d k e = e

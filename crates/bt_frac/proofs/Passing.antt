@@ -22,11 +22,11 @@ short_fits_signed z h = fits_signed_from_abs w128 z (omega arith)
 pub as_passed : (P : ℤ → Type 0) (z : ℤ) → FitsPart z → P z → P (to_z w128 (of_z w128 z))
 as_passed P z h p = subst P (sym (passed z h)) p
 
-pub as_got : (P : ℤ → Type 0) (z : ℤ) → FitsPart z → P (to_z w128 (of_z w128 z)) → P z
+as_got : (P : ℤ → Type 0) (z : ℤ) → FitsPart z → P (to_z w128 (of_z w128 z)) → P z
 as_got P z h p = subst P (passed z h) p
 
 -- an order of products is that of the fractions
-pub order_seen : (o : Ordering) (a b : Ratio) {a' b' : Ratio} → a ≡ a' → b ≡ b' → IsOrder o a b → IsOrder o a' b'
+order_seen : (o : Ordering) (a b : Ratio) {a' b' : Ratio} → a ≡ a' → b ≡ b' → IsOrder o a b → IsOrder o a' b'
 order_seen o a b {a'} {b'} ea eb p = subst (λ y. IsOrder o a' y) eb (subst (λ x. IsOrder o x b) ea p)
 
 pub order_passed : (o : Ordering) (a b : Ratio) {a' b' : Ratio} → FitsPart a.over → FitsPart b.over → a ≡ a' → b ≡ b'
@@ -74,10 +74,10 @@ module _ (x : ℤ) (n : ℕ) (fits : FitsSigned w128 x) (x_short : unsigned_abs 
   short_product_is = ap (λ t. to_z w128 (of_z w128 t)) short_product_passed ∙ passed (x *ℤ pos n) short_product_fits
 
 -- the least number of 128 bits is the one whose magnitude does not fit
-pub fits_above_least : (z : ℤ) → FitsSigned w128 z → (of_z w128 z ≡ 2 ^ 127 → ⊥) → FitsPart z
+fits_above_least : (z : ℤ) → FitsSigned w128 z → (of_z w128 z ≡ 2 ^ 127 → ⊥) → FitsPart z
 fits_above_least z h k = search rules
 
-pub not_least : (z : ℤ) → FitsPart z → of_z w128 z ≡ 2 ^ 127 → ⊥
+not_least : (z : ℤ) → FitsPart z → of_z w128 z ≡ 2 ^ 127 → ⊥
 not_least z h e = search rules
 
 pub product_passed : (x : ℤ) (n : ℕ) → FitsSigned w128 x → n < 2 ^ 127 → to_z w128 (of_z w128 x) *ℤ to_z w128 n ≡ x *ℤ pos n

@@ -41,7 +41,7 @@ apart a b m n d a_lowest both h = (
 )
 
 -- the sum over the least common denominator m * n * g shares with it only what it shares with g
-pub shares_common : (a b : ℤ) (m n g : ℕ) → IsGcd (unsigned_abs a) m 1 → IsGcd (unsigned_abs b) n 1 → IsGcd m n 1
+shares_common : (a b : ℤ) (m n g : ℕ) → IsGcd (unsigned_abs a) m 1 → IsGcd (unsigned_abs b) n 1 → IsGcd m n 1
     → (d : ℕ) → d ∣ unsigned_abs (a *ℤ pos n +ℤ b *ℤ pos m) → d ∣ m * g * n → d ∣ g
 shares_common a b m n g p q both d h k =
     let order : m * g * n ≡ m * (n * g) = omega arith in
@@ -80,7 +80,7 @@ same_is ao bo ro m n ru k same e f =
     subst (λ u. ro *ℤ pos (m * u) ≡ (ao *ℤ pos u +ℤ bo *ℤ pos m) *ℤ pos ru) same (same_by ao bo ro m ru k e f)
 
 -- some number is the greatest common divisor
-pub some_gcd : (a b : ℕ) → (g : ℕ) × IsGcd a b g
+some_gcd : (a b : ℕ) → (g : ℕ) × IsGcd a b g
 some_gcd a b = let found = common_of b a b (omega arith) in (found.common, (found.left, found.right, λ d p q. one_scaled a b found.common found.scaled d p q))
   where
     one_scaled : (a b g : ℕ) → ((d c : ℕ) → d ∣ a * c → d ∣ b * c → d ∣ g * c) → (d : ℕ) → d ∣ a → d ∣ b → d ∣ g
@@ -115,7 +115,7 @@ wholes_fit a b p q = short_fits a b (whole_short a p) (whole_short b q)
         below_short n e = omega arith
 
 -- the working numbers of an addition are the same wherever they are named, so a sum is not both wide and fitting
-pub fits_alike : (a b : Ratio) (m n : AddNumbers a b) → AddFits m → AddFits n
+fits_alike : (a b : Ratio) (m n : AddNumbers a b) → AddFits m → AddFits n
 fits_alike a b m n h =
     let common : m.common ≡ n.common = same_from_IsGcd a.under b.under m.common n.common m.is_common n.is_common in
     let left : m.left ≡ n.left = m.left_is ∙ ap (λ g. a.over *ℤ pos (b.under / g)) common ∙ sym n.left_is in

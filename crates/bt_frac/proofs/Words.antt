@@ -17,7 +17,7 @@ not_digit : (b : ℕ) → b < 48 → ¬ IsInRange 48 57 b
 not_digit b h r = omega arith
 
 -- a byte that a list lacks stands nowhere in it
-pub lacks_split : (byte : ℕ) (front back : List ℕ) → All (λ other. other ≢ byte) (front ++ byte ∷ back) → ⊥
+lacks_split : (byte : ℕ) (front back : List ℕ) → All (λ other. other ≢ byte) (front ++ byte ∷ back) → ⊥
 lacks_split byte [] back h = All-head (λ other. other ≢ byte) byte back h refl
 lacks_split byte (x ∷ front) back h = lacks_split byte front back (All-tail (λ other. other ≢ byte) x (front ++ byte ∷ back) h)
 
@@ -41,7 +41,7 @@ slash : ¬ IsInRange 48 57 47
 slash = not_digit 47 (lit< tt)
 
 -- a word is of one pair of numbers
-pub WordOf-unique : (word : List ℕ) (m n m' n' : ℕ) → WordOf word m n → WordOf word m' n' → (m ≡ m') × (n ≡ n')
+WordOf-unique : (word : List ℕ) (m n m' n' : ℕ) → WordOf word m n → WordOf word m' n' → (m ≡ m') × (n ≡ n')
 WordOf-unique word m n m' n' (inl p) (inl q) = (Spells-unique p.0 q.0, p.1 ∙ sym q.1)
 WordOf-unique word m n m' n' (inl p) (inr q) =
     absurd (lacks_split 47 q.0 q.1.0 (subst HasNoSlash q.1.1 (Spells-lacks word m 47 p.0 slash)))
@@ -52,7 +52,7 @@ WordOf-unique word m n m' n' (inr p) (inr q) =
     (Spells-unique (subst (λ w. Spells w m) both.0 p.1.2.0) q.1.2.0, Spells-unique (subst (λ w. Spells w n) both.1 p.1.2.1) q.1.2.1)
 
 -- the word of a fraction without its sign
-pub word_text : ℕ → ℕ → List ℕ
+word_text : ℕ → ℕ → List ℕ
 word_text m n = cond (n == 1) (decimal m) (decimal m ++ 47 ∷ decimal n)
 
 ne_test : (n : ℕ) → n ≢ 1 → (n == 1) ≡ false
@@ -71,12 +71,12 @@ word_at : (m n : ℕ) (t : Bool) → m < 2 ^ 127 → n < 2 ^ 127 → (n == 1) �
 word_at m n true h k e = inl (Spells-decimal m (wide m h), eq_test n e)
 word_at m n false h k e = inr (decimal m, (decimal n, refl, (Spells-decimal m (wide m h), Spells-decimal n (wide n k), not_eq_test n e)))
 
-pub WordOf-text : (m n : ℕ) → m < 2 ^ 127 → n < 2 ^ 127 → WordOf (word_text m n) m n
+WordOf-text : (m n : ℕ) → m < 2 ^ 127 → n < 2 ^ 127 → WordOf (word_text m n) m n
 unfolding word_text
 WordOf-text m n h k = word_at m n (n == 1) h k refl
 
 -- a word of small numbers is their text
-pub WordOf-is : (word : List ℕ) (m n : ℕ) → m < 2 ^ 127 → n < 2 ^ 127 → WordOf word m n → word ≡ word_text m n
+WordOf-is : (word : List ℕ) (m n : ℕ) → m < 2 ^ 127 → n < 2 ^ 127 → WordOf word m n → word ≡ word_text m n
 unfolding word_text
 WordOf-is word m n h k (inl p) = decimal-from_spells word m p.0 (wide m h) ∙ sym (ap (λ j. word_text m j) p.1)
 WordOf-is word m n h k (inr p) =
@@ -100,7 +100,7 @@ signed_at : (k n : ℕ) (t : Bool) → cond t (45 ∷ decimal (suc k)) ((45 ∷ 
 signed_at k n true = refl
 signed_at k n false = refl
 
-pub parts_text : (negative : Bool) (m n : ℕ) → (IsTrue negative → 0 < m) → frac_text (parts_ratio negative m n) ≡ cond negative (45 ∷ word_text m n) (word_text m n)
+parts_text : (negative : Bool) (m n : ℕ) → (IsTrue negative → 0 < m) → frac_text (parts_ratio negative m n) ≡ cond negative (45 ∷ word_text m n) (word_text m n)
 unfolding word_text
 parts_text false m n some = refl
 parts_text true zero n some = let h : 0 < 0 = some refl in absurd (omega arith)
@@ -184,7 +184,7 @@ around word front back m n s (inr p) =
     (subst (λ w. Spells w m) both.0 p.1.2.0, subst (λ w. Spells w n) both.1 p.1.2.1, p.1.2.2)
 
 -- a word with a slash is of no numbers where its two sides are not
-pub no_word_around : (word front back : List ℕ) → IsCutAtSlash word front back → ((m n : ℕ) → AroundSlash front back m n → ⊥) → (m n : ℕ) → WordOf word m n → ⊥
+no_word_around : (word front back : List ℕ) → IsCutAtSlash word front back → ((m n : ℕ) → AroundSlash front back m n → ⊥) → (m n : ℕ) → WordOf word m n → ⊥
 no_word_around word front back s none m n w = none m n (around word front back m n s w)
 
 pub none_around : (word front back : List ℕ) (o : Option (ℕ × ℕ)) → IsCutAtSlash word front back → IfNone o ((m n : ℕ) → AroundSlash front back m n → ⊥) → IfNone o ((m n : ℕ) → WordOf word m n → ⊥)

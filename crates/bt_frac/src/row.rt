@@ -4,20 +4,10 @@ ghost use Rattle.std.specs.Prelude.{◌≡◌, IfOk};
 ghost use Rattle.bt_frac.specs.Rows.{RowParts, IsRow, IsRowOf};
 
 use crate::frac::{Frac, have_columns};
+use crate::relation::Relation;
 use crate::stored_row::StoredRow;
 use std::alloc::{AllocError, Global};
 use std::marker::Model;
-
-/// How the sum of a row stands to its bound.
-#[derive(Clone, Copy, PartialEq, Eq)]
-pub enum Relation {
-    /// The sum is at least the bound.
-    AtLeast,
-    /// The sum is greater than the bound.
-    Above,
-    /// The sum equals the bound.
-    Equal,
-}
 
 /// A sum of columns, each times its coefficient, and how it stands to a bound. The columns ascend
 /// strictly and are below `usize::MAX`, so that there is a column after the last.

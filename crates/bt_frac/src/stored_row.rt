@@ -3,7 +3,7 @@ ghost use Rattle.std.specs.Prelude.{◌≡◌, IfOk};
 ghost use Rattle.bt_frac.specs.inner.KeptRows.{parts_of};
 
 use crate::frac::Frac;
-use crate::row::Relation;
+use crate::relation::Relation;
 use std::alloc::{AllocError, Global};
 
 /// The parts of a row. Most rows have one or two terms and a whole number as their bound: these need no block of memory,

@@ -7,3 +7,13 @@ pub mod TwoFlows
 pub mod Placed
 pub mod Stages
 pub mod Balanced
+pub mod Put
+pub mod Replaced
+pub mod Moved
+pub mod Cut
+pub mod Steady
+pub mod Sums
+pub mod Kept
+pub mod WishWords
+pub mod WishReadings
+pub mod OneWish

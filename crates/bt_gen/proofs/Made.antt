@@ -1,8 +1,8 @@
 -- One answer is right to an order.
 use Rattle.std.proofs.Common.{ℕ, sym, ◌∙◌, ap}
 use Rattle.std.specs.Prelude.{Result, Ok, Err}
-use Rattle.bt_answers.specs.Answers.{UnlessMemory, Answers, HasOneAnswer}
-use Rattle.bt_answers.proofs.OneAnswer.{answers_of}
+use Rattle.bt_text.specs.Answers.{UnlessMemory, Answers, HasOneAnswer}
+use Rattle.bt_text.proofs.OneAnswer.{answers_of}
 use Rattle.bt_net.specs.Network.{Network}
 use Rattle.bt_gen.specs.declared.fault.GenFault.{GenFault}
 use Rattle.bt_gen.specs.declared.fault.GenFault.TheVariants.{Order, Memory}

@@ -1,6 +1,6 @@
 //! Butterflies: stages in which each splitter joins two lines that lie a power of two apart.
 ghost use Rattle.std.specs.Prelude.{◌≡◌, ◌↔◌, ◌^◌, ◌*◌, ◌+◌, ◌<◌, ◌≤◌, ◌++◌, ℕ, IfOk, OnOk};
-ghost use Rattle.bt_answers.specs.Answers.{Answers};
+ghost use Rattle.bt_text.specs.Answers.{Answers};
 ghost use Rattle.bt_flow.specs.declared.property.Property.TheVariants.{Balanced};
 ghost use Rattle.bt_flow.specs.Properties.{Holds};
 ghost use Rattle.bt_gen.specs.Butterfly.{number, lesser_line, greater_line, HasLine, place_with_line};

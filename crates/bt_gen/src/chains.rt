@@ -1,6 +1,6 @@
 //! Chains: splitters in a row, each of which gives one output and goes on to the next.
 ghost use Rattle.std.specs.Prelude.{◌≡◌, ◌<◌, ◌++◌, IfOk};
-ghost use Rattle.bt_answers.specs.Answers.{Answers};
+ghost use Rattle.bt_text.specs.Answers.{Answers};
 ghost use Rattle.bt_gen.specs.Chain.{goes_on_to, chain_edges, chain_net};
 ghost use Rattle.bt_gen.specs.Orders.{IsOrder, IsGenerated};
 

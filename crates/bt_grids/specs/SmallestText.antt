@@ -2,11 +2,11 @@
 use Rattle.std.specs.Prelude.{ℕ, List, [], ◌++◌, Option, Some, None, codes, decimal, length}
 use Rattle.std.specs.List.{flat_map}
 use Rattle.bt_text.specs.Lines.{line}
-use Rattle.bt_hands.specs.declared.hand.Priority.{Priority}
+use Rattle.bt_parts.specs.declared.hand.Priority.{Priority}
 use Rattle.bt_parts.specs.declared.part.Rect.{Rect}
 use Rattle.bt_log.specs.Logs.{Step}
 use Rattle.bt_log.specs.LogText.{log_text}
-use Rattle.bt_write.specs.Written.{blueprint_text}
+use Rattle.bt_entities.specs.Written.{blueprint_text}
 use Rattle.bt_grids.specs.declared.outcome.RuledOut.{RuledOut}
 use Rattle.bt_grids.specs.declared.outcome.Small.{Small}
 use Rattle.bt_grids.specs.declared.outcome.Small.TheVariants as small

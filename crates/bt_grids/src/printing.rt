@@ -7,10 +7,9 @@ ghost use Rattle.bt_grids.specs.SmallestText.{least_text, rect_line, ruled_out_t
 ghost use Rattle.bt_grids.specs.SmallestText.{blueprint_of_small, found_none_text, small_text};
 
 use crate::outcome::{RuledOut, Small, Smallest};
-use bt_hands::Priority;
 use bt_io::{Sink, WriteFault, write_all_of, write_pieces};
 use bt_log::Log;
-use bt_parts::Rect;
+use bt_parts::{Priority, Rect};
 use itoa::Buffer;
 use std::alloc::{AllocError, Global};
 
@@ -23,7 +22,7 @@ pub fn blueprint_of(
     ensures { IfOk result (λ text. text.items ≡ blueprint_of answer.now priorities.now) }
 {
     match answer {
-        Smallest::Found { parts, .. } => bt_write::text_of(alloc, parts, priorities),
+        Smallest::Found { parts, .. } => bt_entities::text_of(alloc, parts, priorities),
         Smallest::Nowhere(_) | Smallest::Spent { .. } => Ok(Vec::new(alloc)),
     }
 }
@@ -77,7 +76,7 @@ pub fn blueprint_of_small(
     ensures { IfOk result (λ text. text.items ≡ blueprint_of_small small.now priorities.now) }
 {
     match small {
-        Small::Found { parts, .. } => bt_write::text_of(alloc, parts, priorities),
+        Small::Found { parts, .. } => bt_entities::text_of(alloc, parts, priorities),
         Small::Spent(_) => Ok(Vec::new(alloc)),
     }
 }

@@ -2,7 +2,7 @@
 ghost use Rattle.std.specs.Prelude.{◌≡◌, ◌≤◌, ◌↔◌, alloc_error, IfOk, IsErr, OnErr, Some};
 ghost use Rattle.std.specs.Io.{WritesAtMost};
 ghost use Rattle.std.specs.Io.KnownBytes.{WriteAppends};
-ghost use Rattle.bt_answers.specs.Answers.{Answers};
+ghost use Rattle.bt_text.specs.Answers.{Answers};
 ghost use Rattle.bt_io.specs.Bytes.{TakesSome};
 ghost use Rattle.bt_io.specs.Causes.{HasCause};
 ghost use Rattle.bt_io.specs.InMemory.{RefusesPiece, count_taken, after_taking, after_failed_write};

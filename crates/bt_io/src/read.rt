@@ -1,6 +1,6 @@
 //! Reading a source to its end, block by block.
 ghost use Rattle.std.specs.Prelude.{◌≢◌, ◌+◌, ◌^◌, ◌<◌, ◌≤◌, IfErr, length, vec_items};
-ghost use Rattle.bt_answers.specs.Answers.{seen};
+ghost use Rattle.bt_text.specs.Answers.{seen};
 ghost use Rattle.bt_io.specs.Blocks.{Drains, ReadsOn};
 ghost use Rattle.bt_io.specs.Bytes.{ReadsAll};
 ghost use Rattle.bt_io.specs.Passages.{passage};

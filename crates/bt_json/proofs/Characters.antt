@@ -14,7 +14,7 @@ pub record IsWide (bytes : List ℕ) : Type 0 where
   pub wide : 128 ≤ char
   pub spelled : encode_utf8 char ≡ bytes
 
-pub two_from : (a low top : ℕ) → lead_of a ≡ Some (tail low top 0) → (194 ≤ a) × (a ≤ 223) × (low ≡ 128) × (top ≡ 191)
+two_from : (a low top : ℕ) → lead_of a ≡ Some (tail low top 0) → (194 ≤ a) × (a ≤ 223) × (low ≡ 128) × (top ≡ 191)
 unfolding lead_of
 two_from a low top e = grind (arith, nat_tests)
 
@@ -26,7 +26,7 @@ pub record Three (a b : ℕ) : Type 0 where
   pub long : a ≡ 224 → 160 ≤ b
   pub no_surrogate : a ≡ 237 → b ≤ 159
 
-pub three_from : (a b low top : ℕ) → lead_of a ≡ Some (tail low top 1) → low ≤ b → b ≤ top → Three a b
+three_from : (a b low top : ℕ) → lead_of a ≡ Some (tail low top 1) → low ≤ b → b ≤ top → Three a b
 unfolding lead_of
 three_from a b low top e l t = record {
   lead = grind (arith, nat_tests);
@@ -45,7 +45,7 @@ pub record Four (a b : ℕ) : Type 0 where
   pub long : a ≡ 240 → 144 ≤ b
   pub last : a ≡ 244 → b ≤ 143
 
-pub four_from : (a b low top : ℕ) → lead_of a ≡ Some (tail low top 2) → low ≤ b → b ≤ top → Four a b
+four_from : (a b low top : ℕ) → lead_of a ≡ Some (tail low top 2) → low ≤ b → b ≤ top → Four a b
 unfolding lead_of
 four_from a b low top e l t = record {
   lead = grind (arith, nat_tests);
@@ -75,7 +75,7 @@ encode_four c lo = let l : 128 ≤ c = omega arith in let m : 2048 ≤ c = omega
 pub scalar_low : (c : ℕ) → c < 55296 → IsScalar c
 scalar_low c h = low_scalar c h
 
-pub scalar_high : (c : ℕ) → 57344 ≤ c → c < 1114112 → IsScalar c
+scalar_high : (c : ℕ) → 57344 ≤ c → c < 1114112 → IsScalar c
 scalar_high c lo hi = grind (arith, nat_tests)
 
 pub two_bytes : (a b low top : ℕ) → lead_of a ≡ Some (tail low top 0) → low ≤ b → b ≤ top → IsWide (a ∷ b ∷ [])

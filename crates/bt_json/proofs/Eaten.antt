@@ -224,13 +224,13 @@ first_member : (strict : Bool) (depth : ℕ) (names : List (List ℕ)) (n : List
 first_member true depth names n v rest a = (new_name names n a.1.0, (let h = a.0 in omega arith, a.1.1), (let h = a.0 in omega arith, a.1.2))
 first_member false depth names n v rest a = (refl, tt, tt)
 
-pub opens_allowed : (strict : Bool) (k : List Frame) (at depth : ℕ) (inside : State) (v : Json) → Allowed strict (length k) v → depth_of v ≡ suc depth → opens_level strict k at inside ≡ go inside
+opens_allowed : (strict : Bool) (k : List Frame) (at depth : ℕ) (inside : State) (v : Json) → Allowed strict (length k) v → depth_of v ≡ suc depth → opens_level strict k at inside ≡ go inside
 opens_allowed true k at depth inside v a e = let h = a.0 in let t : (length k == MOST_LEVELS) ≡ false = grind (arith, nat_tests) in ap (λ b. cond b (stop (deep at)) (go inside)) t
 opens_allowed false k at depth inside v a e = refl
 
 -- ---- values
 
-abbrev pub items_list : Items → List Json
+abbrev items_list : Items → List Json
 items_list no_items = []
 items_list (item v rest) = v ∷ items_list rest
 
@@ -238,7 +238,7 @@ abbrev pub names_in : Members → List (List ℕ)
 names_in no_members = []
 names_in (member n v rest) = n ∷ names_in rest
 
-abbrev pub values_in : Members → List Json
+abbrev values_in : Members → List Json
 values_in no_members = []
 values_in (member n v rest) = v ∷ values_in rest
 

@@ -64,7 +64,7 @@ eats_mark strict phase p n m k b mark e f = eats_byte strict (in_number phase n 
 
 -- ---- digits
 
-abbrev pub fold_digits : (Numeral → ℕ → Numeral) → Numeral → List ℕ → Numeral
+abbrev fold_digits : (Numeral → ℕ → Numeral) → Numeral → List ℕ → Numeral
 fold_digits add n [] = n
 fold_digits add n (d ∷ ds) = fold_digits add (add n d) ds
 
@@ -173,7 +173,7 @@ eats_fraction strict k p n (d ∷ ds) t a f = record {
       eats_same strict (in_number p n k) _ t _ Anything same (subst (λ m. Eats strict (in_number p n k) ((46 ∷ []) ++ map (λ x. x + 48) (d ∷ ds)) (λ x. go (in_number InFraction m k)) Anything) (fraction_is (d ∷ ds) n) both);
 }
 
-abbrev pub MayEnd : Phase → Type 0
+abbrev MayEnd : Phase → Type 0
 MayEnd p = may_end p ≡ true
 
 -- the digits of an exponent, behind its letter or its sign
@@ -227,7 +227,7 @@ eats_exponent strict k p n below (d ∷ ds) t plain zero_power a x = record {
 
 -- ---- the end of a number
 
-pub number_ends_before : (strict : Bool) (p : Phase) (n : Numeral) (m : Number) (k : List Frame) → may_end p ≡ true → Eats strict (in_number p n k) [] (deliver (number (numeral_value n)) k) (EndsBefore (number m))
+number_ends_before : (strict : Bool) (p : Phase) (n : Numeral) (m : Number) (k : List Frame) → may_end p ≡ true → Eats strict (in_number p n k) [] (deliver (number (numeral_value n)) k) (EndsBefore (number m))
 unfolding step walk
 number_ends_before strict p n m k may = record { eats = λ at rest h. (let e : at ≡ at + 0 = omega arith in ended k at rest h ∙ ap (λ x. after strict x (deliver (number (numeral_value n)) k x) rest) e) }
   where

@@ -243,7 +243,7 @@ pub flushed_is : (out : List ℕ) (high : Option ℕ) → flushed out high ≡ o
 flushed_is out None = sym (append-nil out)
 flushed_is out (Some h) = refl
 
-pub eats_pieces : (strict : Bool) (role : Role) (k : List Frame) (out : List ℕ) (high : Option ℕ) (ps : List Piece) (t : List ℕ) → Waits high → Pieces ps t → Through strict role k out high ps t
+eats_pieces : (strict : Bool) (role : Role) (k : List Frame) (out : List ℕ) (high : Option ℕ) (ps : List Piece) (t : List ℕ) → Waits high → Pieces ps t → Through strict role k out high ps t
 eats_pieces strict role k out high [] t w e = record { new = out; new_high = high; eaten = eats_same strict _ [] t _ Anything (sym e) (eats_none strict (in_text out high between role k)); same = flushed_is out high }
 eats_pieces strict role k out high (plain c ∷ ps) t w p =
     let f = p.first in

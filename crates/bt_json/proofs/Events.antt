@@ -25,7 +25,7 @@ use Rattle.bt_json.specs.declared.limits.TheConstants.{MOST_LEVELS}
 
 -- ---- a bad byte
 
-pub is_bad : (bytes : List ℕ) (n : ℕ) → reading bytes ≡ bad n → IsBad bytes n
+is_bad : (bytes : List ℕ) (n : ℕ) → reading bytes ≡ bad n → IsBad bytes n
 is_bad bytes n e = by (bad_cut bytes 0 (due []) n e)
   where
     clash : (v : Json) (m : ℕ) (x : Stop) → x ≡ found v m → x ≡ bad n → ⊥
@@ -239,7 +239,7 @@ twice_stops bytes from close t =
 
 -- ---- any fault
 
-pub fault_stops : (bytes : List ℕ) (f : JsonFault) (place : ℕ) → FoundAt bytes f place → Stopped (reading bytes) f place
+fault_stops : (bytes : List ℕ) (f : JsonFault) (place : ℕ) → FoundAt bytes f place → Stopped (reading bytes) f place
 fault_stops bytes (faults.Json at) place h = subst (λ m. Stopped (reading bytes) (faults.Json at) m) (sym h.0) (bad_stops bytes at h.1)
 fault_stops bytes (faults.Deep at) place h = subst (λ m. Stopped (reading bytes) (faults.Deep at) m) (sym h.0) (deep_stops bytes at h.1)
 fault_stops bytes (faults.DuplicateKey at) place h = twice_stops bytes at place h

@@ -69,7 +69,7 @@ name_due_blank b names vs k t e h = (h.0, extend (b ∷ []) t (λ u. extend (b �
 
 -- ---- lists
 
-abbrev pub ListRest : Items → Texts
+abbrev ListRest : Items → Texts
 ListRest no_items t = ⊥
 ListRest (item v rest) t = (Blanks ▸ IsValue v ▸ MoreItems rest) t
 
@@ -102,7 +102,7 @@ empty_list_closed k t j = extend (93 ∷ []) t (λ u. behind_both (93 ∷ []) u 
 
 -- ---- objects
 
-abbrev pub ObjectRest : Members → Texts
+abbrev ObjectRest : Members → Texts
 ObjectRest no_members t = ⊥
 ObjectRest (member n v rest) t = (Blanks ▸ IsText n ▸ Blanks ▸ Byte 58 ▸ Blanks ▸ IsValue v ▸ MoreMembers rest) t
 

@@ -18,7 +18,7 @@ use Rattle.bt_json.specs.declared.limits.TheConstants.{MOST_LEVELS}
 
 -- ---- names
 
-abbrev pub NewNames : List (List ℕ) → List (List ℕ) → Type 0
+abbrev NewNames : List (List ℕ) → List (List ℕ) → Type 0
 NewNames before [] = Unit {0}
 NewNames before (n ∷ names) = (Contains before n → ⊥) × NewNames (before ++ n ∷ []) names
 
@@ -43,7 +43,7 @@ new_push before (m ∷ names) n h none = (h.0, new_push (before ++ m ∷ []) nam
 
 -- ---- values in an open list or object
 
-abbrev pub AllAllowed : ℕ → List Json → Type 0
+abbrev AllAllowed : ℕ → List Json → Type 0
 AllAllowed depth [] = Unit {0}
 AllAllowed depth (v ∷ vs) = Allowed true depth v × AllAllowed depth vs
 
@@ -60,21 +60,21 @@ members_allowed depth before [] vs le n h = (omega arith, tt)
 members_allowed depth before (m ∷ names) [] le n h = (omega arith, tt)
 members_allowed depth before (m ∷ names) (v ∷ vs) le n h = let rest = members_allowed depth (before ++ m ∷ []) names vs le n.1 h.1 in let a = h.0.0 in let b = rest.0 in (omega arith, (n.0, h.0.1, rest.1))
 
-abbrev pub FrameFits : ℕ → Frame → Type 0
+abbrev FrameFits : ℕ → Frame → Type 0
 FrameFits depth (in_list vs) = AllAllowed depth vs
 FrameFits depth (in_object names vs) = NewNames [] names × AllAllowed depth vs
 
-abbrev pub FramesFit : List Frame → Type 0
+abbrev FramesFit : List Frame → Type 0
 FramesFit [] = Unit {0}
 FramesFit (f ∷ k) = FrameFits (length (f ∷ k)) f × FramesFit k
 
 abbrev pub Fits : List Frame → Type 0
 Fits k = (length k ≤ MOST_LEVELS) × FramesFit k
 
-abbrev pub ObjectFits : List (List ℕ) → List Json → List Frame → Type 0
+abbrev ObjectFits : List (List ℕ) → List Json → List Frame → Type 0
 ObjectFits names vs k = Fits k × (length k < MOST_LEVELS) × NewNames [] names × AllAllowed (suc (length k)) vs
 
-abbrev pub IsLeaf : Json → Type 0
+abbrev IsLeaf : Json → Type 0
 IsLeaf v = (depth_of v ≡ 0) × HasDistinctNames v
 
 abbrev pub Kept : State → Type 0

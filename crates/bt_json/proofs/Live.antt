@@ -117,7 +117,7 @@ live_number InPower n k = live_ended InPower n k refl
 
 -- ---- any state
 
-pub live : (s : State) (p : List ℕ) → Reached s p → Live s
+live : (s : State) (p : List ℕ) → Reached s p → Live s
 live (due k) p h = live_due k
 live (opened_list k) p h = live_delivered k (opened_list k) (93 ∷ []) (list no_items) (empty_list false k)
 live (behind v f k) p h = live_delivered (f ∷ k) (behind v f k) [] v (eats_next false (behind v f k) [] (λ n. go (behind v f k)) (deliver v (f ∷ k)) Anything (λ n. refl) (eats_none false (behind v f k)))

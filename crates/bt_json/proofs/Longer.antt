@@ -25,7 +25,7 @@ value_stays bytes more v after ends read =
     }
 
 -- reading ends in a fault, which isn't that the bytes end at this place
-abbrev pub IsFaultBefore : ℕ → Stop → Type 0
+abbrev IsFaultBefore : ℕ → Stop → Type 0
 IsFaultBefore end (found v n) = ⊥
 IsFaultBefore end (bad n) = n ≢ end
 IsFaultBefore end (deep n) = Unit {0}
@@ -43,7 +43,7 @@ finish_ends at (in_number phase n k) h = number_ends at n k (may_end phase) h
 finish_ends at s h = h refl
 
 -- a fault before the end comes before any bytes that follow
-pub run_stays : (strict : Bool) (bytes more : List ℕ) (at end : ℕ) (s : State) → end ≡ at + length bytes → IsFaultBefore end (run strict at s bytes)
+run_stays : (strict : Bool) (bytes more : List ℕ) (at end : ℕ) (s : State) → end ≡ at + length bytes → IsFaultBefore end (run strict at s bytes)
     → run strict at s (bytes ++ more) ≡ run strict at s bytes
 unfolding run
 run_stays strict [] more at end s e h = absurd (finish_ends at s (subst (λ x. IsFaultBefore x (finish at s)) (let same : end ≡ at = omega (arith, e) in same) h))

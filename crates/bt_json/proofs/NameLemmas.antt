@@ -39,7 +39,7 @@ first_there (k ∷ keys) (suc i) d lt distinct =
     ap (λ b. b || has_name (take i (map string_bytes keys)) (string_bytes (get_or keys i d))) apart ∙ first_there keys i d (omega arith) distinct.1
 
 -- the first names and the next one
-pub front_next : (keys : List (String Global)) (i : ℕ) (d : String Global) → i < length keys
+front_next : (keys : List (String Global)) (i : ℕ) (d : String Global) → i < length keys
     → take (i + 1) (map string_bytes keys) ≡ take i (map string_bytes keys) ++ string_bytes (get_or keys i d) ∷ []
 front_next keys i d lt = take-map string_bytes (i + 1) keys ∙ map_more string_bytes keys i d lt ∙ ap (λ ns. ns ++ string_bytes (get_or keys i d) ∷ []) (sym (take-map string_bytes i keys))
 

@@ -1,8 +1,8 @@
 -- A text has one right answer: how reading it byte by byte ends.
 use Rattle.std.proofs.Common.{◌≡◌, ℕ, true, List, [], refl, sym, ap, subst, ◌∙◌, arith, inl, inr}
 use Rattle.std.specs.Prelude.{Result, Ok, Err}
-use Rattle.bt_answers.specs.Answers.{seen, UnlessMemory, Answers, HasOneAnswer}
-use Rattle.bt_answers.proofs.OneAnswer.{answers_of}
+use Rattle.bt_text.specs.Answers.{seen, UnlessMemory, Answers, HasOneAnswer}
+use Rattle.bt_text.proofs.OneAnswer.{answers_of}
 use Rattle.bt_json.specs.Json.{Json}
 use Rattle.bt_json.specs.Stands.{value_and_place}
 use Rattle.bt_json.specs.inner.Nested.{ReadsValue}
@@ -17,7 +17,7 @@ use Rattle.bt_json.proofs.Lenient.{StopsBy}
 use Rattle.bt_json.proofs.Events.{stops_first, first_stops}
 
 -- how reading ends is a right answer
-pub end_is_right : (bytes : List ℕ) (e : Stop) → reading bytes ≡ e → IsRead bytes (ends_as e)
+end_is_right : (bytes : List ℕ) (e : Stop) → reading bytes ≡ e → IsRead bytes (ends_as e)
 end_is_right bytes (found v n) e =
     let allowed = found_allowed bytes v n e in
     record { front = subst (Right bytes) e (reading_right true bytes); shallow = omega (arith, allowed.0); distinct = allowed.1 }

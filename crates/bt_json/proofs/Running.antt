@@ -16,7 +16,7 @@ pub run_more : (strict : Bool) (at : ℕ) (s : State) (bytes : List ℕ) → at 
 unfolding run
 run_more strict at s bytes lt = rw (drop-cons bytes at 0, add-one) refl
 
-pub run_end : (strict : Bool) (at : ℕ) (s : State) (bytes : List ℕ) → length bytes ≤ at → run strict at s (drop at bytes) ≡ finish at s
+run_end : (strict : Bool) (at : ℕ) (s : State) (bytes : List ℕ) → length bytes ≤ at → run strict at s (drop at bytes) ≡ finish at s
 unfolding run
 run_end strict at s bytes le = rw (drop_all at bytes le) refl
 

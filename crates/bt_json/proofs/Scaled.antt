@@ -5,7 +5,7 @@ use Rattle.bt_json.specs.Value.{IsScaled, signed}
 use Rattle.bt_json.proofs.Digits.{pow_positive}
 use Rattle.std.proofs.Math.Nat.{mul-le-mul_left, le_of_mul-le-mul_right}
 
-pub scaled_up : (m n : ℕ) (z : ℤ) → pos 0 ≤ℤ z → IsScaled m n z → m ≡ n * 10 ^ unsigned_abs z
+scaled_up : (m n : ℕ) (z : ℤ) → pos 0 ≤ℤ z → IsScaled m n z → m ≡ n * 10 ^ unsigned_abs z
 scaled_up m n (pos k) h e = e
 scaled_up m n (negsuc k) h e = absurd (omega arith)
 

@@ -60,10 +60,10 @@ mark_is b = by (mark_of b) refl
 
 -- ---- numbers as far as they are written
 
-abbrev pub WholePart : Bool → List ℕ → Texts
+abbrev WholePart : Bool → List ℕ → Texts
 WholePart negative ds = Sign negative ▸ Whole ds
 
-abbrev pub with_fractions : Bool → List ℕ → List ℕ → Numeral
+abbrev with_fractions : Bool → List ℕ → List ℕ → Numeral
 with_fractions negative ds fs = record { negative = negative; digits = ds ++ fs; places = length fs; below = false; power = 0 }
 
 pub record InWholePart (n : Numeral) (t : List ℕ) : Type 0 where
@@ -147,7 +147,7 @@ power_push ds d = rw (number_push 10 ds d) (omega arith)
 no_fraction : (negative : Bool) (ds t : List ℕ) → WholePart negative ds t → (Sign negative ▸ (Whole ds ▸ (Fraction [] ▸ Exponent false []))) t
 no_fraction negative ds t w = second_as t (λ u b. and_nothing u (and_nothing [] (refl, refl) refl) b) w
 
-pub whole_number : (negative : Bool) (ds t : List ℕ) → WholePart negative ds t → IsNumber (numeral_value (numeral negative ds)) t
+whole_number : (negative : Bool) (ds t : List ℕ) → WholePart negative ds t → IsNumber (numeral_value (numeral negative ds)) t
 whole_number negative ds t w = record { whole = ds; fraction = []; below = false; power = []; spelled = no_fraction negative ds t w; digits = sym (append-nil ds); exponent = refl }
 
 fraction_number : (negative : Bool) (ds : List ℕ) (f : ℕ) (fs t : List ℕ) → (WholePart negative ds ▸ (Byte 46 ▸ Digits (f ∷ fs))) t → IsNumber (numeral_value (with_fractions negative ds (f ∷ fs))) t

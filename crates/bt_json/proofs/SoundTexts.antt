@@ -32,7 +32,7 @@ pub record IsPlainText (bytes : List ℕ) : Type 0 where
   pub is_piece : IsPiece (plain char) bytes
 
 -- these bytes become such a character
-abbrev pub Completes : ℕ → ℕ → ℕ → Texts
+abbrev Completes : ℕ → ℕ → ℕ → Texts
 Completes low top zero part = (b : ℕ) → low ≤ b → b ≤ top → IsPlainText (part ++ b ∷ [])
 Completes low top (suc more) part = (b : ℕ) → low ≤ b → b ≤ top → Completes 128 191 more (part ++ b ∷ [])
 
@@ -48,11 +48,11 @@ pub record InCharacter (out : List ℕ) (low top more : ℕ) (t : List ℕ) : Ty
   pub some : low ≤ top
 
 -- the digits of an escape so far
-abbrev pub hex_value : ℕ → List ℕ → ℕ
+abbrev hex_value : ℕ → List ℕ → ℕ
 hex_value u [] = u
 hex_value u (d ∷ ds) = hex_value (u * 16 + digit_value d) ds
 
-abbrev pub AreHex : List ℕ → Type 0
+abbrev AreHex : List ℕ → Type 0
 AreHex [] = Unit {0}
 AreHex (d ∷ ds) = (is_digit d 16 ≡ true) × AreHex ds
 
@@ -90,7 +90,7 @@ plain_put out high c t u b p = record {
 }
 
 -- after a unit
-abbrev pub UnitLeft : List ℕ → InText → Type 0
+abbrev UnitLeft : List ℕ → InText → Type 0
 UnitLeft t (reads out high place) = (place ≡ between) × Between out high t
 UnitLeft t (closes bytes) = ⊥
 UnitLeft t no_text = ⊥

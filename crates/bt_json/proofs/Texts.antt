@@ -27,7 +27,7 @@ chosen true x y at t p q = p
 chosen false x y at t p q = q
 
 -- a unit goes on alike wherever it stands
-pub unit_anywhere : (at : ℕ) (t : Around) (out : List ℕ) (high : Option ℕ) (u : ℕ) → step_within at t (with_unit out high u) ≡ step_within 0 t (with_unit out high u)
+unit_anywhere : (at : ℕ) (t : Around) (out : List ℕ) (high : Option ℕ) (u : ℕ) → step_within at t (with_unit out high u) ≡ step_within 0 t (with_unit out high u)
 unit_anywhere at t out None u = chosen (is_high_surrogate u) _ _ at t refl refl
 unit_anywhere at t out (Some h) u = chosen (is_low_surrogate u) _ _ at t refl (chosen (is_high_surrogate u) _ _ at t refl refl)
 
@@ -35,7 +35,7 @@ hex_anywhere : (at : ℕ) (t : Around) (out : List ℕ) (high : Option ℕ) (lef
 hex_anywhere at t out high zero u = unit_anywhere at t out high u
 hex_anywhere at t out high (suc left) u = refl
 
-pub hex_goes_on : (bytes : List ℕ) (at : ℕ) (t : Around) (left u : ℕ) → at < length bytes → is_digit (get_or bytes at 0) 16 ≡ true
+hex_goes_on : (bytes : List ℕ) (at : ℕ) (t : Around) (left u : ℕ) → at < length bytes → is_digit (get_or bytes at 0) 16 ≡ true
     → rest_of bytes at (within t (hex left u)) ≡ rest_after bytes (at + 1) (step_within 0 t (step_hex t.out t.high left (u * 16 + digit_value (get_or bytes at 0))))
 unfolding step
 hex_goes_on bytes at t left u lt e =
@@ -54,7 +54,7 @@ pub text_cut : (bytes : List ℕ) (at : ℕ) (t : Around) (place : Place) → le
 text_cut bytes at t place le = rest_end bytes at (within t place) le
 
 -- while digits are left, the step is a place before one
-pub hex_left : (out : List ℕ) (high : Option ℕ) (i u : ℕ) → i < 4 → step_hex out high (4 - i) u ≡ reads out high (hex (3 - i) u)
+hex_left : (out : List ℕ) (high : Option ℕ) (i u : ℕ) → i < 4 → step_hex out high (4 - i) u ≡ reads out high (hex (3 - i) u)
 hex_left out high i u lt = let e : 4 - i ≡ suc (3 - i) = omega arith in rw e refl
 
 -- a loop over the four digits: before one, and behind it
@@ -101,10 +101,10 @@ lead_breaks bytes at t lt wide e =
     ∙ ap (λ p. rest_after bytes (at + 1) (step_within at t (step_lead (flushed t.out t.high) (get_or bytes at 0) p))) (sym e)
 
 -- one byte more
-abbrev pub with_byte : Around → ℕ → Around
+abbrev with_byte : Around → ℕ → Around
 with_byte t b = record t { out = t.out ++ b ∷ [] }
 
-pub tail_goes_on : (bytes : List ℕ) (at : ℕ) (t : Around) (low top more : ℕ) → at < length bytes → low ≤ get_or bytes at 0 → get_or bytes at 0 ≤ top
+tail_goes_on : (bytes : List ℕ) (at : ℕ) (t : Around) (low top more : ℕ) → at < length bytes → low ≤ get_or bytes at 0 → get_or bytes at 0 ≤ top
     → rest_of bytes at (within t (tail low top more)) ≡ rest_of bytes (at + 1) (within (with_byte t (get_or bytes at 0)) (behind_tail more))
 unfolding step
 tail_goes_on bytes at t low top more lt l h =
@@ -200,7 +200,7 @@ step_plain out high b e =
     let a : ltb b 128 ≡ true = grind (arith, nat_tests) in
     rw (q, s, c, a) refl
 
-pub plain_ascii : (b : ℕ) → is_plain b ≡ true → b < 128
+plain_ascii : (b : ℕ) → is_plain b ≡ true → b < 128
 plain_ascii b e = grind (arith, nat_tests)
 
 -- behind plain characters and one more
@@ -225,7 +225,7 @@ plain_goes_on bytes start at t le lt plain so_far =
     ∙ ap (λ i. rest_after bytes (at + 1) (step_within at s i)) (step_plain s.out s.high (get_or bytes at 0) plain)
     ∙ ap (λ u. rest_of bytes (at + 1) (within u between)) (plain_more t (slice_range bytes start at) (get_or bytes at 0) ∙ ap (after_plain t) (sym (slice_more bytes start at le lt)))
 
-pub slice_none : (bytes : List ℕ) (at : ℕ) → slice_range bytes at at ≡ []
+slice_none : (bytes : List ℕ) (at : ℕ) → slice_range bytes at at ≡ []
 slice_none bytes at = let n : at - at ≡ 0 = omega arith in rw n refl
 
 pub plain_begins : (bytes : List ℕ) (at : ℕ) (t : Around) → rest_of bytes at (within t between) ≡ rest_of bytes at (within (after_plain t (slice_range bytes at at)) between)

@@ -49,7 +49,7 @@ json-Null = search (rules, the_lemmas)
 -- ---- as many values as names
 
 -- a list that gets one more full tree
-pub full_more : (ts : List Tree) (t : Tree) → list_all (λ full. full) (map is_full ts) ≡ true → is_full t ≡ true → list_all (λ full. full) (map is_full (ts ++ t ∷ [])) ≡ true
+full_more : (ts : List Tree) (t : Tree) → list_all (λ full. full) (map is_full ts) ≡ true → is_full t ≡ true → list_all (λ full. full) (map is_full (ts ++ t ∷ [])) ≡ true
 full_more [] t all one = and_from (is_full t) true one refl
 full_more (x ∷ ts) t all one =
     let both = and_parts (is_full x) (list_all (λ full. full) (map is_full ts)) all in

@@ -24,7 +24,7 @@ use Rattle.bt_json.proofs.Kept.{Kept, StepKept, step_kept}
 pub take_front : (p q : List ℕ) (n : ℕ) → n ≡ length p → take n (p ++ q) ≡ p
 take_front p q n e = ap (λ m. take m (p ++ q)) e ∙ take-append_seam p q
 
-pub drop_front : (p q : List ℕ) (n : ℕ) → n ≡ length p → drop n (p ++ q) ≡ q
+drop_front : (p q : List ℕ) (n : ℕ) → n ≡ length p → drop n (p ++ q) ≡ q
 drop_front p q n e = ap (λ m. drop m (p ++ q)) e ∙ drop-append_seam p q
 
 pub get_behind : (p : List ℕ) (b : ℕ) (q : List ℕ) (n : ℕ) → n ≡ length p → slice_get (p ++ b ∷ q) n ≡ Some b
@@ -121,7 +121,7 @@ finish_kept at (in_number phase m k) v n e = by k (may_end phase) e
     by (f ∷ fs) false q = absurd cc
 finish_kept at s v n e = absurd cc
 
-pub run_kept : (bytes : List ℕ) (at : ℕ) (s : State) (v : Json) (n : ℕ) → Kept s → run true at s bytes ≡ found v n → Allowed true 0 v
+run_kept : (bytes : List ℕ) (at : ℕ) (s : State) (v : Json) (n : ℕ) → Kept s → run true at s bytes ≡ found v n → Allowed true 0 v
 unfolding run
 run_kept [] at s v n h e = finish_kept at s v n e
 run_kept (b ∷ bytes) at s v n h e = by (step true at b s) (step_kept at b s h) e (λ t g q. run_kept bytes (at + 1) t v n g q)

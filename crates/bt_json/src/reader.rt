@@ -1,7 +1,7 @@
 //! Reading a value (RFC 8259): blanks, and then a text, a number, a word, or a list or an object of
 //! further values.
 ghost use Rattle.std.specs.Prelude.{◌≡◌, ◌≤◌, ◌<◌, [], length, None, IsTrue, IfOk, OnOk};
-ghost use Rattle.bt_answers.specs.Answers.{seen, Answers};
+ghost use Rattle.bt_text.specs.Answers.{seen, Answers};
 ghost use Rattle.bt_json.specs.Answers.{IsRead};
 ghost use Rattle.bt_json.specs.Json.{boolean, null};
 ghost use Rattle.bt_json.specs.Stands.{value_and_place, is_full};

@@ -11,8 +11,8 @@ use Rattle.bt_log.specs.Logs.{Step, clause_of}
 use Rattle.bt_log.specs.Refuting.{Refutes}
 use Rattle.bt_sat.specs.Answering.{GivesNext}
 use Rattle.bt_sat.specs.Solving.{SolverParts, begun, IsLearnt, IsModel, IsSpent}
-use Rattle.bt_sat.specs.declared.solver.Answer.{Answer}
-use Rattle.bt_sat.specs.declared.solver.Answer.TheVariants.{Model, Refuted, Spent}
+use Rattle.bt_sat.specs.declared.answer.Answer.{Answer}
+use Rattle.bt_sat.specs.declared.answer.Answer.TheVariants.{Model, Refuted, Spent}
 use Rattle.bt_model.specs.Requests.{IsRequest, LayoutRequest}
 use Rattle.bt_place.specs.PlaceFormula.{place_formula}
 use Rattle.bt_place.specs.Solutions.{IsSolution}

@@ -5,7 +5,7 @@ use Rattle.bt_cnf.specs.declared.literal.Lit.{Lit}
 use Rattle.bt_log.specs.Logs.{Step}
 use Rattle.bt_sat.specs.Answering.{GivesNext}
 use Rattle.bt_sat.specs.Solving.{SolverParts, begun}
-use Rattle.bt_sat.specs.declared.solver.Answer.{Answer}
+use Rattle.bt_sat.specs.declared.answer.Answer.{Answer}
 use Rattle.bt_model.specs.Requests.{IsRequest, LayoutRequest}
 use Rattle.bt_place.specs.PlaceFormula.{place_formula}
 use Rattle.bt_layout.specs.inner.Ends.{EndsWithin}

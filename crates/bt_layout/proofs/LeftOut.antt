@@ -5,11 +5,11 @@ use Rattle.bt_cnf.specs.Formulas.{FormulaParts}
 use Rattle.bt_log.specs.Logs.{LogParts}
 use Rattle.bt_sat.specs.Answering.{GivesNext}
 use Rattle.bt_sat.specs.Solving.{SolverParts, begun, log_of}
-use Rattle.bt_sat.specs.declared.solver.Answer.{Answer}
-use Rattle.bt_sat.specs.declared.solver.Answer.TheVariants.{Refuted}
+use Rattle.bt_sat.specs.declared.answer.Answer.{Answer}
+use Rattle.bt_sat.specs.declared.answer.Answer.TheVariants.{Refuted}
 use Rattle.bt_model.specs.Requests.{LayoutRequest}
 use Rattle.bt_place.specs.PlaceFormula.{place_formula}
-use Rattle.bt_trim.proofs.Left.{is_short}
+use Rattle.bt_log.proofs.Left.{is_short}
 use Rattle.bt_theory.proofs.Trimmed.{trimmed_refutation}
 use Rattle.bt_layout.specs.inner.Ends.{EndsWith, IsOver, IsSought, IsTrimmedTo}
 use Rattle.bt_grids.specs.declared.outcome.Layout.{Layout}

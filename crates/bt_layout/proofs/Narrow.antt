@@ -9,8 +9,8 @@ use Rattle.bt_cnf.specs.declared.literal.Lit.{Lit}
 use Rattle.bt_log.specs.Logs.{clause_of}
 use Rattle.bt_sat.specs.Answering.{GivesNext}
 use Rattle.bt_sat.specs.Solving.{SolverParts, begun, IsModel}
-use Rattle.bt_sat.specs.declared.solver.Answer.{Answer}
-use Rattle.bt_sat.specs.declared.solver.Answer.TheVariants.{Model, Refuted, Spent}
+use Rattle.bt_sat.specs.declared.answer.Answer.{Answer}
+use Rattle.bt_sat.specs.declared.answer.Answer.TheVariants.{Model, Refuted, Spent}
 use Rattle.bt_model.specs.Requests.{LayoutRequest}
 use Rattle.bt_place.specs.Narrowed.{IsNarrowed}
 use Rattle.bt_place.specs.PlaceFormula.{place_formula}

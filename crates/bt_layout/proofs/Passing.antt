@@ -1,9 +1,9 @@
 -- One grid after another.
-use Rattle.std.proofs.Common.{◌≡◌, ℕ, suc, ◌+◌, ◌<◌, ◌≤◌, List, [], ◌∷◌, ◌++◌, length, get_or, take, drop, refl, sym, ◌∙◌, ap, subst, arith, take-append-drop}
+use Rattle.std.proofs.Common.{◌≡◌, ℕ, suc, ◌+◌, ◌<◌, List, [], ◌∷◌, ◌++◌, length, get_or, take, drop, sym, ◌∙◌, ap, subst, arith, take-append-drop}
 use Rattle.std.specs.List.{All}
 use Rattle.std.specs.declared.option.Option.{Option}
 use Rattle.std.proofs.Math.Seq.{drop-cons}
-use Rattle.std.proofs.lemmas.List.{map-append, take_all, take_more}
+use Rattle.std.proofs.lemmas.List.{map-append, take_more}
 use Rattle.std.proofs.lemmas.List.Elements.{All-nil, All-push}
 use Rattle.bt_parts.specs.declared.part.Rect.{Rect}
 use Rattle.bt_parts.specs.Cells.{IsInside}
@@ -16,7 +16,7 @@ use Rattle.bt_grids.specs.declared.outcome.Layout.TheVariants as layout
 use Rattle.bt_grids.specs.declared.outcome.RuledOut.{RuledOut}
 use Rattle.bt_grids.specs.Grids.{AreGridsFrom, IsWithin}
 use Rattle.bt_grids.specs.Asked.{NamesNoCell, NamesNoCells, request_on}
-use Rattle.bt_layout.specs.Smallest.{IsFirstLeft, IsRuledOut, grids_of}
+use Rattle.bt_layout.specs.Smallest.{IsFirstLeft, IsRuledOut}
 use Rattle.bt_layout.specs.inner.Passing.{ArePassed}
 
 -- a line that names no cell names none outside
@@ -47,8 +47,6 @@ asked_on r grid is none within = record {
 }
 
 module _ (r : LayoutRequest) (learnt : ℕ) (grids : List Rect) where
-  pub none_passed : (earlier : List RuledOut) → earlier ≡ [] → ArePassed r learnt grids 0 earlier
-  none_passed earlier e = subst (ArePassed r learnt grids 0) (sym e) (record { first = refl; ruled_out = All-nil _ })
 
   module _ (place : ℕ) (earlier : List RuledOut) (are : ArePassed r learnt grids place earlier) (grid : Rect) (within : place < length grids)
       (at : grid ≡ get_or grids place grid) where
@@ -72,8 +70,3 @@ module _ (r : LayoutRequest) (learnt : ℕ) (grids : List Rect) where
           ∙ ap (λ gs. take place grids ++ gs) (sym (drop-cons grids place grid within)) ∙ take-append-drop place grids)) all;
       ruled_out = are.ruled_out;
     }
-
-  -- all grids are ruled out
-  pub all_passed : (place : ℕ) (earlier : List RuledOut) → ArePassed r learnt grids place earlier → length grids ≤ place → (first : Option Rect) → AreGridsFrom first r.rect grids
-      → AreGridsFrom first r.rect (grids_of earlier) × All (IsRuledOut r learnt) earlier
-  all_passed place earlier are ended first all = (subst (AreGridsFrom first r.rect) (sym (are.first ∙ take_all place grids ended)) all, are.ruled_out)

@@ -1,5 +1,5 @@
 -- Small grids on which parts that show a network are looked for.
-use Rattle.std.proofs.Common.{◌≡◌, ℕ, ◌<◌, ◌≤◌, inl, inr, ⊎_elim, List, [], ◌∷◌, ◌++◌, length, get_or, None, Some, refl, sym, subst, ◌∙◌, ap, arith}
+use Rattle.std.proofs.Common.{◌≡◌, ℕ, ◌≤◌, inl, inr, ⊎_elim, List, [], ◌∷◌, ◌++◌, get_or, None, Some, refl, sym, subst, ◌∙◌, ap, arith}
 use Rattle.std.specs.Prelude.{Contains, MatchOption, Option, Vec, option_map, slice_get}
 use Rattle.std.specs.declared.alloc.Global.{Global}
 use Rattle.std.proofs.lemmas.Bool.{cases_lt}
@@ -13,7 +13,7 @@ use Rattle.bt_model.specs.Laying.{Lays}
 use Rattle.bt_model.specs.Requests.{LayoutRequest}
 use Rattle.bt_grids.specs.declared.outcome.Small.TheVariants.{Found, Spent}
 use Rattle.bt_grids.specs.declared.outcome.Early.TheVariants as early
-use Rattle.bt_layout.specs.Early.{AreRefuted, IsEarly, IsLaid}
+use Rattle.bt_layout.specs.Early.{AreRefuted, IsEarly}
 use Rattle.bt_grids.specs.Grids.{AreGrids, area_of}
 use Rattle.bt_layout.specs.Small.{HasFewer, IsBeyond, IsSmall, MayBeAsked}
 use Rattle.bt_grids.specs.Asked.{request_on}
@@ -24,10 +24,6 @@ use Rattle.bt_layout.proofs.Written.{laid_within}
 pub said_or : {X : Type 0} (answer : Option X) (N : Type 0) (S : X → Type 0) → N → MatchOption answer (Unit {0}) S → MatchOption answer N S
 said_or None N S none said = none
 said_or (Some x) N S none said = said
-
--- a place of a request that is laid is one of the list
-pub laid_inside : (requests : List LayoutRequest) (place : ℕ) (parts : Vec Part Global) → IsLaid requests place parts → place < length requests
-laid_inside requests place parts is = slice_get_within requests place is.request is.at_place
 
 module _ (r : LayoutRequest) (cells : Option ℕ) where
   -- a grid that may be asked has few cells, where none are beyond

@@ -9,7 +9,7 @@ use Rattle.bt_model.specs.Requests.{LayoutRequest}
 use Rattle.bt_layout.specs.Early.{AreRefuted, IsRefuted}
 
 -- of no requests nothing has to be shown
-pub none_refuted : (most : ℕ) → AreRefuted [] most
+none_refuted : (most : ℕ) → AreRefuted [] most
 none_refuted most = record { logs = []; each = tt; few = omega arith }
 
 -- more steps are enough too

@@ -14,7 +14,7 @@ use Rattle.bt_layout.specs.declared.searching.Searched.{Searched}
 use Rattle.bt_layout.specs.Early.{AreRefuted, IsEarly, IsLaid, IsRefuted}
 use Rattle.bt_layout.specs.inner.Ends.{IsSought}
 use Rattle.bt_layout.specs.inner.Progressing.{ArePaid, ArePassed, HasLog, IsEnded, IsProgress, IsWhole, lesser_from, lesser_of}
-use Rattle.bt_layout.proofs.Through.{all_left, ended, refuted_at, refuted_by_more}
+use Rattle.bt_layout.proofs.Through.{all_left, refuted_at, refuted_by_more}
 
 -- a layout that was found is told
 pub told_laid : (requests : List LayoutRequest) (learnt : ℕ) (progress : Progress) (laid : Laid) → progress.found ≡ Some laid → IsProgress requests learnt progress
@@ -45,12 +45,6 @@ module _ (requests : List LayoutRequest) (learnt : ℕ) (progress : Progress) (p
   ended_laid parts found =
       let layout : IsSought is.request is.most (Found parts) = subst (IsSought is.request is.most) found is.whole.layout in
       record { request = is.request; at_place = is.is; lays = layout.0; in_order = layout.1 }
-
-  -- then no request is left from this place on
-  pub passed_by_layout : (new : Progress) (laid : Laid) → laid.place ≡ place → new.found ≡ Some laid → ArePassed requests learnt place new
-  passed_by_layout new laid at found =
-      inr (subst (λ one. AreRefuted (lesser_from requests place one) new.steps) (sym found)
-      (subst (λ n. AreRefuted (lesser_from requests n (Some laid)) new.steps) at (ended requests laid.place new.steps)))
 
   module _ (new : Progress) (before : place < lesser_of (length requests) progress.found) (found : new.found ≡ progress.found) (more : new.steps ≡ progress.steps + searched.steps)
       (passed : ArePassed requests learnt (place + 1) progress) where

@@ -19,9 +19,9 @@ use Rattle.bt_entities.specs.Places.{width_of, height_of}
 use Rattle.bt_model.specs.Laying.{Lays}
 use Rattle.bt_model.specs.Requests.{LayoutRequest, IsRequest}
 use Rattle.bt_model.specs.declared.request.TheConstants.{MOST_CELLS}
-use Rattle.bt_write.specs.ReadBack.{HasCentreInRange}
-use Rattle.bt_write.specs.Written.{twice_middle}
-use Rattle.bt_write.proofs.ReadBack.{written_read}
+use Rattle.bt_entities.specs.ReadBack.{HasCentreInRange}
+use Rattle.bt_entities.specs.Written.{twice_middle}
+use Rattle.bt_entities.proofs.ReadBack.{written_read}
 use Rattle.bt_rules.proofs.kept.Geometry.{across}
 use Rattle.bt_rules.proofs.CountStay.{room_there}
 use Rattle.bt_place.specs.PlaceFormula.{HasFormula}

@@ -1,6 +1,6 @@
 -- What logs that refute a placement formula show, and what is written of layouts.
 use Rattle.std.specs.Prelude.{◌<◌, ◌≤◌, ◌^◌, List, length}
-use Rattle.bt_hands.specs.declared.hand.Priority.{Priority}
+use Rattle.bt_parts.specs.declared.hand.Priority.{Priority}
 use Rattle.bt_parts.specs.declared.part.Part.{Part}
 use Rattle.bt_entities.specs.declared.blueprint.TheConstants.{MOST_ENTITIES}
 use Rattle.bt_log.specs.Laws.{IsUnmet}
@@ -10,7 +10,7 @@ use Rattle.bt_log.specs.Refuting.{Refutes}
 use Rattle.bt_cert.specs.Certificates.{IsCertificate}
 use Rattle.bt_model.specs.Laying.{Lays}
 use Rattle.bt_model.specs.Requests.{LayoutRequest, IsRequest}
-use Rattle.bt_write.specs.ReadBack.{IsReadBack, SplittersPrefer}
+use Rattle.bt_entities.specs.ReadBack.{IsReadBack, SplittersPrefer}
 use Rattle.bt_place.specs.PlaceFormula.{place_formula}
 use Rattle.bt_theory.specs.Outcomes.{IsRefutation}
 use Rattle.bt_layout.specs.Layouts.{HasNoLayout}

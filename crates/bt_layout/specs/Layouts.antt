@@ -7,7 +7,7 @@ use Rattle.bt_model.specs.Requests.{LayoutRequest}
 use Rattle.bt_place.specs.PlaceFormula.{HasFormula, place_formula}
 use Rattle.bt_place.specs.Solutions.{ComesAbove}
 use Rattle.bt_theory.specs.Outcomes.{IsRefutation, IsUsedUp}
-use Rattle.bt_trim.specs.Trimming.{IsTightOver}
+use Rattle.bt_log.specs.Trimming.{IsTightOver}
 use Rattle.bt_grids.specs.declared.outcome.Layout.{Layout}
 use Rattle.bt_grids.specs.declared.outcome.Layout.TheVariants.{Found, Nowhere, Spent}
 

@@ -4,17 +4,16 @@ ghost use Rattle.bt_net.specs.Network.{give_of, take_of};
 ghost use Rattle.bt_model.specs.Laying.{Lays, LaysPreferring};
 ghost use Rattle.bt_model.specs.Requests.{IsRequest};
 ghost use Rattle.bt_lays.specs.Laid.{LaysBy, naming_of};
-ghost use Rattle.bt_write.specs.ReadBack.{SplittersPrefer};
+ghost use Rattle.bt_entities.specs.ReadBack.{SplittersPrefer};
 ghost use Rattle.bt_grids.specs.Asked.{NamesNoCells, request_on};
 ghost use Rattle.bt_layout.specs.inner.Bare.{PrefersNothing};
 
 use bt_grids::request_on;
-use bt_hands::Priority;
 use bt_lays::{Names, any_names, lays, priorities_by};
 use bt_model::Request;
 use bt_net::Net;
-use bt_parts::{Part, Rect};
-use hint_naming::name_parts;
+use bt_parts::{Part, Priority, Rect};
+use hint_layouts::name_parts;
 use std::alloc::{AllocError, Global};
 
 /// The priorities with which parts that lay a request but for what its splitters prefer lay it with that too: those of

@@ -6,10 +6,10 @@ use Rattle.std.proofs.lemmas.Bool.{cases_order, false≢true}
 use Rattle.std.proofs.lemmas.Option.{get_or_from_slice_get, none-some, same_Some, slice_get-get_or, slice_get_within}
 use Rattle.std.proofs.lemmas.List.{ext_get_or, get_or-map, get_or-replicate, length-map, length_push}
 use Rattle.std.proofs.lemmas.List.Sorted.{Contains-permutation, IsPermutation-sym, IsPermutation-trans}
-use Rattle.bt_hands.specs.declared.hand.Hand.{Hand}
-use Rattle.bt_hands.specs.declared.hand.Hand.TheVariants.{Left, Right}
-use Rattle.bt_hands.specs.declared.hand.Priority.{Priority}
-use Rattle.bt_hands.specs.Hands.{half_on, no_priority, priority_of}
+use Rattle.bt_parts.specs.declared.hand.Hand.{Hand}
+use Rattle.bt_parts.specs.declared.hand.Hand.TheVariants.{Left, Right}
+use Rattle.bt_parts.specs.declared.hand.Priority.{Priority}
+use Rattle.bt_parts.specs.Hands.{half_on, no_priority, priority_of}
 use Rattle.bt_parts.specs.declared.part.Cell.{Cell}
 use Rattle.bt_parts.specs.declared.part.Dir.{Dir}
 use Rattle.bt_parts.specs.declared.part.Dir.TheVariants.{North, East, South, West}
@@ -40,10 +40,10 @@ use Rattle.bt_lays.proofs.Marks.{IsMarkedChain, contained, ends_there, given_edg
 use Rattle.bt_lays.proofs.Renamed.{sink_splits, source_splits, start_from, target_from}
 
 -- the chain starts at the half of this splitter on this hand, or ends there
-abbrev pub GivesBy : List Part → Chain → ℕ → Option Hand → Type 0
+abbrev GivesBy : List Part → Chain → ℕ → Option Hand → Type 0
 GivesBy parts chain s hand = (half : Cell) × (chain.source ≡ leaves s half) × IsHalfOn parts s hand half
 
-abbrev pub TakesBy : List Part → Chain → ℕ → Option Hand → Type 0
+abbrev TakesBy : List Part → Chain → ℕ → Option Hand → Type 0
 TakesBy parts chain s hand = (half : Cell) × EndsAtHalf parts chain s half × IsHalfOn parts s hand half
 
 -- a half of a splitter is on one of its hands

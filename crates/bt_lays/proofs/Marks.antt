@@ -4,9 +4,9 @@ use Rattle.std.specs.Prelude.{MatchOption}
 use Rattle.std.specs.List.{AllPairs, AllZip, Contains}
 use Rattle.std.proofs.lemmas.Bool.{cases_lt, eqb-true, false≢true}
 use Rattle.std.proofs.lemmas.Option.{get_or_from_slice_get, none-some, same_Some, slice_get-get_or, slice_get_within}
-use Rattle.std.proofs.lemmas.List.{ext_get_or, get_or_append_left, get_or_push, length_push}
+use Rattle.std.proofs.lemmas.List.{get_or_append_left, get_or_push, length_push}
 use Rattle.std.proofs.lemmas.List.Sorted.{Contains-permutation, IsPermutation-refl, IsPermutation-sym}
-use Rattle.bt_hands.specs.declared.hand.Priority.{Priority}
+use Rattle.bt_parts.specs.declared.hand.Priority.{Priority}
 use Rattle.bt_parts.specs.declared.part.Part.{Part}
 use Rattle.bt_net.specs.declared.network.Edge.{Edge}
 use Rattle.bt_net.specs.declared.network.Start.{Start}
@@ -26,7 +26,7 @@ use Rattle.bt_recover.specs.Preferred.{IsPreferring}
 use Rattle.bt_recover.proofs.PreferLemmas.{one_given, one_taken, zip_get}
 use Rattle.bt_lays.specs.declared.preferring.Marked.{Marked}
 use Rattle.bt_lays.specs.inner.Joins.{start_part, target_part}
-use Rattle.bt_lays.specs.inner.Marks.{AreMarkedAs, AreMarks, IsGivenAt, IsMarkOf, IsTakenAt, no_mark}
+use Rattle.bt_lays.specs.inner.Marks.{AreMarkedAs, AreMarks, IsGivenAt, IsMarkOf, IsTakenAt}
 use Rattle.bt_lays.proofs.Listing.{along, each_moved, each_rearranged}
 use Rattle.bt_lays.proofs.Renamed.{sink_enters, sink_part, sink_splits, source_leaves, source_part, source_splits, start_at, start_from, target_at, target_from}
 
@@ -350,22 +350,6 @@ shown_preferring parts priorities m net own naming h is_own is names marked =
           (λ k a e. taken_some naming net is marked.second marked.are_second k a e)
           (λ a mark at t. taken_edge naming net is marked.second marked.are_second names.splitter_count a mark at t);
     }
-
--- the marks of a network are these
-one_mark : (naming : Naming) (net : Network) (k : ℕ) (a b : Marked) → IsMarkOf naming net k a → IsMarkOf naming net k b → a ≡ b
-one_mark naming net k a b x y =
-    let edges : x.edge ≡ y.edge = same_Some x.edge y.edge (sym x.at ∙ y.at) in
-    same_mark a b
-    (x.start ∙ ap (λ e. start_part naming e.start) edges ∙ sym y.start)
-    (x.target ∙ ap (λ e. target_part naming e.target) edges ∙ sym y.target)
-    (x.cap ∙ ap (λ e. e.cap) edges ∙ sym y.cap)
-    (same_flag a.given b.given (λ t. y.given.1 (subst (λ e. IsGivenAt net k e.start) edges (x.given.0 t))) (λ t. x.given.1 (subst (λ e. IsGivenAt net k e.start) (sym edges) (y.given.0 t))))
-    (same_flag a.taken b.taken (λ t. y.taken.1 (subst (λ e. IsTakenAt net k e.target) edges (x.taken.0 t))) (λ t. x.taken.1 (subst (λ e. IsTakenAt net k e.target) (sym edges) (y.taken.0 t))))
-
-pub one_marking : (naming : Naming) (net : Network) (one other : List Marked) → AreMarks naming net one → AreMarks naming net other → one ≡ other
-one_marking naming net one other x y =
-    let n = x.count in let m = y.count in
-    ext_get_or no_mark one other (omega (arith, n, m)) (λ k lt. one_mark naming net k (get_or one k no_mark) (get_or other k no_mark) (x.each k no_mark lt) (y.each k no_mark (omega (arith, n, m, lt))))
 
 -- a chain has one mark
 chain_mark : (parts : List Part) (priorities : List Priority) (a b : Marked) (chain : Chain) → IsMarkedChain parts priorities a chain → IsMarkedChain parts priorities b chain → a ≡ b

@@ -13,15 +13,15 @@ use Rattle.bt_parts.specs.declared.part.Rect.{Rect}
 use Rattle.bt_parts.specs.declared.part.Tier.{Tier}
 use Rattle.bt_parts.specs.Cells.{IsGreaterHalf, IsInRange, IsInside}
 use Rattle.bt_parts.specs.Layouts.{AreInRange, IsAt}
-use Rattle.bt_grid.specs.Placing.{IsFirstOverlap}
-use Rattle.bt_grid.specs.declared.grid.GridFault.TheVariants as grid
+use Rattle.bt_recover.specs.Placing.{IsFirstOverlap}
+use Rattle.bt_recover.specs.declared.grid.GridFault.TheVariants as grid
 use Rattle.bt_net.specs.declared.network.Block.{Block}
 use Rattle.bt_net.specs.declared.network.EndKind.{EndKind}
 use Rattle.bt_net.specs.declared.network.EndKind.TheVariants.{Inputs, Outputs}
 use Rattle.bt_net.specs.Network.{Network, IsNetwork}
 use Rattle.bt_model.specs.Chains.{IsInput, IsOutput, IsSplitter, IsChain}
 use Rattle.bt_model.specs.Laying.{Fits, end_count}
-use Rattle.bt_model.specs.Requests.{LayoutRequest, IsGrid, IsRequest, blocked}
+use Rattle.bt_model.specs.Requests.{LayoutRequest, IsGrid, blocked}
 use Rattle.bt_model.specs.Shown.{Naming, ListsEach, IsEdgeOf, IsNumbered, Shows}
 use Rattle.bt_model.proofs.Places.{zip_length}
 use Rattle.bt_recover.specs.declared.fault.RecoverFault.{RecoverFault}
@@ -64,9 +64,6 @@ inside_in_range rect is c h =
 pub suits_in_range : (rect : Rect) (tier : Tier) (parts : List Part) → IsGrid rect → All (SuitsAlone rect tier) parts → AreInRange parts
 suits_in_range rect tier parts is suits i d lt = let part = get_or parts i d in inside_in_range rect is part.cell ((suits i d lt).0 part.cell (inl refl))
 
-pub blocks_in_range : (request : LayoutRequest) → IsRequest request → All (λ block. IsInRange (blocked block)) request.blocks
-blocks_in_range request is i d lt = inside_in_range request.rect is.grid (blocked (get_or request.blocks i d)) (is.blocks_inside i d lt)
-
 pub suits_of : (request : LayoutRequest) (parts : List Part) → Fits parts request → All (SuitsAlone request.rect request.tier) parts
 suits_of request parts fits k d lt = (
   λ cell covers. fits.inside k cell (record { part = get_or parts k d; is_i = slice_get-get_or parts k d lt; covers = covers }),
@@ -74,7 +71,7 @@ suits_of request parts fits k d lt = (
 )
 
 -- what the test of the whole asks beside the parts one by one
-pub fits_from : (parts : List Part) (request : LayoutRequest) (own : Naming) → All (SuitsAlone request.rect request.tier) parts → ListsEach (IsInput parts) own.inputs
+fits_from : (parts : List Part) (request : LayoutRequest) (own : Naming) → All (SuitsAlone request.rect request.tier) parts → ListsEach (IsInput parts) own.inputs
     → ListsEach (IsOutput parts) own.outputs → All (IsFree parts) request.blocks → All (IsFirstInside request.rect parts) own.inputs
     → All (IsLastInside request.rect parts) own.outputs → Fits parts request
 fits_from parts request own suits inputs outputs free first last = record {
@@ -85,7 +82,7 @@ fits_from parts request own suits inputs outputs free first last = record {
   outputs = λ i part output is_i. All-contains (IsLastInside request.rect parts) own.outputs i last (outputs.all i output) part is_i;
 }
 
-pub free_of : (parts : List Part) (request : LayoutRequest) → Fits parts request → All (IsFree parts) request.blocks
+free_of : (parts : List Part) (request : LayoutRequest) → Fits parts request → All (IsFree parts) request.blocks
 free_of parts request fits k d lt i at = fits.unblocked i (get_or request.blocks k d) (Contains-get_or request.blocks k d lt) at
 
 pub first_of : (parts : List Part) (request : LayoutRequest) (own : Naming) → ListsEach (IsInput parts) own.inputs → Fits parts request

@@ -1,6 +1,6 @@
 -- The layouts that a request is asking for, by given names.
 use Rattle.std.specs.Prelude.{List, All}
-use Rattle.bt_hands.specs.declared.hand.Priority.{Priority}
+use Rattle.bt_parts.specs.declared.hand.Priority.{Priority}
 use Rattle.bt_parts.specs.declared.part.Part.{Part}
 use Rattle.bt_model.specs.Laying.{Fits, KeepsDemand}
 use Rattle.bt_model.specs.Requests.{LayoutRequest}

@@ -5,9 +5,9 @@ ghost use Rattle.bt_parts.specs.Layouts.{AreInRange};
 ghost use Rattle.bt_model.specs.Requests.{IsGrid, blocked};
 ghost use Rattle.bt_lays.specs.inner.Fitting.{IsFirstInside, IsFree, IsLastInside, LiesInside, SuitsAlone};
 
-use bt_grid::Grid;
 use bt_net::Block;
 use bt_parts::{Cell, Part, Rect, Tier, back, cells_of, front, inside};
+use bt_recover::Grid;
 
 /// Whether all cells of a part lie in the rectangle.
 fn lies_inside(rect: Rect, part: &Part) -> bool

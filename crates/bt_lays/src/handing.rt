@@ -5,7 +5,7 @@
 //! join: so each edge that is preferred stands beside one of the layout between the same parts, of whose halves the hands
 //! are known.
 ghost use Rattle.std.specs.Prelude.{◌≡◌, ◌≢◌, ℕ, IfOk, IsPermutation, length, map, replicate};
-ghost use Rattle.bt_hands.specs.Hands.{no_priority, priority_of};
+ghost use Rattle.bt_parts.specs.Hands.{no_priority, priority_of};
 ghost use Rattle.bt_parts.specs.declared.part.Kind.TheVariants.{Splitter as IsSplitter};
 ghost use Rattle.bt_parts.specs.declared.part.Part.{Part as APart};
 ghost use Rattle.bt_parts.specs.Layouts.{HasPart};
@@ -21,12 +21,10 @@ ghost use Rattle.bt_lays.specs.inner.Handed as handed;
 use crate::names::Names;
 use crate::preferring::{Marked, marks_of};
 use crate::testing::{Own, own_of};
-use bt_grid::{Grid, GridFault};
-use bt_hands::{Hand, Priority};
 use bt_model::Request;
 use bt_net::Net;
-use bt_parts::{Kind, Part};
-use bt_recover::{RecoverFault, recover_with};
+use bt_parts::{Hand, Kind, Part, Priority};
+use bt_recover::{Grid, GridFault, RecoverFault, recover_with};
 use std::alloc::{AllocError, Global};
 
 /// The hand of a half that is the left one, or isn't.

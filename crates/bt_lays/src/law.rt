@@ -1,6 +1,6 @@
 //! What follows where parts lay a request by some names.
 ghost use Rattle.std.specs.Prelude.{List};
-ghost use Rattle.bt_hands.specs.declared.hand.Priority.{Priority};
+ghost use Rattle.bt_parts.specs.declared.hand.Priority.{Priority};
 ghost use Rattle.bt_parts.specs.declared.part.Part.{Part};
 ghost use Rattle.bt_model.specs.Laying.{Lays, LaysPreferring};
 ghost use Rattle.bt_model.specs.Requests.{LayoutRequest};

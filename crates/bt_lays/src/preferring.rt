@@ -11,12 +11,10 @@ ghost use Rattle.bt_lays.specs.inner.Marks.{AreMarkedAs, AreMarks, HaveSameMarks
 use crate::joins::{start_part, target_part};
 use crate::names::Names;
 use crate::testing::{Own, lays, own_of};
-use bt_grid::{Grid, GridFault};
-use bt_hands::Priority;
 use bt_model::Request;
 use bt_net::{Net, Start, Target};
-use bt_parts::Part;
-use bt_recover::{RecoverFault, recover_with};
+use bt_parts::{Part, Priority};
+use bt_recover::{Grid, GridFault, RecoverFault, recover_with};
 use std::alloc::{AllocError, Global};
 
 /// An edge by the parts at its ends, and whether the splitter at its start prefers to give to it, and the one at its end to

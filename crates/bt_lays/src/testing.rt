@@ -15,11 +15,10 @@ use crate::demands::keeps_demands;
 use crate::fitting::{all_suit, are_first, are_free, are_last};
 use crate::names::Names;
 use crate::showing::{are_joined, are_named};
-use bt_grid::{Grid, GridFault};
 use bt_model::Request;
 use bt_net::Net;
 use bt_parts::Part;
-use bt_recover::{RecoverFault, Traced, recover};
+use bt_recover::{Grid, GridFault, RecoverFault, Traced, recover};
 use std::alloc::{AllocError, Global};
 
 /// Whether the parts lay the request by these names: they lie in its rectangle, on none of its blocked cells, and have its

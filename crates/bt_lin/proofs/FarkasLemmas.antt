@@ -5,7 +5,7 @@ use Rattle.std.specs.List.{All, Any}
 use Rattle.std.specs.declared.result.Result.{Result}
 use Rattle.std.proofs.lemmas.List.{take_all}
 use Rattle.std.proofs.lemmas.List.Elements.{All-contains, All-head, All-tail}
-use Rattle.bt_answers.specs.Answers.{HasOneAnswer}
+use Rattle.bt_text.specs.Answers.{HasOneAnswer}
 use Rattle.bt_frac.specs.Ratio.{Ratio}
 use Rattle.bt_frac.specs.Rows.{RowParts, columns_in, end_of}
 use Rattle.bt_frac.specs.Values.{nothing, sum_of_products}
@@ -99,7 +99,7 @@ no_columns sum named limit is = record {
 }
 
 -- a column that cancels by its running sum cancels
-pub cancels_by : (sum : List (RowParts × Ratio)) (column limit : ℕ) (total : Ratio) → limit ≡ length sum → RunsTo nothing (pairs_at (Column column) (take limit sum)) total
+cancels_by : (sum : List (RowParts × Ratio)) (column limit : ℕ) (total : Ratio) → limit ≡ length sum → RunsTo nothing (pairs_at (Column column) (take limit sum)) total
     → (total.over ≡ pos 0) ↔ Cancels sum column
 cancels_by sum column limit total whole runs =
     let all = subst (λ xs. RunsTo nothing (pairs_at (Column column) xs) total) (take_all limit sum (omega (arith, whole))) runs in
@@ -107,7 +107,7 @@ cancels_by sum column limit total whole runs =
     zero_same total (sum_of_products (pairs_at (Column column) sum)) reach.end_some reach.sum_some reach.same
 
 -- a column that no row names cancels
-pub unnamed_cancels : (sum : List (RowParts × Ratio)) (named : List ℕ) → columns_in (map (λ r. r.0) sum) ≡ named → (column : ℕ) → (Contains named column → ⊥) → Cancels sum column
+unnamed_cancels : (sum : List (RowParts × Ratio)) (named : List ℕ) → columns_in (map (λ r. r.0) sum) ≡ named → (column : ℕ) → (Contains named column → ⊥) → Cancels sum column
 unnamed_cancels sum named same column lacks =
     subst (λ ps. (sum_of_products ps).over ≡ pos 0) (sym (no_pairs sum column (λ h. lacks (subst (λ cs. Contains cs column) same h)))) refl
 

@@ -33,7 +33,7 @@ pub skipped : (column : ℕ) (e : Entry) (entries : List Entry) → e.column ≢
 skipped column e entries other = ap (λ b. cond b (e ∷ entries_at column entries) (entries_at column entries)) (other_test e.column column other)
 
 -- the columns of the entries never fall, from this one on
-abbrev pub Rise : ℕ → List Entry → Type 0
+abbrev Rise : ℕ → List Entry → Type 0
 Rise least [] = Unit {0}
 Rise least (e ∷ entries) = (least ≤ e.column) × Rise e.column entries
 
@@ -54,7 +54,7 @@ pub record IsRunSplit (column size : ℕ) (entries : List Entry) : Type 0 where
   pub later : Rise (column + 1) (drop size entries)
   pub others : (other : ℕ) → column < other → entries_at other entries ≡ entries_at other (drop size entries)
 
-pub run_split : (column size : ℕ) (entries : List Entry) → Rise column entries → IsRunLength column entries size → IsRunSplit column size entries
+run_split : (column size : ℕ) (entries : List Entry) → Rise column entries → IsRunLength column entries size → IsRunSplit column size entries
 run_split column zero [] rise is = record { run = refl; later = tt; others = λ other less. refl }
 run_split column (suc size) [] rise is = let within = is.within in absurd (omega arith)
 run_split column zero (e ∷ entries) rise is =
@@ -106,7 +106,7 @@ columns_of_entries : (place : ℕ) (terms : List (ℕ × Ratio)) → map (λ e. 
 columns_of_entries place [] = refl
 columns_of_entries place (term ∷ terms) = ap (λ cs. term.0 ∷ cs) (columns_of_entries place terms)
 
-pub columns_gathered : (place : ℕ) (rows : List RowParts) → map (λ e. e.column) (entries_from place rows) ≡ columns_in rows
+columns_gathered : (place : ℕ) (rows : List RowParts) → map (λ e. e.column) (entries_from place rows) ≡ columns_in rows
 columns_gathered place [] = refl
 columns_gathered place (row ∷ rows) =
     map-append (λ e. e.column) (entries_of place row.terms) (entries_from (place + 1) rows) ∙ ap (λ cs. cs ++ map (λ e. e.column) (entries_from (place + 1) rows)) (columns_of_entries place row.terms)

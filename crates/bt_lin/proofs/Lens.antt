@@ -74,7 +74,7 @@ sum_over d (pair ∷ pairs) all =
 divides_more : (d k : ℕ) (r : Ratio) → Divides d r → Divides (k * d) r
 divides_more d k r h = record { positive = h.positive; divides = dvd-mul_left_of_dvd r.under h.divides k }
 
-pub divides_more_both : (d k : ℕ) (pairs : List (Ratio × Ratio)) → AllByRecursion (DividesBoth d) pairs → AllByRecursion (DividesBoth (k * d)) pairs
+divides_more_both : (d k : ℕ) (pairs : List (Ratio × Ratio)) → AllByRecursion (DividesBoth d) pairs → AllByRecursion (DividesBoth (k * d)) pairs
 divides_more_both d k [] all = tt
 divides_more_both d k (pair ∷ pairs) all =
     (record { left = divides_more d k pair.0 all.0.left; right = divides_more d k pair.1 all.0.right }, divides_more_both d k pairs all.1)

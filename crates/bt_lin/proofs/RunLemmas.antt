@@ -22,13 +22,13 @@ one_sum s p r t s_low p_low r_low t_low r_is t_is =
     lowest_same r t r_low t_low (same_trans r (plus s p) t (under_positive s.under p.under s_low.positive p_low.positive) r_is (sym t_is))
 
 -- a step has one result
-pub one_step : (s : Ratio) (pair : Ratio × Ratio) (r t : Ratio) → AddsProduct s pair r → AddsProduct s pair t → r ≡ t
+one_step : (s : Ratio) (pair : Ratio × Ratio) (r t : Ratio) → AddsProduct s pair r → AddsProduct s pair t → r ≡ t
 one_step s pair r t a b =
     let same : b.product ≡ a.product = one_product pair b.product a.product a.left a.right b.product_lowest a.product_lowest b.is_product a.is_product in
     one_sum s a.product r t a.start a.product_lowest a.lowest b.lowest a.sum (subst (λ p. IsSum s p t) same b.sum)
 
 -- a step that fits isn't wide
-pub step_fits : (s : Ratio) (pair : Ratio × Ratio) (r : Ratio) → AddsProduct s pair r → IsWideStep s pair → ⊥
+step_fits : (s : Ratio) (pair : Ratio × Ratio) (r : Ratio) → AddsProduct s pair r → IsWideStep s pair → ⊥
 step_fits s pair r a (inl wide) = wide a.product a.product_lowest a.is_product
 step_fits s pair r a (inr (p, low, is, wide)) =
     let same : a.product ≡ p = one_product pair a.product p a.left a.right a.product_lowest low a.is_product is in

@@ -9,8 +9,8 @@ use Rattle.bt_frac.specs.Columns.{AreColumnsFrom}
 use Rattle.bt_frac.specs.Ratio.{Ratio, IsLowest, IsOver}
 use Rattle.bt_frac.specs.Rows.{RowParts, columns_of, columns_in, end_of}
 use Rattle.bt_frac.specs.Values.{AreValues, valued, sum_of_products, Stands, RowHolds}
-use Rattle.bt_frac.specs.declared.row.Relation.{Relation}
-use Rattle.bt_frac.specs.declared.row.Relation.TheVariants.{AtLeast, Above, Equal}
+use Rattle.bt_frac.specs.declared.relation.Relation.{Relation}
+use Rattle.bt_frac.specs.declared.relation.Relation.TheVariants.{AtLeast, Above, Equal}
 use Rattle.bt_frac.proofs.Gcds.{quotient_positive}
 use Rattle.bt_frac.proofs.Order.{mul_cancel, mul_le, mul_lt, lt_from_mul}
 use Rattle.bt_frac.proofs.Over.{over_scaled, over_at_most, over_less, over_same, under_positive}

@@ -18,7 +18,7 @@ length-weighted rows [] weights same = refl
 length-weighted rows (pick ∷ picks) [] same = absurd (omega (arith, same))
 length-weighted rows (pick ∷ picks) (weight ∷ weights) same = ap suc (length-weighted rows picks weights (omega (arith, same)))
 
-pub weighted_at : (rows : List RowParts) (picks : List ℕ) (weights : List Ratio) (i : ℕ) (d : RowParts × Ratio) → length weights ≡ length picks → i < length picks
+weighted_at : (rows : List RowParts) (picks : List ℕ) (weights : List Ratio) (i : ℕ) (d : RowParts × Ratio) → length weights ≡ length picks → i < length picks
     → get_or (weighted rows picks weights) i d ≡ (get_or rows (get_or picks i 0) empty_row, get_or weights i nothing)
 weighted_at rows [] weights i d same inside = absurd (omega (arith, inside))
 weighted_at rows (pick ∷ picks) [] i d same inside = absurd (omega (arith, same))
@@ -34,10 +34,10 @@ rows_of_weighted rows (pick ∷ picks) (weight ∷ weights) same = ap (λ rest. 
 pub pairs-append : (place : Place) (xs ys : List (RowParts × Ratio)) → pairs_at place (xs ++ ys) ≡ pairs_at place xs ++ pairs_at place ys
 pairs-append place xs ys = filter_map-append (λ r. option_map (λ part. (r.1, part)) (part_of place r.0)) xs ys
 
-pub pairs_of_one : (place : Place) (r : RowParts × Ratio) (part : Ratio) → part_of place r.0 ≡ Some part → pairs_at place (r ∷ []) ≡ (r.1, part) ∷ []
+pairs_of_one : (place : Place) (r : RowParts × Ratio) (part : Ratio) → part_of place r.0 ≡ Some part → pairs_at place (r ∷ []) ≡ (r.1, part) ∷ []
 pairs_of_one place r part is = rw is refl
 
-pub pairs_of_none : (place : Place) (r : RowParts × Ratio) → part_of place r.0 ≡ None → pairs_at place (r ∷ []) ≡ []
+pairs_of_none : (place : Place) (r : RowParts × Ratio) → part_of place r.0 ≡ None → pairs_at place (r ∷ []) ≡ []
 pairs_of_none place r is = rw is refl
 
 -- one more row with something at the place

@@ -4,8 +4,8 @@ use Rattle.std.specs.List.{All, Any}
 use Rattle.bt_frac.specs.Ratio.{Ratio}
 use Rattle.bt_frac.specs.Rows.{RowParts}
 use Rattle.bt_frac.specs.Values.{sum_of_products}
-use Rattle.bt_frac.specs.declared.row.Relation.{Relation}
-use Rattle.bt_frac.specs.declared.row.Relation.TheVariants.{Equal, Above}
+use Rattle.bt_frac.specs.declared.relation.Relation.{Relation}
+use Rattle.bt_frac.specs.declared.relation.Relation.TheVariants.{Equal, Above}
 use Rattle.bt_lin.specs.WeightedRows.{pairs_at}
 use Rattle.bt_lin.specs.declared.places.Place.TheVariants.{Column, Bound}
 

@@ -5,7 +5,7 @@ use Rattle.std.specs.Option.{option_map}
 use Rattle.bt_frac.specs.Ratio.{Ratio}
 use Rattle.bt_frac.specs.Rows.{RowParts, columns_in, end_of}
 use Rattle.bt_frac.specs.Values.{nothing}
-use Rattle.bt_frac.specs.declared.row.Relation.TheVariants.{Equal}
+use Rattle.bt_frac.specs.declared.relation.Relation.TheVariants.{Equal}
 use Rattle.bt_lin.specs.declared.places.Place.{Place}
 use Rattle.bt_lin.specs.declared.places.Place.TheVariants.{Column, Bound}
 

@@ -1,7 +1,7 @@
 //! Whether a row holds of given values.
 ghost use Rattle.std.specs.Prelude.{◌<◌, length, IsTrue, ◌↔◌};
 ghost use Rattle.std.specs.List.{All};
-ghost use Rattle.bt_answers.specs.Answers.{AnswersAlways};
+ghost use Rattle.bt_text.specs.Answers.{AnswersAlways};
 ghost use Rattle.bt_frac.specs.Values.{Stands};
 ghost use Rattle.bt_lin.specs.Evaluation.{IsEvaluation};
 

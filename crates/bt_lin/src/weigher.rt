@@ -1,7 +1,7 @@
 //! Sums of many weighted rows, in room that serves one sum after another.
 ghost use Rattle.std.specs.Prelude.{◌≡◌, ◌<◌, length};
 ghost use Rattle.std.specs.List.{All};
-ghost use Rattle.bt_answers.specs.Answers.{Answers};
+ghost use Rattle.bt_text.specs.Answers.{Answers};
 ghost use Rattle.bt_lin.specs.Farkas.{IsSumJudged};
 ghost use Rattle.bt_lin.specs.WeightedRows.{weighted};
 ghost use Rattle.bt_lin.specs.declared.wide.SumFault.TheVariants.{Memory};

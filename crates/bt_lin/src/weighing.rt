@@ -2,7 +2,7 @@
 //! values meet.
 ghost use Rattle.std.specs.Prelude.{◌≡◌, ◌<◌, length, IsTrue, ◌↔◌};
 ghost use Rattle.std.specs.List.{All};
-ghost use Rattle.bt_answers.specs.Answers.{AnswersAlways};
+ghost use Rattle.bt_text.specs.Answers.{AnswersAlways};
 ghost use Rattle.bt_lin.specs.Farkas.{IsFarkas};
 ghost use Rattle.bt_lin.specs.FalseSums.{IsFalseBound, MayWeigh};
 ghost use Rattle.bt_frac.specs.Rows.{columns_in};

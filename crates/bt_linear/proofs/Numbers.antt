@@ -43,7 +43,7 @@ times_comm_parts_ints x y m n = simp products
 times_comm_parts : (x y : ℤ) (m n : ℕ) → x *ℤ y *ℤ pos (n * m) ≡ y *ℤ x *ℤ pos (m * n)
 times_comm_parts x y m n = simp pos-*ℤ-pos at (times_comm_parts_ints x y (pos m) (pos n))
 
-pub times_comm : (a b : Ratio) → SameRatio (times a b) (times b a)
+times_comm : (a b : Ratio) → SameRatio (times a b) (times b a)
 times_comm a b = times_comm_parts a.over b.over a.under b.under
 
 times_assoc_parts_ints : (x y z m n k : ℤ) → x *ℤ y *ℤ z *ℤ (m *ℤ (n *ℤ k)) ≡ x *ℤ (y *ℤ z) *ℤ (m *ℤ n *ℤ k)
@@ -52,7 +52,7 @@ times_assoc_parts_ints x y z m n k = simp products
 times_assoc_parts : (x y z : ℤ) (m n k : ℕ) → x *ℤ y *ℤ z *ℤ pos (m * (n * k)) ≡ x *ℤ (y *ℤ z) *ℤ pos (m * n * k)
 times_assoc_parts x y z m n k = simp pos-*ℤ-pos at (times_assoc_parts_ints x y z (pos m) (pos n) (pos k))
 
-pub times_assoc : (a b c : Ratio) → SameRatio (times (times a b) c) (times a (times b c))
+times_assoc : (a b c : Ratio) → SameRatio (times (times a b) c) (times a (times b c))
 times_assoc a b c = times_assoc_parts a.over b.over c.over a.under b.under c.under
 
 times_plus_parts_ints : (x y z m n k : ℤ) → x *ℤ (y *ℤ k +ℤ z *ℤ n) *ℤ (m *ℤ n *ℤ (m *ℤ k)) ≡ (x *ℤ y *ℤ (m *ℤ k) +ℤ x *ℤ z *ℤ (m *ℤ n)) *ℤ (m *ℤ (n *ℤ k))
@@ -61,7 +61,7 @@ times_plus_parts_ints x y z m n k = simp (products, sums)
 times_plus_parts : (x y z : ℤ) (m n k : ℕ) → x *ℤ (y *ℤ pos k +ℤ z *ℤ pos n) *ℤ pos (m * n * (m * k)) ≡ (x *ℤ y *ℤ pos (m * k) +ℤ x *ℤ z *ℤ pos (m * n)) *ℤ pos (m * (n * k))
 times_plus_parts x y z m n k = simp pos-*ℤ-pos at (times_plus_parts_ints x y z (pos m) (pos n) (pos k))
 
-pub times_plus : (a b c : Ratio) → SameRatio (times a (plus b c)) (plus (times a b) (times a c))
+times_plus : (a b c : Ratio) → SameRatio (times a (plus b c)) (plus (times a b) (times a c))
 times_plus a b c = times_plus_parts a.over b.over c.over a.under b.under c.under
 
 plus_left_parts : (x y z : ℤ) (m q k : ℕ) → x *ℤ pos q ≡ y *ℤ pos m → (x *ℤ pos k +ℤ z *ℤ pos m) *ℤ pos (q * k) ≡ (y *ℤ pos k +ℤ z *ℤ pos q) *ℤ pos (m * k)
@@ -79,7 +79,7 @@ plus_left_parts x y z m q k e = opened x z m q k ∙ ap (λ t. t *ℤ pos k *ℤ
     closed : (y z : ℤ) (m q k : ℕ) → y *ℤ pos m *ℤ pos k *ℤ pos k +ℤ z *ℤ pos m *ℤ pos q *ℤ pos k ≡ (y *ℤ pos k +ℤ z *ℤ pos q) *ℤ pos (m * k)
     closed y z m q k = simp pos-*ℤ-pos at (closed_ints y z (pos m) (pos q) (pos k))
 
-pub plus_same_left : (a b c : Ratio) → SameRatio a b → SameRatio (plus a c) (plus b c)
+plus_same_left : (a b c : Ratio) → SameRatio a b → SameRatio (plus a c) (plus b c)
 plus_same_left a b c e = plus_left_parts a.over b.over c.over a.under b.under c.under e
 
 plus_right_parts : (x y z : ℤ) (m q k : ℕ) → x *ℤ pos q ≡ y *ℤ pos m → (z *ℤ pos m +ℤ x *ℤ pos k) *ℤ pos (k * q) ≡ (z *ℤ pos q +ℤ y *ℤ pos k) *ℤ pos (k * m)
@@ -97,7 +97,7 @@ plus_right_parts x y z m q k e = opened x z m q k ∙ ap (λ t. z *ℤ pos m *�
     closed : (y z : ℤ) (m q k : ℕ) → z *ℤ pos m *ℤ pos q *ℤ pos k +ℤ y *ℤ pos m *ℤ pos k *ℤ pos k ≡ (z *ℤ pos q +ℤ y *ℤ pos k) *ℤ pos (k * m)
     closed y z m q k = simp pos-*ℤ-pos at (closed_ints y z (pos m) (pos q) (pos k))
 
-pub plus_same_right : (a b c : Ratio) → SameRatio a b → SameRatio (plus c a) (plus c b)
+plus_same_right : (a b c : Ratio) → SameRatio a b → SameRatio (plus c a) (plus c b)
 plus_same_right a b c e = plus_right_parts a.over b.over c.over a.under b.under c.under e
 
 times_left_parts : (x y z : ℤ) (m q k : ℕ) → x *ℤ pos q ≡ y *ℤ pos m → x *ℤ z *ℤ pos (q * k) ≡ y *ℤ z *ℤ pos (m * k)
@@ -109,7 +109,7 @@ times_left_parts x y z m q k e = opened x z q k ∙ ap (λ t. t *ℤ z *ℤ pos 
     opened : (x z : ℤ) (q k : ℕ) → x *ℤ z *ℤ pos (q * k) ≡ x *ℤ pos q *ℤ z *ℤ pos k
     opened x z q k = simp pos-*ℤ-pos at (opened_ints x z (pos q) (pos k))
 
-pub times_same_left : (a b c : Ratio) → SameRatio a b → SameRatio (times a c) (times b c)
+times_same_left : (a b c : Ratio) → SameRatio a b → SameRatio (times a c) (times b c)
 times_same_left a b c e = times_left_parts a.over b.over c.over a.under b.under c.under e
 
 times_right_parts : (x y z : ℤ) (m q k : ℕ) → x *ℤ pos q ≡ y *ℤ pos m → z *ℤ x *ℤ pos (k * q) ≡ z *ℤ y *ℤ pos (k * m)
@@ -121,7 +121,7 @@ times_right_parts x y z m q k e = opened x z q k ∙ ap (λ t. t *ℤ z *ℤ pos
     opened : (x z : ℤ) (q k : ℕ) → z *ℤ x *ℤ pos (k * q) ≡ x *ℤ pos q *ℤ z *ℤ pos k
     opened x z q k = simp pos-*ℤ-pos at (opened_ints x z (pos q) (pos k))
 
-pub times_same_right : (a b c : Ratio) → SameRatio a b → SameRatio (times c a) (times c b)
+times_same_right : (a b c : Ratio) → SameRatio a b → SameRatio (times c a) (times c b)
 times_same_right a b c e = times_right_parts a.over b.over c.over a.under b.under c.under e
 
 zero_parts : (y : ℤ) (m n : ℕ) → (pos 0 *ℤ pos n +ℤ y *ℤ pos m) *ℤ pos n ≡ y *ℤ pos (m * n)
@@ -137,7 +137,7 @@ zero_parts y m n = ap (λ t. (t +ℤ y *ℤ pos m) *ℤ pos n) (zero-*ℤ (pos n
     joined y m n = simp pos-*ℤ-pos at (joined_ints y (pos m) (pos n))
 
 -- 0 adds nothing
-pub zero_plus : (a b : Ratio) → a.over ≡ pos 0 → SameRatio (plus a b) b
+zero_plus : (a b : Ratio) → a.over ≡ pos 0 → SameRatio (plus a b) b
 zero_plus a b e = ap (λ t. (t *ℤ pos b.under +ℤ b.over *ℤ pos a.under) *ℤ pos b.under) e ∙ zero_parts b.over a.under b.under
 
 pub times_zero : (a b : Ratio) → b.over ≡ pos 0 → (times a b).over ≡ pos 0

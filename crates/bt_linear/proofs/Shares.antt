@@ -92,7 +92,7 @@ shares_lack by p (t ∷ terms) (s ∷ shares) each none = elim (decide t.0 p) [
 ]
 
 -- the negated quotients add up to 1 over the divisor, negated, times the sum of the line
-pub shares_total : (at : ℕ → Ratio) → AreValues at → (by share : Ratio) (terms shares : Terms) → Positive by → Positive share → IsDivision one by share → All HasNumber terms
+shares_total : (at : ℕ → Ratio) → AreValues at → (by share : Ratio) (terms shares : Terms) → Positive by → Positive share → IsDivision one by share → All HasNumber terms
     → AllZip (IsNegatedShare by) terms shares → Alike (total at shares) (times (negated share) (total at terms))
 shares_total at values by share [] [] by_some some is all each =
     back (zero_alike (times (negated share) nothing) (times_positive (negated share) nothing some nothing_some) (times_zero (negated share) nothing refl))
@@ -111,7 +111,7 @@ shares_total at values by share (t ∷ terms) (s ∷ shares) by_some some is all
     (back (spread (negated share) (times t.1 (at t.0)) (total at terms) some (times_positive t.1 (at t.0) here.0.positive (values t.0)) (total_positive at values terms rest)))
 
 -- minus the quotient of -1 is the quotient of 1
-pub share_of : (by : Ratio) (position : ℕ) (s : ℕ × Ratio) → Positive by → IsNegatedShare by (position, negated one) s → IsDivision one by s.1
+share_of : (by : Ratio) (position : ℕ) (s : ℕ × Ratio) → Positive by → IsNegatedShare by (position, negated one) s → IsDivision one by s.1
 share_of by position s by_some share =
     let q = share.quotient in
     let some = share.quotient_lowest.positive in

@@ -58,7 +58,7 @@ whole_over z d = record { over = z; under = d }
 pub reduced_alike : (z : ℤ) (d : ℕ) → 0 < d → d < 2 ^ 127 → FitsPart z → Alike (reduced z d) (whole_over z d)
 reduced_alike z d some fits small = alike (reduced z d) (whole_over z d) (reduced_lowest z d some fits small).positive some (reduced_over z d)
 
-pub zero_reduced : (z : ℤ) (d : ℕ) → 0 < d → z ≡ pos 0 → (reduced z d).over ≡ pos 0
+zero_reduced : (z : ℤ) (d : ℕ) → 0 < d → z ≡ pos 0 → (reduced z d).over ≡ pos 0
 zero_reduced z d some e =
     mul_cancel (reduced z d).over (pos 0) d some (reduced_over z d ∙ ap (λ t. t *ℤ pos (reduced z d).under) e ∙ zero-*ℤ (pos (reduced z d).under) ∙ sym (zero-*ℤ (pos d)))
 

@@ -1,4 +1,4 @@
--- The lines that a turn forms of short lines.
+-- The lines that a pivot forms of short lines.
 use Rattle.std.proofs.Common.{FitsSigned, lit<, ◌≡◌, ◌≢◌, ℕ, ◌+◌, ◌-◌, ◌*◌, ◌/◌, ◌^◌, ◌<◌, ◌≤◌, arith, ℤ, pos, neg_ℤ, ◌*ℤ◌, ◌-ℤ◌, unsigned_abs, [], ◌∷◌, ◌++◌, length, take, drop, set, get_or, Option, Some, None, Result, Ok, Err, IfOk, IfSome, ap, sym, ◌∙◌, refl, subst}
 use Rattle.std.specs.List.{All}
 use Rattle.std.proofs.lemmas.Int.{ints, fits_signed_from_abs}
@@ -33,7 +33,7 @@ common_more terms i d common under size g inside size_is is so_far = (
 )
 
 -- a number and its denominator, both divided by a number
-pub lowered_same : (z q : ℤ) (u g : ℕ) → q *ℤ pos g ≡ z → g ∣ u → 0 < u → u < 2 ^ 31 → IsSmall q → IsSmall z → reduced q (u / g) ≡ reduced z u
+lowered_same : (z q : ℤ) (u g : ℕ) → q *ℤ pos g ≡ z → g ∣ u → 0 < u → u < 2 ^ 31 → IsSmall q → IsSmall z → reduced q (u / g) ≡ reduced z u
 lowered_same z q u g is divides some fits small small' =
     let v_some : 0 < u / g = quotient_positive u g some divides in
     let v_fits : u / g < 2 ^ 127 = omega arith in
@@ -41,7 +41,7 @@ lowered_same z q u g is divides some fits small small' =
     reduced_only (reduced q (u / g)) z u some (omega arith) (omega arith) (reduced_lowest q (u / g) v_some v_fits (omega arith))
     (subst (λ n. IsOver (reduced q (u / g)) z n) by (subst (λ t. IsOver (reduced q (u / g)) t (g * (u / g))) is (over_scaled (reduced q (u / g)) q (u / g) g (reduced_over q (u / g)))))
 
-pub lowered_more : (u g : ℕ) (terms : Numbers) (i : ℕ) (d : ℕ × ℤ) (numbers : Numbers) (q : ℤ) → 0 < u → u < 2 ^ 31 → g ∣ u → All (λ t. IsSmall t.1) terms → i < length terms → q *ℤ pos g ≡ (get_or terms i d).1
+lowered_more : (u g : ℕ) (terms : Numbers) (i : ℕ) (d : ℕ × ℤ) (numbers : Numbers) (q : ℤ) → 0 < u → u < 2 ^ 31 → g ∣ u → All (λ t. IsSmall t.1) terms → i < length terms → q *ℤ pos g ≡ (get_or terms i d).1
     → IsSmall q → AreOver (u / g) (terms_over u terms) i numbers → AreOver (u / g) (terms_over u terms) (i + 1) (numbers ++ ((get_or terms i d).0, q) ∷ [])
 lowered_more u g terms i d numbers q some fits divides all inside is small so_far =
     let t : ℕ × ℤ = get_or terms i d in
@@ -93,7 +93,7 @@ lone_told p z k lu ru u m r right written now fits small not scales sum line is 
     (told.0, subst (λ l. IsCombination ((p, reduced z lu) ∷ []) (reduced k lu) l (terms_over u written)) is told.1)
 
 -- a denominator over the magnitude of a number, with its sign
-pub share_is_of : (share n : ℤ) (size d : ℕ) → size ≡ unsigned_abs n → n ≢ pos 0 → IsSmall n → 0 < d → d < 2 ^ 31 → unsigned_abs share ≡ d → share *ℤ n ≡ pos (unsigned_abs n * d) → IsDivision one (reduced n d) (reduced share size)
+share_is_of : (share n : ℤ) (size d : ℕ) → size ≡ unsigned_abs n → n ≢ pos 0 → IsSmall n → 0 < d → d < 2 ^ 31 → unsigned_abs share ≡ d → share *ℤ n ≡ pos (unsigned_abs n * d) → IsDivision one (reduced n d) (reduced share size)
 share_is_of share n size d size_is not small some fits share_size product =
     let size_some : 0 < size = subst (λ k. 0 < k) (sym size_is) (positive n not) in
     let size_fits : size < 2 ^ 127 = omega arith in
@@ -135,7 +135,7 @@ zero_is p enters lu numbers now nil f n share opposite size short is whole named
     positive z h = grind (arith, ints)
 
 -- a whole number 1
-pub one_reduced : reduced (pos 1) 1 ≡ one
+one_reduced : reduced (pos 1) 1 ≡ one
 one_reduced = sym (reduced_only one (pos 1) 1 (omega arith) (lit< tt) (lit< tt) one_lowest refl)
 
 -- the line that enters

@@ -37,7 +37,7 @@ within_is (suc n) a b h = at (b == 0) refl (λ less. within_is n b (a % b) less)
         let some : 0 < b = grind (arith, nat_tests) in
         IsGcd-from_mod a b (divisor_within n b (a % b)) (rest (omega arith))
 
-pub divisor_is : (a b : ℕ) → IsGcd a b (divisor a b)
+divisor_is : (a b : ℕ) → IsGcd a b (divisor a b)
 unfolding divisor
 divisor_is a b = within_is b a b (omega arith)
 
@@ -90,13 +90,13 @@ reduced_negated z under some fits small =
     size : (z : ℤ) → unsigned_abs (neg_ℤ z) ≡ unsigned_abs z
     size z = omega (arith, ints)
 
-pub negated_over : (under : ℕ) (numbers : Numbers) → 0 < under → under < 2 ^ 31 → All (λ t. IsSmall t.1) numbers → terms_over under (signed_numbers true numbers) ≡ signed_terms true (terms_over under numbers)
+negated_over : (under : ℕ) (numbers : Numbers) → 0 < under → under < 2 ^ 31 → All (λ t. IsSmall t.1) numbers → terms_over under (signed_numbers true numbers) ≡ signed_terms true (terms_over under numbers)
 negated_over under [] some fits all = refl
 negated_over under (t ∷ numbers) some fits all =
     ap (λ n. (t.0, n) ∷ terms_over under (signed_numbers true numbers)) (reduced_negated t.1 under some (under_fits under fits) (small_fits t.1 (All-head (λ u. IsSmall u.1) t numbers all)))
     ∙ ap (λ l. (t.0, negated (reduced t.1 under)) ∷ l) (negated_over under numbers some fits (All-tail (λ u. IsSmall u.1) t numbers all))
 
-pub negated_small : (numbers : Numbers) → All (λ t. IsSmall t.1) numbers → All (λ t. IsSmall t.1) (signed_numbers true numbers)
+negated_small : (numbers : Numbers) → All (λ t. IsSmall t.1) numbers → All (λ t. IsSmall t.1) (signed_numbers true numbers)
 negated_small [] all = All-nil (λ u. IsSmall u.1)
 negated_small (t ∷ numbers) all =
     All-cons (λ u. IsSmall u.1) (t.0, neg_ℤ t.1) (signed_numbers true numbers) (same t.1 (All-head (λ u. IsSmall u.1) t numbers all)) (negated_small numbers (All-tail (λ u. IsSmall u.1) t numbers all))
@@ -138,7 +138,7 @@ number_over p under (t ∷ numbers) = at (t.0 == p) (coefficient_at p (terms_ove
 pub over_more : (under : ℕ) (numbers : Numbers) (p : ℕ) (z : ℤ) → terms_over under (numbers ++ (p, z) ∷ []) ≡ terms_over under numbers ++ (p, reduced z under) ∷ []
 over_more under numbers p z = map-append (λ t. (t.0, reduced t.1 under)) numbers ((p, z) ∷ [])
 
-pub divides_next : (d m n : ℕ) → Divides d m → Divides m n → Divides d n
+divides_next : (d m n : ℕ) → Divides d m → Divides m n → Divides d n
 divides_next d m n (k, e) (l, f) = (k * l, sym (mul_assoc d k l) ∙ ap (λ t. t * l) e ∙ f)
 
 -- the quotient of two numbers that these are

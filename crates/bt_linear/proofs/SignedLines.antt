@@ -16,7 +16,7 @@ use Rattle.bt_linear.proofs.Totals.{total_positive, rest_line}
 use Rattle.bt_linear.proofs.Zeros.{one_some, one_term, one_times, one_number, share_is, share_some, negated_alike, combined_alike}
 
 -- a number with the other sign
-pub negated_number : (t : ℕ × Ratio) → HasNumber t → HasNumber (t.0, negated t.1)
+negated_number : (t : ℕ × Ratio) → HasNumber t → HasNumber (t.0, negated t.1)
 negated_number t has = (negated_low t.1 has.0, λ e. has.1 (none t.1.over e))
   where
     none : (z : ℤ) → neg_ℤ z ≡ pos 0 → z ≡ pos 0
@@ -50,14 +50,14 @@ negated_total at values (t ∷ terms) all =
     (both_plus (subst (λ r. Alike r (negated (times t.1 (at t.0)))) (sym (negated_times t.1 (at t.0))) (itself (negated (times t.1 (at t.0))) here)) (negated_total at values terms rest))
 
 -- its numbers have the other sign
-pub negated_none : (q : ℕ) (terms : Terms) → coefficient_at q terms ≡ None → coefficient_at q (signed_terms true terms) ≡ None
+negated_none : (q : ℕ) (terms : Terms) → coefficient_at q terms ≡ None → coefficient_at q (signed_terms true terms) ≡ None
 negated_none q [] none = refl
 negated_none q (t ∷ terms) none = elim (decide t.0 q) [
   | inl same ↦ let both : Some t.1 ≡ None = sym (number_here t terms q same) ∙ none in absurd cc
   | inr apart ↦ number_later (t.0, negated t.1) (signed_terms true terms) q apart ∙ negated_none q terms (sym (number_later t terms q apart) ∙ none)
 ]
 
-pub negated_named : (q : ℕ) (terms : Terms) (number : Ratio) → coefficient_at q terms ≡ Some number → coefficient_at q (signed_terms true terms) ≡ Some (negated number)
+negated_named : (q : ℕ) (terms : Terms) (number : Ratio) → coefficient_at q terms ≡ Some number → coefficient_at q (signed_terms true terms) ≡ Some (negated number)
 negated_named q [] number named = absurd cc
 negated_named q (t ∷ terms) number named = elim (decide t.0 q) [
   | inl same ↦

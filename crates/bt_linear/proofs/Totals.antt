@@ -21,7 +21,7 @@ total_positive at some (t ∷ terms) all =
     (total_positive at some terms (All-tail HasNumber t terms all))
 
 -- a line starts after this position, if at all
-pub StartsAfter : ℕ → Terms → Type 0
+StartsAfter : ℕ → Terms → Type 0
 StartsAfter position [] = Unit {0}
 StartsAfter position (t ∷ terms) = position < t.0
 
@@ -33,7 +33,7 @@ later position least (t ∷ terms) after line = record { ascends = (omega arith,
 pub rest_line : (least : ℕ) (t : ℕ × Ratio) (terms : Terms) → IsLineFrom least (t ∷ terms) → IsLineFrom (t.0 + 1) terms
 rest_line least t terms line = record { ascends = line.ascends.2; numbers = All-tail HasNumber t terms line.numbers }
 
-pub step_left : (first : ℕ × Ratio) (rest : Terms) (factor : Ratio) (right : Terms) → Positive factor → StartsAfter first.0 right
+step_left : (first : ℕ × Ratio) (rest : Terms) (factor : Ratio) (right : Terms) → Positive factor → StartsAfter first.0 right
     → IsStep (first ∷ rest) factor right (Some first) rest right
 step_left first rest factor right some after = record {
   sums = λ at values left_all right_all.
@@ -76,7 +76,7 @@ moved l f y a r p l_some f_some y_some a_some r_some p_some is =
     (next (back (group_times f y a f_some y_some a_some)) (both_times (alike (times f y) p (times_positive f y f_some y_some) p_some (sym is)) (itself a a_some)))
     (itself (plus l (times f r)) (plus_positive l (times f r) l_some fr))))
 
-pub step_right : (left : Terms) (factor : Ratio) (second : ℕ × Ratio) (rest : Terms) (product : Ratio) → IsLowest factor → factor.over ≢ pos 0 → IsLowest product
+step_right : (left : Terms) (factor : Ratio) (second : ℕ × Ratio) (rest : Terms) (product : Ratio) → IsLowest factor → factor.over ≢ pos 0 → IsLowest product
     → IsProduct factor second.1 product → StartsAfter second.0 left → IsStep left factor (second ∷ rest) (Some (second.0, product)) left rest
 step_right left factor second rest product factor_low factor_some low is after = record {
   sums = λ at values left_all right_all.
@@ -129,7 +129,7 @@ numbered_total at position sum more (Some t) values s_some m_some is =
     subst (λ u. Alike (plus (times sum (at position)) more) (plus (times u.1 (at u.0)) more)) (sym is.0)
     (itself (plus (times sum (at position)) more) (plus_positive (times sum (at position)) more (times_positive sum (at position) s_some (values position)) m_some))
 
-pub step_both : (first : ℕ × Ratio) (left : Terms) (factor : Ratio) (second : ℕ × Ratio) (right : Terms) (product sum : Ratio) (term : Option (ℕ × Ratio))
+step_both : (first : ℕ × Ratio) (left : Terms) (factor : Ratio) (second : ℕ × Ratio) (right : Terms) (product sum : Ratio) (term : Option (ℕ × Ratio))
     → first.0 ≡ second.0 → IsLowest factor → IsLowest product → IsProduct factor second.1 product → IsLowest sum → IsSum first.1 product sum → IsNumbered first.0 sum term
     → IsStep (first ∷ left) factor (second ∷ right) term left right
 step_both first left factor second right product sum term same factor_low low is sum_low is_sum numbered = record {

@@ -1,12 +1,9 @@
 -- Operations of lines that don't fit, and where all fit.
-use Rattle.std.proofs.Common.{◌≡◌, ℕ, ◌*◌, ◌/◌, ◌<◌, ◌^◌, arith, lit<, pos, neg_ℤ, ◌+ℤ◌, ◌*ℤ◌, Bool, true, false, if◌then◌else◌, ◌==◌, [], ◌∷◌, Result, Ok, Err, IfOk, IfErr, Some, None, ap, sym, ◌∙◌, refl, subst}
+use Rattle.std.proofs.Common.{◌≡◌, ℕ, arith, Bool, true, false, if◌then◌else◌, ◌==◌, [], ◌∷◌, Result, Ok, Err, IfOk, IfErr, Some, None, ap, sym, ◌∙◌, refl, subst}
 use Rattle.std.specs.List.{All}
 use Rattle.std.proofs.lemmas.Bool.Decides.{nat_tests}
-use Rattle.std.proofs.Math.Nat.{eq-one_of_dvd-one}
-use Rattle.bt_frac.specs.Ratio.{Ratio, IsLowest, FitsPart, IsWide, negated}
+use Rattle.bt_frac.specs.Ratio.{Ratio, IsLowest, IsWide, negated}
 use Rattle.bt_frac.specs.Products.{IsProduct}
-use Rattle.bt_frac.specs.Values.{times}
-use Rattle.bt_frac.proofs.Euclid.{lowest_same}
 use Rattle.bt_lin.specs.WeightedRows.{coefficient_at}
 use Rattle.bt_linear.specs.Lines.{one, Terms, HasNumber, IsLine, IsCombination}
 use Rattle.bt_linear.specs.Unfits.{IsNone, IsUnfitStep, IsUnfit, IsUnfitShare, IsUnfitTerm, IsUnfitZero}
@@ -17,9 +14,9 @@ use Rattle.std.specs.declared.alloc.AllocError.{AllocError}
 use Rattle.bt_linear.specs.inner.Shares.{IsNegatedShare, AreNegatedShares}
 use Rattle.bt_linear.specs.Substituting.{IsZeroLine}
 use Rattle.bt_linear.proofs.Indicators.{number_has}
-use Rattle.bt_linear.proofs.Numbers.{Positive, Alike, alike, next, times_positive}
-use Rattle.bt_linear.proofs.Shares.{negated_low, shares_lack, shares_zero}
-use Rattle.bt_linear.proofs.Zeros.{one_some, one_times, one_lowest}
+use Rattle.bt_linear.proofs.Numbers.{Positive}
+use Rattle.bt_linear.proofs.Shares.{shares_lack, shares_zero}
+use Rattle.bt_linear.proofs.Zeros.{one_times}
 
 -- 1 times a number fits, and is the number
 one_product : (by : Ratio) → Positive by → IsProduct one by by
@@ -49,43 +46,12 @@ alone_named s p a e = at (s.0 == p) refl e
     at false test is = absurd cc
 
 -- a position that the line lacks is added to it
-pub zero_fits : (s : ℕ × Ratio) (shares : Terms) (unfit : Unfit) → All HasNumber shares → coefficient_at s.0 shares ≡ None → IsUnfit (s ∷ []) one shares unfit → ⊥
+zero_fits : (s : ℕ × Ratio) (shares : Terms) (unfit : Unfit) → All HasNumber shares → coefficient_at s.0 shares ≡ None → IsUnfit (s ∷ []) one shares unfit → ⊥
 zero_fits s shares unfit all lacks =
     combined_fits (s ∷ []) shares unfit all (λ a b has by named low product wide.
     let here : Some by ≡ None = sym named ∙ ap (λ p. coefficient_at p shares) (sym (alone_named s unfit.column a has).0) ∙ lacks in
     let same : Some by ≡ None = here in
     cc)
-
--- 1 and -1 add up
-ones_fit : IsWide one (negated one) → ⊥
-ones_fit (n, wide) =
-    let common : n.common ≡ 1 = eq-one_of_dvd-one n.is_common.0 in
-    let share : 1 / n.common ≡ 1 = ap (λ g. 1 / g) common in
-    let left : n.left ≡ pos 1 = n.left_is ∙ ap (λ k. pos 1 *ℤ pos k) share in
-    let right : n.right ≡ neg_ℤ (pos 1) = n.right_is ∙ ap (λ k. neg_ℤ (pos 1) *ℤ pos k) share in
-    let under : n.under ≡ 1 = n.under_is ∙ ap (λ k. 1 * k) share in
-    wide (record {
-      left_fits = subst FitsPart (sym left) (lit< tt);
-      right_fits = subst FitsPart (sym right) (lit< tt);
-      sum_fits = subst (λ l. FitsPart (l +ℤ n.right)) (sym left) (subst (λ r. FitsPart (pos 1 +ℤ r)) (sym right) (lit< tt));
-      under_fits = subst (λ u. u < 2 ^ 127) (sym under) (lit< tt);
-    })
-
--- the entering position is added to the zero line
-pub entering_fits : (enters : ℕ) (zero : Terms) (unfit : Unfit) → All HasNumber zero → coefficient_at enters zero ≡ Some (negated one) → IsUnfit ((enters, one) ∷ []) one zero unfit → ⊥
-entering_fits enters zero unfit all number =
-    combined_fits ((enters, one) ∷ []) zero unfit all (λ a b has by named low product wide.
-    let alone = alone_named (enters, one) unfit.column a has in
-    let by_is : Some by ≡ Some (negated one) = sym named ∙ ap (λ p. coefficient_at p zero) (sym alone.0) ∙ number in
-    let minus : by ≡ negated one = cc in
-    let b_is : b ≡ negated one =
-    lowest_same b (negated one) low (negated_low one one_lowest)
-    (next (alike b (times one by) low.positive (times_positive one by one_some (some_of by minus)) product)
-    (subst (λ r. Alike (times one r) (negated one)) (sym minus) (one_times (negated one) one_some))).same in
-    ones_fit (subst (λ r. IsWide one r) b_is (subst (λ l. IsWide l b) (sym alone.1) wide)))
-  where
-    some_of : (by : Ratio) → by ≡ negated one → Positive by
-    some_of by e = subst Positive (sym e) one_some
 
 -- the quotient of a term
 pub term_unfit : (terms : Terms) (t : ℕ × Ratio) (by : Ratio) (unfit : Unfit) → coefficient_at t.0 terms ≡ Some t.1 → IsUnfitShare t.0 t.1 by unfit → IsUnfitTerm terms by unfit

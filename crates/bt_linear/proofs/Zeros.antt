@@ -1,4 +1,4 @@
--- The line that is 0 where a line of the solved form holds, which a turn adds to the other lines.
+-- The line that is 0 where a line of the solved form holds, which a pivot adds to the other lines.
 use Rattle.std.proofs.Common.{◌≡◌, ◌≢◌, ℕ, arith, lit<, pos, neg_ℤ, false, if◌then◌else◌, ◌==◌, [], ◌∷◌, Some, ap, sym, ◌∙◌, refl, subst, ◌⊎◌, inl, inr}
 use Rattle.std.specs.List.{All}
 use Rattle.std.proofs.lemmas.Int.{ints}

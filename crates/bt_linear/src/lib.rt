@@ -6,10 +6,12 @@ mod line;
 mod merging;
 mod quotients;
 mod short;
+mod term;
 mod unfit;
 
-pub use line::{Line, Room, Term, combined, lone_line};
+pub use line::{Line, combined, lone_line};
 pub use merging::is_zero;
 pub use quotients::zero_line;
-pub use short::{Change, Entry, Scales, Short, number};
+pub use short::{Change, Entry, Room, Scales, Short, number};
+pub use term::Term;
 pub use unfit::{Operation, Unfit};

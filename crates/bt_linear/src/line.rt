@@ -9,18 +9,13 @@ ghost use Rattle.bt_linear.specs.Unfits.{IsUnfit};
 ghost use Rattle.bt_linear.specs.TermSigns.{IsSignedTerm};
 
 use crate::merging::merged;
-use crate::short::{Change, Entry, Short, entering_line, lone_short, shortened, zero_line};
+use crate::short::{Change, Room, Short, entering_line, lone_short, shortened, zero_line};
+use crate::term::Term;
 use crate::unfit::Unfit;
 use bt_frac::Frac;
 use std::alloc::{AllocError, Global};
 use std::cmp::Ordering;
 use std::marker::Model;
-
-/// A position with its number.
-pub type Term = (usize, Frac);
-
-/// A list whose terms are dropped, so that a line can be formed in its memory.
-pub type Room = Vec<Entry>;
 
 /// How a line holds its terms.
 #[derive(Drop)]

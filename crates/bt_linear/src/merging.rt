@@ -6,7 +6,7 @@ ghost use Rattle.bt_linear.specs.Lines.{IsLine, IsCombination};
 ghost use Rattle.bt_linear.specs.inner.Steps.{IsStep, AddsTo};
 ghost use Rattle.bt_linear.specs.Unfits.{IsUnfitHere, IsUnfit};
 
-use crate::line::Term;
+use crate::term::Term;
 use crate::unfit::{Operation, Unfit};
 use bt_frac::Frac;
 use std::alloc::AllocError;

@@ -13,10 +13,10 @@ mod entry;
 mod merging;
 mod zero;
 
-use crate::line::Term;
+use crate::term::Term;
 use bt_frac::Frac;
 pub use copying::lone_short;
-pub use entry::Entry;
+pub use entry::{Entry, Room};
 pub use merging::{Change, Scales};
 use std::alloc::{AllocError, Global};
 use std::cmp::Ordering;

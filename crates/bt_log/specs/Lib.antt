@@ -5,4 +5,6 @@ pub mod Refuting
 pub mod Units
 pub mod Validity
 pub mod Views
+pub mod TrimmingLaws
+pub mod Trimming
 pub mod inner

@@ -28,7 +28,7 @@ pub no_link : (parts : List Part) (i : ℕ) → IsSplitter parts i → IsLink pa
 no_link parts i splitter link = link.2 (subst (λ p. p.kind ≡ Splitter) (same_part parts i splitter.0 link.0 splitter.1 link.1) splitter.2)
 
 -- from one part on there is one path that can't be made longer
-pub same_links : (parts : List Part) → IsWellPlaced parts → (i last end : ℕ) (xs ys : List ℕ) → Path parts i last xs → Path parts i end ys
+same_links : (parts : List Part) → IsWellPlaced parts → (i last end : ℕ) (xs ys : List ℕ) → Path parts i last xs → Path parts i end ys
     → ((k : ℕ) → LinksTo parts last k → ⊥) → ((k : ℕ) → LinksTo parts end k → ⊥) → (last ≡ end) × (xs ≡ ys)
 same_links parts placed i last end xs ys (one j link) (one k other) no_last no_end = (refl, refl)
 same_links parts placed i last end xs ys (one j link) (more k m e rest other hands path) no_last no_end =
@@ -58,7 +58,7 @@ chain_is c d sources links sinks =
     ∙ ap (λ z. record { source = d.source; links = z; sink = c.sink }) links
     ∙ ap (λ z. record { source = d.source; links = d.links; sink = z }) sinks
 
-pub no_links_after : (parts : List Part) (c : Chain) (h : IsLongest parts c) → (k : ℕ) → LinksTo parts h.last k → ⊥
+no_links_after : (parts : List Part) (c : Chain) (h : IsLongest parts c) → (k : ℕ) → LinksTo parts h.last k → ⊥
 no_links_after parts c h k links = h.none_after k links.1 links.2
 
 pub path_stop : (parts : List Part) (i last : ℕ) (links : List ℕ) → Path parts i last links → IsLink parts last

@@ -44,7 +44,7 @@ feeds_from parts p q giver taker half is_p is_q feeds = record {
 }
 
 -- a part feeds from its own cell or from the greater half
-pub feeds_halves : (parts : List Part) (p q : ℕ) (giver taker : Part) → HasPart parts p giver → HasPart parts q taker
+feeds_halves : (parts : List Part) (p q : ℕ) (giver taker : Part) → HasPart parts p giver → HasPart parts q taker
     → Feeds parts p q → FeedsPart giver giver.cell taker ⊎ ((half : Cell) × IsGreaterHalf giver half × FeedsPart giver half taker)
 feeds_halves parts p q giver taker is_p is_q feeds =
     let there = feeds_part parts p q giver taker feeds.0 is_p is_q feeds.1 in

@@ -3,7 +3,7 @@ use Rattle.std.proofs.Common.{◌≡◌, ℕ, ◌+◌, ◌<◌, ◌≤◌, ◌�
 use Rattle.std.specs.Prelude.{slice_get}
 use Rattle.std.proofs.lemmas.Option.{same_Some, slice_get_within}
 use Rattle.std.proofs.lemmas.Bool.{cases_lt}
-use Rattle.bt_model.specs.RequestFaults.{HasNone, IsLeast, IsLineOfBad, IsLaterOfTwo}
+use Rattle.bt_model.specs.RequestFaults.{IsLineOfBad, IsLaterOfTwo}
 use Rattle.bt_model.specs.inner.Least.{IsLeastIfAny, lesser, MayPrecede, IsLaterHere, IsRefusedHere, IsRefusedBelow}
 
 -- below the next number is below this one or at it
@@ -11,12 +11,12 @@ below_or_at : (n k : ℕ) → n < k + 1 → (n < k) ⊎ (n ≡ k)
 below_or_at n k h = ⊎_elim inl (λ le. inr (omega arith)) (cases_lt n k)
 
 -- what has the least of P has that of Q, where the two say the same
-pub same_least : (P Q : ℕ → Type 0) (o : Option ℕ) → ((n : ℕ) → P n → Q n) → ((n : ℕ) → Q n → P n) → IsLeastIfAny P o → IsLeastIfAny Q o
+same_least : (P Q : ℕ → Type 0) (o : Option ℕ) → ((n : ℕ) → P n → Q n) → ((n : ℕ) → Q n → P n) → IsLeastIfAny P o → IsLeastIfAny Q o
 same_least P Q None to from none = λ n q. none n (from n q)
 same_least P Q (Some l) to from least = (to l least.0, λ m q. least.1 m (from m q))
 
 -- the lesser one of two least numbers is the least that has either property
-pub lesser_least : (P Q : ℕ → Type 0) (a b : Option ℕ) → IsLeastIfAny P a → IsLeastIfAny Q b → IsLeastIfAny (λ n. P n ⊎ Q n) (lesser a b)
+lesser_least : (P Q : ℕ → Type 0) (a b : Option ℕ) → IsLeastIfAny P a → IsLeastIfAny Q b → IsLeastIfAny (λ n. P n ⊎ Q n) (lesser a b)
 lesser_least P Q None None p q = λ n h. ⊎_elim (p n) (q n) h
 lesser_least P Q None (Some n) p q = (inr q.0, λ m h. ⊎_elim (λ x. absurd (p m x)) (q.1 m) h)
 lesser_least P Q (Some m) None p q = (inl p.0, λ n h. ⊎_elim (p.1 n) (λ x. absurd (q n x)) h)
@@ -40,20 +40,7 @@ kept_least P Q None line late above p = absurd (late tt)
 kept_least P Q (Some l) line late above p = (inl p.0, λ n h. ⊎_elim (p.1 n) (λ q. let le = above n q in omega (arith, late)) h)
 
 module _ {X : Type 0} (IsBad : X → Type 0) (Clash : X → X → Type 0) (line_of : X → ℕ) (xs : List X) where
-  -- no line is later than itself or refused before the first place
-  pub none_later : (place : ℕ) → HasNone (IsLaterHere Clash line_of xs place 0)
-  none_later place line later = let lt = later.apart in omega arith
 
-  pub none_refused : HasNone (IsRefusedBelow IsBad Clash line_of xs 0)
-  none_refused line refused = let lt = refused.1 in omega arith
-
-  -- one that is bad refuses its own line
-  pub bad_least : (place : ℕ) (x : X) → slice_get xs place ≡ Some x → IsBad x → IsLeast (IsRefusedHere IsBad Clash line_of xs place) (line_of x)
-  bad_least place x is bad = (
-    inl (x, is, bad, refl),
-    λ line refused. ⊎_elim
-        (λ here. omega (arith, here.3, ap line_of (same_Some x here.0 (sym is ∙ here.1))))
-        (λ later. omega (arith, later.line_is, ap line_of (same_Some x later.other (sym is ∙ later.is_other)))) refused,
   )
 
   -- one that isn't bad refuses a line only for an earlier one with which it clashes

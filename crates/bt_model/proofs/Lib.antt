@@ -13,3 +13,10 @@ pub mod HandLaws
 pub mod ChainLemmas
 pub mod ExistLemmas
 pub mod SameChain
+pub mod Lists
+pub mod Exchanged
+pub mod Added
+pub mod Followed
+pub mod Led
+pub mod Column
+pub mod Extended

@@ -36,7 +36,7 @@ sources_asymmetric (leaves s a) (leaves t b) (inr h) (inl k) = let e = h.0 in om
 sources_asymmetric (leaves s a) (leaves t b) (inr h) (inr k) = cells_asymmetric a b h.1 k.1
 
 -- a naming gives a source one start
-pub same_start : (naming : Naming) → AllPairs ◌≢◌ naming.splitters → AllPairs ◌≢◌ naming.inputs → (source : Source) (s t : Start)
+same_start : (naming : Naming) → AllPairs ◌≢◌ naming.splitters → AllPairs ◌≢◌ naming.inputs → (source : Source) (s t : Start)
     → IsStartOf naming source s → IsStartOf naming source t → s ≡ t
 same_start naming ss is (begins i a) (from.Input k) (from.Input l) h g = ap from.Input (one_place naming.inputs is k l i h g)
 same_start naming ss is (begins i a) (from.Input k) (from.Split l) h g = absurd g
@@ -46,7 +46,7 @@ same_start naming ss is (leaves s a) (from.Split k) (from.Input l) h g = absurd 
 same_start naming ss is (leaves s a) (from.Input k) t h g = absurd h
 
 -- a naming gives a sink one target
-pub same_target : (naming : Naming) → AllPairs ◌≢◌ naming.splitters → AllPairs ◌≢◌ naming.outputs → (sink : Sink) (s t : Target)
+same_target : (naming : Naming) → AllPairs ◌≢◌ naming.splitters → AllPairs ◌≢◌ naming.outputs → (sink : Sink) (s t : Target)
     → IsTargetOf naming sink s → IsTargetOf naming sink t → s ≡ t
 same_target naming ss os (ends i) (to.Output k) (to.Output l) h g = ap to.Output (one_place naming.outputs os k l i h g)
 same_target naming ss os (ends i) (to.Output k) (to.Split l) h g = absurd g

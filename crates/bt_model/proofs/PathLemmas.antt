@@ -56,7 +56,7 @@ path_next parts i last links (more j m l rest link hands path) (suc k) lt =
     (path_next parts m last rest path k (omega arith))
 
 -- the rest of a path from one of its parts on
-pub path_rest : (parts : List Part) (i last : ℕ) (links : List ℕ) → Path parts i last links → (k : ℕ) → k < length links
+path_rest : (parts : List Part) (i last : ℕ) (links : List ℕ) → Path parts i last links → (k : ℕ) → k < length links
     → (rest : List ℕ) × Path parts (get_or links k 0) last rest × (length rest + k ≡ length links)
 path_rest parts i last links (one j link) zero lt = (j ∷ [], one j link, omega arith)
 path_rest parts i last links (one j link) (suc k) lt = absurd (omega arith)
@@ -76,7 +76,7 @@ path_front parts i last links (more j m l rest link hands path) (suc k) lt =
     (j ∷ found.0, more j m _ found.0 link hands found.1, let e = found.2 in omega arith)
 
 -- a path that meets a part twice can be made shorter
-pub path_shorter : (parts : List Part) (i last : ℕ) (links : List ℕ) → Path parts i last links → (k l : ℕ) → k < l → l < length links
+path_shorter : (parts : List Part) (i last : ℕ) (links : List ℕ) → Path parts i last links → (k l : ℕ) → k < l → l < length links
     → get_or links k 0 ≡ get_or links l 0 → (rest : List ℕ) × Path parts i last rest × (length rest < length links)
 path_shorter parts i last links (one j link) k l lt in' same = absurd (omega arith)
 path_shorter parts i last links (more j m e rest link hands path) zero l lt in' same =
@@ -147,7 +147,7 @@ short_path (suc fuel) parts i last links path le =
     (cases_lt (length parts) (length links))
 
 -- a part on a ring is on one of no more parts than there are
-pub short_ring : (parts : List Part) (i : ℕ) → IsOnRing parts i
+short_ring : (parts : List Part) (i : ℕ) → IsOnRing parts i
     → (last : ℕ) × (links : List ℕ) × Path parts i last links × Hands parts last i × (length links ≤ length parts)
 short_ring parts i ring =
     let short = short_path (length ring.links) parts i ring.last ring.links ring.path (omega arith) in
@@ -170,7 +170,7 @@ links_functional : (parts : List Part) → IsWellPlaced parts → (i j k : ℕ) 
 links_functional parts placed i j k h g = one_handed parts placed i j k h.0 h.2 g.2
 
 -- what the part hands to is the next, or i where the ring closes
-pub ahead_on : (parts : List Part) → (i at steps : ℕ) → IsAhead parts i at steps
+ahead_on : (parts : List Part) → (i at steps : ℕ) → IsAhead parts i at steps
     → (last : ℕ) (links : List ℕ) → Path parts i last links → Hands parts last i
     → (LinksTo parts at (get_or links (suc steps) 0) × (suc steps < length links)) ⊎ LinksTo parts at i
 ahead_on parts i at steps on last links path closed =

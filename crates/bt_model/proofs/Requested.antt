@@ -4,8 +4,8 @@ use Rattle.std.specs.Prelude.{slice_get, Result, Ok, Err}
 use Rattle.std.proofs.lemmas.Bool.{cases_lt, cases_order}
 use Rattle.std.proofs.lemmas.Int.{ints}
 use Rattle.std.proofs.lemmas.Option.{same_Some, slice_get_within, slice_get-get_or, get_or_from_slice_get}
-use Rattle.bt_answers.specs.Answers.{AnswersAlways, HasOneAnswer}
-use Rattle.bt_answers.proofs.OneAnswer.{answers_always_of}
+use Rattle.bt_text.specs.Answers.{AnswersAlways, HasOneAnswer}
+use Rattle.bt_text.proofs.OneAnswer.{answers_always_of}
 use Rattle.bt_parts.specs.declared.part.Rect.{Rect}
 use Rattle.bt_parts.specs.Cells.{IsInside, cell_at}
 use Rattle.bt_net.specs.declared.network.Demand.{Demand}

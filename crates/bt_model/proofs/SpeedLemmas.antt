@@ -19,7 +19,7 @@ same_speed : (parts : List Part) (i a b : ℕ) → HasSpeed parts i a → HasSpe
 same_speed parts i a b h k = h.2 ∙ ap (λ p. speed_of p.tier) (same_part parts i h.0 k.0 h.1 k.1) ∙ sym k.2
 
 -- that of one part
-pub least_one : (parts : List Part) (i speed : ℕ) → HasSpeed parts i speed → IsLeastSpeed parts (λ j. j ≡ i) speed
+least_one : (parts : List Part) (i speed : ℕ) → HasSpeed parts i speed → IsLeastSpeed parts (λ j. j ≡ i) speed
 least_one parts i speed has = record {
   slowest = i;
   is_one = refl;
@@ -29,7 +29,7 @@ least_one parts i speed has = record {
 }
 
 -- of the same parts
-pub least_same : (parts : List Part) (P Q : ℕ → Type 0) (speed : ℕ) → ((i : ℕ) → P i → Q i) → ((i : ℕ) → Q i → P i)
+least_same : (parts : List Part) (P Q : ℕ → Type 0) (speed : ℕ) → ((i : ℕ) → P i → Q i) → ((i : ℕ) → Q i → P i)
     → IsLeastSpeed parts P speed → IsLeastSpeed parts Q speed
 least_same parts P Q speed widen narrow h = record {
   slowest = h.slowest;
@@ -39,7 +39,7 @@ least_same parts P Q speed widen narrow h = record {
 }
 
 -- of two kinds of parts
-pub least_both : (parts : List Part) (P Q : ℕ → Type 0) (a b : ℕ) → IsLeastSpeed parts P a → IsLeastSpeed parts Q b
+least_both : (parts : List Part) (P Q : ℕ → Type 0) (a b : ℕ) → IsLeastSpeed parts P a → IsLeastSpeed parts Q b
     → IsLeastSpeed parts (λ i. P i ⊎ Q i) (min a b)
 least_both parts P Q a b h k =
     ⊎_elim

@@ -1,7 +1,7 @@
 -- The layouts that a request is asking for.
 use Rattle.std.specs.Prelude.{◌≡◌, ◌⊎◌, ℕ, ◌<◌, List, slice_get, Some, All, Contains, IfSome}
 use Rattle.bt_parts.specs.declared.part.Cell.{Cell}
-use Rattle.bt_hands.specs.declared.hand.Priority.{Priority}
+use Rattle.bt_parts.specs.declared.hand.Priority.{Priority}
 use Rattle.bt_parts.specs.declared.part.Dir.{Dir}
 use Rattle.bt_parts.specs.declared.part.Dir.TheVariants.{East, South}
 use Rattle.bt_parts.specs.declared.part.Part.{Part}

@@ -8,4 +8,5 @@ pub mod Requests
 pub mod Shown
 pub mod Preferring
 pub mod Speeds
+pub mod Extending
 pub mod inner

@@ -1,10 +1,10 @@
 -- The edges that splitters prefer, where the parts of a layout have priorities.
 use Rattle.std.specs.Prelude.{◌≡◌, ℕ, List, [], length, slice_get, Option, Some, None, MatchOption, Contains, ◌⊎◌}
 use Rattle.std.specs.List.{AllZip}
-use Rattle.bt_hands.specs.declared.hand.Hand.{Hand}
-use Rattle.bt_hands.specs.declared.hand.Priority.{Priority}
-use Rattle.bt_hands.specs.Hands.{IsPreferred}
-pub use Rattle.bt_hands.specs.Hands.{no_priority, priority_of}
+use Rattle.bt_parts.specs.declared.hand.Hand.{Hand}
+use Rattle.bt_parts.specs.declared.hand.Priority.{Priority}
+use Rattle.bt_parts.specs.Hands.{IsPreferred}
+pub use Rattle.bt_parts.specs.Hands.{no_priority, priority_of}
 use Rattle.bt_parts.specs.declared.part.Cell.{Cell}
 use Rattle.bt_parts.specs.declared.part.Part.{Part}
 use Rattle.bt_parts.specs.Cells.{step}

@@ -1,6 +1,6 @@
 //! Requests for a layout as values: what was checked once, each call above may rely on.
 ghost use Rattle.std.specs.Prelude.{◌≡◌};
-ghost use Rattle.bt_answers.specs.Answers.{AnswersAlways};
+ghost use Rattle.bt_text.specs.Answers.{AnswersAlways};
 
 use crate::fault::RequestFault;
 use crate::refusing::{other_cap, refused_block, refused_demand};

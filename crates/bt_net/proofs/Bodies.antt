@@ -30,11 +30,11 @@ use Rattle.bt_net.proofs.SideSpelling.{demand_here_apart, block_here_apart, dema
 use Rattle.bt_net.proofs.ItemLines.{NoMore, items_same, items_first}
 
 -- the line is that of no edge that may come next
-abbrev pub NoNext : Network → List ℕ → Type 0
+abbrev NoNext : Network → List ℕ → Type 0
 NoNext n bytes = (g : Edge) → IsEdgeLine bytes g → IsPartlyWired (with_edge n g) → length n.edges < MOST_OF_EACH → ⊥
 
 -- behind one header, edges up to a line that is that of no next one are the same edges, and the same follows
-pub one_edges : (n m : Network) (text b a c d : List ℕ) (p : GoesOn n text b a) (q : GoesOn m text c d) → HasSmallSizes n → HasSmallSizes m → SameSizes n m → SameSizes m n
+one_edges : (n m : Network) (text b a c d : List ℕ) (p : GoesOn n text b a) (q : GoesOn m text c d) → HasSmallSizes n → HasSmallSizes m → SameSizes n m → SameSizes m n
     → NoNext n b → NoNext m c → (n ≡ m) × (p.rest ≡ q.rest)
 one_edges n m text b a c d p q small smaller sizes back none non = ⊎_elim
     (λ h. ⊎_elim (λ same. same) (λ next. absurd (none next.0 next.1 next.2 next.3))
@@ -78,7 +78,7 @@ end_stops may n behind number bytes is = record {
   no_block = λ block line. omega (arith, block_here_first may number bytes block line, ap (λ l. get_or l 0 0) is);
 }
 
-pub refused_stops : (may : Admitted) (n : Network) (behind : Behind) (number : ℕ) (bytes : List ℕ) (fault : NetFault) → LineRefusedAfter may n behind number bytes fault → Stops may n behind number bytes
+refused_stops : (may : Admitted) (n : Network) (behind : Behind) (number : ℕ) (bytes : List ℕ) (fault : NetFault) → LineRefusedAfter may n behind number bytes fault → Stops may n behind number bytes
 refused_stops may n behind number bytes (NetLine k) refused = record {
   no_edge = λ none no_demands no_blocks g edge wired few. refused.0.no_edge none no_demands no_blocks g edge wired;
   no_priority = refused.0.no_priority;

@@ -17,7 +17,7 @@ use Rattle.bt_net.specs.declared.network.Start.{Start}
 use Rattle.bt_net.specs.declared.network.Start.TheVariants as from
 use Rattle.bt_net.specs.declared.network.Target.{Target}
 use Rattle.bt_net.specs.declared.network.Target.TheVariants as to
-use Rattle.bt_net.specs.Network.{Network, IsCap, IsWired, IsNetwork, StartsIn, EndsIn, is_input, is_output, leaves, enters, HasNoPriorities, none_each}
+use Rattle.bt_net.specs.Network.{Network, IsCap, IsWired, StartsIn, EndsIn, is_input, is_output, leaves, enters, HasNoPriorities, none_each}
 use Rattle.bt_net.specs.NetText.{start_text, target_text, ends_text, cap_text, header, IsEdgeLine, edge_text}
 use Rattle.bt_net.specs.Refusals.{HeaderRefused, BeginsWithEdges}
 use Rattle.bt_net.specs.Wiring.{IsPartlyWired, with_edge, HasSmallSizes}
@@ -25,7 +25,7 @@ use Rattle.bt_net.specs.inner.Lines.{StartFits, TargetFits, EdgeFits, IsTargetAn
 use Rattle.bt_net.proofs.Spelling.{start-lacks, target-lacks, start_lacks_space, target_lacks_space, edge_words, cut_words, cut_cap, uncut_cap, header_unique, IsHeader-header}
 
 -- the line that is printed of an edge is its line
-pub printed_line : (e : Edge) → IsEdgeLine (edge_text e) e
+printed_line : (e : Edge) → IsEdgeLine (edge_text e) e
 printed_line e = ⊎_elim
     (λ one. inr (rw (eq-eqb e.cap 1 one) (append-nil (ends_text e)), one))
     (λ other. inl (rw (ne_eqb e.cap 1 other) refl))
@@ -122,7 +122,7 @@ target_cap_apart words s t c d p q small smaller (inr is) other =
     (target_apart s t p q (sym is.0 ∙ same.0), is.1 ∙ sym same.1)
 
 -- an edge line is the line of one edge
-pub edge_apart : (bytes : List ℕ) (e f : Edge) → EdgeFits e → EdgeFits f → IsEdgeLine bytes e → IsEdgeLine bytes f → e ≡ f
+edge_apart : (bytes : List ℕ) (e f : Edge) → EdgeFits e → EdgeFits f → IsEdgeLine bytes e → IsEdgeLine bytes f → e ≡ f
 edge_apart bytes e f p q is other =
     let words = edge_words bytes e is in
     let split : SplitsAt 32 (start_text e.start ++ 32 ∷ words.0) (start_text e.start) words.0 = record { first = start_lacks_space e.start p.0; text_is = refl } in
@@ -138,14 +138,11 @@ pub record AreLines (lines : List (List ℕ)) (es : List Edge) : Type 0 where
   pub fit : All EdgeFits es
   pub are_edges : AllZip IsEdgeLine lines es
 
-pub AreLines-head : (l : List ℕ) (ls : List (List ℕ)) (e : Edge) (es : List Edge) → AreLines (l ∷ ls) (e ∷ es) → EdgeFits e × IsEdgeLine l e
+AreLines-head : (l : List ℕ) (ls : List (List ℕ)) (e : Edge) (es : List Edge) → AreLines (l ∷ ls) (e ∷ es) → EdgeFits e × IsEdgeLine l e
 AreLines-head l ls e es r = (All-head EdgeFits e es r.fit, r.are_edges.0)
 
-pub AreLines-tail : (l : List ℕ) (ls : List (List ℕ)) (e : Edge) (es : List Edge) → AreLines (l ∷ ls) (e ∷ es) → AreLines ls es
+AreLines-tail : (l : List ℕ) (ls : List (List ℕ)) (e : Edge) (es : List Edge) → AreLines (l ∷ ls) (e ∷ es) → AreLines ls es
 AreLines-tail l ls e es r = record { fit = All-tail EdgeFits e es r.fit; are_edges = r.are_edges.1 }
-
-pub AreLines-lack : (ls : List (List ℕ)) (es : List Edge) → AreLines ls es → All (Lacks 10) ls
-AreLines-lack ls es r = edges-lack ls es r.fit r.are_edges
 
 -- what lines of some edges begin: these edges, and then others
 pub record GoesOver (es fs : List Edge) (more tail : List (List ℕ)) : Type 0 where
@@ -193,7 +190,7 @@ partly_of_wired n wired = record {
 }
 
 -- the first of the edges that may stand may stand
-pub partly_front : (n : Network) (es gs : List Edge) → IsPartlyWired n → n.edges ≡ es ++ gs → IsPartlyWired (record n { edges = es })
+partly_front : (n : Network) (es gs : List Edge) → IsPartlyWired n → n.edges ≡ es ++ gs → IsPartlyWired (record n { edges = es })
 partly_front n es gs wired is = record {
   starts = All-front (λ e. StartsIn n e.start) es gs (subst (All (λ e. StartsIn n e.start)) is wired.starts);
   targets = All-front (λ e. EndsIn n e.target) es gs (subst (All (λ e. EndsIn n e.target)) is wired.targets);
@@ -204,15 +201,12 @@ partly_front n es gs wired is = record {
   few_out = λ s inside. count_front (leaves s) es gs 2 (subst (λ xs. count_by (leaves s) xs ≤ 2) is (wired.few_out s inside));
 }
 
-pub HasSmallSizes-network : (n : Network) → IsNetwork n → HasNoPriorities n → HasSmallSizes n
-HasSmallSizes-network n net plain = record { plain = plain; few_inputs = net.few_inputs; few_outputs = net.few_outputs; few_splitters = net.few_splitters }
-
 -- sizes that are the same are so in both directions
 pub back : (m n : Network) → SameSizes m n → SameSizes n m
 back m n s = record { inputs = sym s.inputs; outputs = sym s.outputs; splitters = sym s.splitters; gives = sym s.gives; takes = sym s.takes }
 
 -- where one network has no priorities, nor has one of the same sizes
-pub plain_same : (m n : Network) → SameSizes m n → HasNoPriorities m → HasNoPriorities n
+plain_same : (m n : Network) → SameSizes m n → HasNoPriorities m → HasNoPriorities n
 plain_same m n s plain = record { gives = sym s.gives ∙ plain.gives ∙ ap none_each s.splitters; takes = sym s.takes ∙ plain.takes ∙ ap none_each s.splitters }
 
 -- networks with the same numbers and edges
@@ -246,7 +240,7 @@ one_more w n g gs sizes wired is =
     rw (same_network (with_edge w g) (record n { edges = w.edges ++ g ∷ [] }) same refl) part
 
 -- the edge that comes last has small numbers and a cap
-pub last_fits : (w : Network) (e : Edge) → HasSmallSizes w → IsPartlyWired (with_edge w e) → EdgeFits e
+last_fits : (w : Network) (e : Edge) → HasSmallSizes w → IsPartlyWired (with_edge w e) → EdgeFits e
 last_fits w e small new = All-at w.edges e [] (edges_fit (with_edge w e) (record {
   plain = record { gives = small.plain.gives; takes = small.plain.takes };
   few_inputs = small.few_inputs;

@@ -1,14 +1,14 @@
 -- Two right answers of a call that makes a network are equal.
 use Rattle.std.proofs.Common.{◌≡◌, ℕ, ◌≤◌, List, length, drop, refl, sym, ◌∙◌, ap, ⊎_elim, arith, length-drop}
 use Rattle.std.specs.Prelude.{Result, Ok, Err}
-use Rattle.bt_answers.specs.Answers.{AnswersAlways, HasOneAnswer}
-use Rattle.bt_answers.proofs.OneAnswer.{answers_always_of}
+use Rattle.bt_text.specs.Answers.{AnswersAlways, HasOneAnswer}
+use Rattle.bt_text.proofs.OneAnswer.{answers_always_of}
 use Rattle.bt_net.specs.declared.fault.NetFault.{NetFault}
 use Rattle.bt_net.specs.declared.fault.NetFault.TheVariants.{NetLine, TooLarge, NoEnds, Memory}
 use Rattle.bt_net.specs.Network.{Network, IsNetwork, IsLarge, LacksEnds, IsNetOf}
 
 -- a network is not too large
-pub not_large : (n : Network) → IsNetwork n → IsLarge n → ⊥
+not_large : (n : Network) → IsNetwork n → IsLarge n → ⊥
 not_large n net large = ⊎_elim
     (λ h. omega (arith, net.few_inputs, h))
     (⊎_elim (λ h. omega (arith, net.few_outputs, h)) (⊎_elim (λ h. omega (arith, net.few_splitters, h)) (λ h. omega (arith, net.few_edges, h))))
@@ -19,7 +19,7 @@ not_without_ends : (n : Network) → IsNetwork n → LacksEnds n → ⊥
 not_without_ends n net lacks = ⊎_elim (λ h. omega (arith, net.some_input, h)) (λ h. omega (arith, net.some_output, h)) lacks.1
 
 -- one answer is right to numbers and edges
-pub one_net_of : (n : Network) → HasOneAnswer (IsNetOf n)
+one_net_of : (n : Network) → HasOneAnswer (IsNetOf n)
 one_net_of n (Ok a) (Ok b) p q = ap Ok (p.0 ∙ sym q.0)
 one_net_of n (Ok a) (Err TooLarge) p q = absurd (not_large n (rw p.0 at p.1) q)
 one_net_of n (Ok a) (Err NoEnds) p q = absurd (not_without_ends n (rw p.0 at p.1) q)

@@ -4,8 +4,8 @@ use Rattle.std.specs.Prelude.{Result, Ok, Err, codes}
 use Rattle.std.specs.List.{AllZip, flat_map}
 use Rattle.std.proofs.lemmas.List.{append_assoc}
 use Rattle.std.proofs.lemmas.List.Concat.{flat_map-append}
-use Rattle.bt_answers.specs.Answers.{UnlessMemory, Answers, HasOneAnswer}
-use Rattle.bt_answers.proofs.OneAnswer.{answers_of}
+use Rattle.bt_text.specs.Answers.{UnlessMemory, Answers, HasOneAnswer}
+use Rattle.bt_text.proofs.OneAnswer.{answers_of}
 use Rattle.bt_text.specs.Lines.{line, IsFirstLine, BeginsWithLines}
 use Rattle.bt_text.proofs.FirstLines.{BeginsWithLines-nil, first_line_of, BeginsWithLines-tail, BeginsWithLines-push, BeginsWithLines-cons, BeginsWithLines-used, IsFirstLine-unique}
 use Rattle.bt_net.specs.declared.fault.NetFault.{NetFault}
@@ -51,11 +51,11 @@ alone_wired n wired = record {
   few_out = wired.few_out;
 }
 
-pub alone_small : (n : Network) → IsNetwork n → HasSmallSizes (alone n)
+alone_small : (n : Network) → IsNetwork n → HasSmallSizes (alone n)
 alone_small n is = record { plain = record { gives = refl; takes = refl }; few_inputs = is.few_inputs; few_outputs = is.few_outputs; few_splitters = is.few_splitters }
 
 -- a network that became another by priorities is that one without them
-pub alone_is : (w m : Network) → HasNoPriorities w → SameWires w m → alone m ≡ w
+alone_is : (w m : Network) → HasNoPriorities w → SameWires w m → alone m ≡ w
 alone_is w m plain s =
     let inputs = sym s.inputs in
     let outputs = sym s.outputs in
@@ -66,7 +66,7 @@ alone_is w m plain s =
     λ i. record { inputs = inputs i; outputs = outputs i; splitters = splitters i; edges = edges i; gives = gives i; takes = takes i }
 
 -- what stands behind the edges of what was read
-abbrev pub behind_of : (may : Admitted) (bytes rest : List ℕ) (read : Reading) → BeginsWithAll may bytes read rest → Behind
+abbrev behind_of : (may : Admitted) (bytes rest : List ℕ) (read : Reading) → BeginsWithAll may bytes read rest → Behind
 behind_of may bytes rest read all = record { priorities = all.priorities; preferring = read.net; demands = read.demands; blocks = read.blocks }
 
 -- what was read behind the header, up to the line `end`
@@ -111,7 +111,7 @@ whole_body may bytes rest read net all =
     }
 
 -- and back: what a text of a header, edges and what stands behind them up to `end` is, and where it ends
-pub all_parts : (may : Admitted) (bytes first text rest : List ℕ) (s w : Network) (behind : Behind) → IsFirstLine bytes first text → IsStarted s first → SameSizes s w → GoesOnAfter may w behind text (codes "end") rest
+all_parts : (may : Admitted) (bytes first text rest : List ℕ) (s w : Network) (behind : Behind) → IsFirstLine bytes first text → IsStarted s first → SameSizes s w → GoesOnAfter may w behind text (codes "end") rest
     → ((used lines : ℕ) → (all : BeginsWithAll may bytes (record { net = behind.preferring; demands = behind.demands; blocks = behind.blocks; used = used; lines = lines }) rest) × (all.priorities ≡ behind.priorities))
     × (length rest ≤ length bytes) × (drop (length bytes - length rest) bytes ≡ rest)
 all_parts may bytes first text rest s w behind is start sizes on =
@@ -192,7 +192,7 @@ pub record SameAll (a b : Reading) (ps qs : List Priority) (r s : List ℕ) : Ty
   pub blocks : a.blocks ≡ b.blocks
   pub after : r ≡ s
 
-pub one_all : (may : Admitted) (bytes r s : List ℕ) (a b : Reading) → IsNetwork a.net → IsNetwork b.net → (p : BeginsWithAll may bytes a r) → (q : BeginsWithAll may bytes b s) → SameAll a b p.priorities q.priorities r s
+one_all : (may : Admitted) (bytes r s : List ℕ) (a b : Reading) → IsNetwork a.net → IsNetwork b.net → (p : BeginsWithAll may bytes a r) → (q : BeginsWithAll may bytes b s) → SameAll a b p.priorities q.priorities r s
 one_all may bytes r s a b p q x y =
     let m = a.net in
     let n = b.net in

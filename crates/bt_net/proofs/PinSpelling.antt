@@ -143,15 +143,6 @@ pin_space n number bytes words pin small is cut none =
     record { first = end_lacks_space pin.end (end_fits n pin.end small is.has_end); text_is = ap (drop 4) (sym cut ∙ pin_words bytes pin is.text) } in
     SplitsAt-lacks splits none
 
--- words of a pin line make one
-pub pin_line_of : (n : Network) (bytes words front back : List ℕ) (pin : Pin) → bytes ≡ codes "pin " ++ words → SplitsAt 32 words front back → front ≡ end_text pin.end
-    → AreCellAndWay back pin.x pin.y pin.dir → HasEnd n pin.end → IsPinLine n pin.line bytes pin
-pin_line_of n bytes words front back pin cut splits is cell has = record {
-  text = cut ∙ ap (λ w. codes "pin " ++ w) (splits.text_is ∙ (λ i. is i ++ 32 ∷ back) ∙ ap (λ w. end_text pin.end ++ 32 ∷ w) (cell.1 ∙ ap (λ w. decimal pin.x ++ codes " " ++ w) cell.3.0)) ∙ sym (simp append_assoc);
-  has_end = has;
-  short_x = cell.2;
-  short_y = cell.3.1;
-  line = refl;
 }
 
 -- a line is that of one pin

@@ -5,7 +5,7 @@ use Rattle.std.proofs.lemmas.List.{append_assoc}
 use Rattle.std.proofs.lemmas.List.Elements.{All-append}
 use Rattle.std.proofs.lemmas.Option.{slice_get_within}
 use Rattle.bt_text.specs.Lines.{Lacks, SplitsAt}
-use Rattle.bt_text.proofs.FirstLines.{split_apart, SplitsAt-lacks}
+use Rattle.bt_text.proofs.FirstLines.{split_apart}
 use Rattle.bt_text.proofs.Lacking.{lacks}
 use Rattle.bt_frac.proofs.Numerals.{decimal_apart, decimal-lacks}
 use Rattle.bt_net.specs.declared.network.Priority.{Priority}
@@ -28,11 +28,6 @@ pub cut_numbers : (words front back : List ℕ) (k a : ℕ) → k < 2 ^ 32 → w
 cut_numbers words front back k a small is splits =
     split_apart 32 front (decimal k) back (decimal a) splits.first (number_lacks 32 k small (omega arith)) (sym splits.text_is ∙ is ∙ append_assoc (decimal k) (codes " ") (decimal a))
 
-pub uncut_numbers : (words : List ℕ) (k a : ℕ) → k < 2 ^ 32 → words ≡ decimal k ++ codes " " ++ decimal a → Lacks 32 words → ⊥
-uncut_numbers words k a small is none =
-    let splits : SplitsAt 32 words (decimal k) (decimal a) = record { first = number_lacks 32 k small (omega arith); text_is = is ∙ append_assoc (decimal k) (codes " ") (decimal a) } in
-    SplitsAt-lacks splits none
-
 numbers_apart : (k a j b : ℕ) → k < 2 ^ 32 → a < 2 ^ 32 → j < 2 ^ 32 → b < 2 ^ 32 → decimal k ++ codes " " ++ decimal a ≡ decimal j ++ codes " " ++ decimal b → (k ≡ j) × (a ≡ b)
 numbers_apart k a j b p q r s e =
     let splits : SplitsAt 32 (decimal k ++ codes " " ++ decimal a) (decimal k) (decimal a) = record { first = number_lacks 32 k p (omega arith); text_is = append_assoc (decimal k) (codes " ") (decimal a) } in
@@ -40,10 +35,10 @@ numbers_apart k a j b p q r s e =
     (decimal_apart k j (omega arith) (omega arith) cut.0, decimal_apart a b (omega arith) (omega arith) cut.1)
 
 -- the words behind the first one
-pub give_words : (k a : ℕ) → priority_text (Give k a) ≡ codes "give s" ++ (decimal k ++ codes " " ++ decimal a)
+give_words : (k a : ℕ) → priority_text (Give k a) ≡ codes "give s" ++ (decimal k ++ codes " " ++ decimal a)
 give_words k a = simp append_assoc
 
-pub take_words : (k a : ℕ) → priority_text (Take k a) ≡ codes "take s" ++ (decimal k ++ codes " " ++ decimal a)
+take_words : (k a : ℕ) → priority_text (Take k a) ≡ codes "take s" ++ (decimal k ++ codes " " ++ decimal a)
 take_words k a = simp append_assoc
 
 -- a line is that of one priority
@@ -80,14 +75,14 @@ module _ (n : Network) (small : HasSmallSizes n) (few : length n.edges ≤ MOST_
       text_lacks (Take k a) fits = with_numbers (codes "take s") k a (lacks 10 (codes "take s") refl) fits.0 fits.1
 
 -- its first byte tells it from other lines
-pub text_first : (p : Priority) → (get_or (priority_text p) 0 0 ≡ 103) ⊎ (get_or (priority_text p) 0 0 ≡ 116)
+text_first : (p : Priority) → (get_or (priority_text p) 0 0 ≡ 103) ⊎ (get_or (priority_text p) 0 0 ≡ 116)
 text_first (Give k a) = inl (ap (λ l. get_or l 0 0) (give_words k a))
 text_first (Take k a) = inr (ap (λ l. get_or l 0 0) (take_words k a))
 
-pub priority_first : (n : Network) (number : ℕ) (bytes : List ℕ) (p : Priority) → IsPriorityLine n number bytes p → (get_or bytes 0 0 ≡ 103) ⊎ (get_or bytes 0 0 ≡ 116)
+priority_first : (n : Network) (number : ℕ) (bytes : List ℕ) (p : Priority) → IsPriorityLine n number bytes p → (get_or bytes 0 0 ≡ 103) ⊎ (get_or bytes 0 0 ≡ 116)
 priority_first n number bytes p is = subst (λ b. (get_or b 0 0 ≡ 103) ⊎ (get_or b 0 0 ≡ 116)) (sym is.0) (text_first p)
 
-pub priority-some : (n : Network) (number : ℕ) (bytes : List ℕ) (p : Priority) → IsPriorityLine n number bytes p → 0 < length bytes
+priority-some : (n : Network) (number : ℕ) (bytes : List ℕ) (p : Priority) → IsPriorityLine n number bytes p → 0 < length bytes
 priority-some n number bytes p is = elim (priority_first n number bytes p is) [ inl g ↦ some_bytes bytes 103 g (omega arith) | inr t ↦ some_bytes bytes 116 t (omega arith) ]
 
 -- of a line that begins otherwise there is no priority

@@ -21,13 +21,13 @@ use Rattle.bt_net.specs.declared.network.EndKind.TheVariants as kind
 use Rattle.bt_net.specs.declared.network.Row.{Row}
 use Rattle.bt_net.specs.declared.network.Side.{Side}
 use Rattle.bt_net.specs.Network.{Network}
-use Rattle.bt_net.specs.PinText.{end_text, ends_text, dir_text, side_text, kind_text, row_text, HasEnds, IsPinLine, IsSideLine, IsRowLine, IsDemandLine, IsDemandHere, IsBlockHere}
+use Rattle.bt_net.specs.PinText.{end_text, ends_text, dir_text, side_text, kind_text, HasEnds, IsPinLine, IsSideLine, IsRowLine, IsDemandLine, IsDemandHere, IsBlockHere}
 use Rattle.bt_net.specs.Wiring.{HasSmallSizes}
 use Rattle.bt_net.specs.inner.Lines.{EndFits, EndsFit}
 use Rattle.bt_net.proofs.PinSpelling.{end_fits, end-lacks, end_lacks_space, dir-lacks, end_apart, dir_apart, pin_apart, block_apart, pin_first, block_first, pin-lacks, block-lacks, some_bytes}
 
 -- the ends of a small network are small
-pub ends_fit : (n : Network) (e : Ends) → HasSmallSizes n → HasEnds n e → EndsFit e
+ends_fit : (n : Network) (e : Ends) → HasSmallSizes n → HasEnds n e → EndsFit e
 ends_fit n (One e) small has = end_fits n e small has
 ends_fit n Inputs small has = tt
 ends_fit n Outputs small has = tt
@@ -81,27 +81,16 @@ cut_side n number bytes words front back side small cut splits is =
     (sym splits.text_is ∙ ap (drop 5) (sym cut ∙ side_words bytes side is.text)) in
     (same.0, same.1, fits)
 
--- a side line has its first word, and a space behind its ends
-pub side_begins : (n : Network) (number : ℕ) (bytes : List ℕ) (side : Side) → IsSideLine n number bytes side → ((rest : List ℕ) → bytes ≡ codes "side " ++ rest → ⊥) → ⊥
-side_begins n number bytes side is none = none (ends_text side.ends ++ 32 ∷ dir_text side.dir) (side_words bytes side is.text)
-
 pub side_space : (n : Network) (number : ℕ) (bytes words : List ℕ) (side : Side) → HasSmallSizes n → IsSideLine n number bytes side → bytes ≡ codes "side " ++ words → Lacks 32 words → ⊥
 side_space n number bytes words side small is cut none =
     let splits : SplitsAt 32 words (ends_text side.ends) (dir_text side.dir) =
     record { first = ends_lack_space side.ends (ends_fit n side.ends small is.has_ends); text_is = ap (drop 5) (sym cut ∙ side_words bytes side is.text) } in
     SplitsAt-lacks splits none
 
--- words of a side line make one
-pub side_line_of : (n : Network) (bytes words front back : List ℕ) (side : Side) → bytes ≡ codes "side " ++ words → SplitsAt 32 words front back → front ≡ ends_text side.ends
-    → back ≡ dir_text side.dir → HasEnds n side.ends → IsSideLine n side.line bytes side
-side_line_of n bytes words front back side cut splits is way has = record {
-  text = cut ∙ ap (λ w. codes "side " ++ w) (splits.text_is ∙ (λ i. is i ++ 32 ∷ way i)) ∙ sym (simp append_assoc);
-  has_ends = has;
-  line = refl;
 }
 
 -- a line is that of one side
-pub side_apart : (n : Network) → HasSmallSizes n → (number : ℕ) (bytes : List ℕ) (p q : Side) → IsSideLine n number bytes p → IsSideLine n number bytes q → p ≡ q
+side_apart : (n : Network) → HasSmallSizes n → (number : ℕ) (bytes : List ℕ) (p q : Side) → IsSideLine n number bytes p → IsSideLine n number bytes q → p ≡ q
 side_apart n small number bytes p q a b =
     let fits = ends_fit n p.ends small a.has_ends in
     let splits : SplitsAt 32 (ends_text p.ends ++ 32 ∷ dir_text p.dir) (ends_text p.ends) (dir_text p.dir) = record { first = ends_lack_space p.ends fits; text_is = refl } in
@@ -112,10 +101,10 @@ side_apart n small number bytes p q a b =
     λ i. record { ends = ends i; dir = dir i; line = line i }
 
 -- side lines have bytes, of which the first tells them apart, and no line feed
-pub side_first : (n : Network) (number : ℕ) (bytes : List ℕ) (side : Side) → IsSideLine n number bytes side → get_or bytes 0 0 ≡ 115
+side_first : (n : Network) (number : ℕ) (bytes : List ℕ) (side : Side) → IsSideLine n number bytes side → get_or bytes 0 0 ≡ 115
 side_first n number bytes side is = ap (λ l. get_or l 0 0) (side_words bytes side is.text)
 
-pub side-lacks : (n : Network) → HasSmallSizes n → (number : ℕ) (bytes : List ℕ) (side : Side) → IsSideLine n number bytes side → Lacks 10 bytes
+side-lacks : (n : Network) → HasSmallSizes n → (number : ℕ) (bytes : List ℕ) (side : Side) → IsSideLine n number bytes side → Lacks 10 bytes
 side-lacks n small number bytes side is =
     let P : ℕ → Type 0 = λ b. b ≢ 10 in
     subst (Lacks 10) (sym is.text)
@@ -127,7 +116,7 @@ side-lacks n small number bytes side is =
 -- ---- rows
 
 -- a word is that of one kind
-pub kind_apart : (k l : EndKind) → kind_text k ≡ kind_text l → k ≡ l
+kind_apart : (k l : EndKind) → kind_text k ≡ kind_text l → k ≡ l
 kind_apart kind.Inputs kind.Inputs is = refl
 kind_apart kind.Inputs kind.Outputs is = absurd (omega (arith, ap (λ w. get_or w 0 0) is))
 kind_apart kind.Outputs kind.Inputs is = absurd (omega (arith, ap (λ w. get_or w 0 0) is))
@@ -144,10 +133,10 @@ row_apart number bytes p q a b =
     let line = a.line ∙ sym b.line in
     λ i. record { kind = same i; line = line i }
 
-pub row_first : (number : ℕ) (bytes : List ℕ) (row : Row) → IsRowLine number bytes row → get_or bytes 0 0 ≡ 114
+row_first : (number : ℕ) (bytes : List ℕ) (row : Row) → IsRowLine number bytes row → get_or bytes 0 0 ≡ 114
 row_first number bytes row is = ap (λ l. get_or l 0 0) is.text
 
-pub row-lacks : (number : ℕ) (bytes : List ℕ) (row : Row) → IsRowLine number bytes row → Lacks 10 bytes
+row-lacks : (number : ℕ) (bytes : List ℕ) (row : Row) → IsRowLine number bytes row → Lacks 10 bytes
 row-lacks number bytes row is = subst (Lacks 10) (sym is.text) (All-append (λ b. b ≢ 10) (codes "row ") (kind_text row.kind) (lacks 10 (codes "row ") refl) (kind_lacks_feed row.kind))
 
 -- a row line that was cut behind its first word
@@ -162,7 +151,7 @@ pin_no_side n number bytes pin side a b = omega (arith, pin_first n number bytes
 pin_no_row : (n : Network) (number : ℕ) (bytes : List ℕ) (pin : Pin) (row : Row) → IsPinLine n number bytes pin → IsRowLine number bytes row → ⊥
 pin_no_row n number bytes pin row a b = omega (arith, pin_first n number bytes pin a, row_first number bytes row b)
 
-pub side_no_row : (n : Network) (number : ℕ) (bytes : List ℕ) (side : Side) (row : Row) → IsSideLine n number bytes side → IsRowLine number bytes row → ⊥
+side_no_row : (n : Network) (number : ℕ) (bytes : List ℕ) (side : Side) (row : Row) → IsSideLine n number bytes side → IsRowLine number bytes row → ⊥
 side_no_row n number bytes side row a b = omega (arith, side_first n number bytes side a, row_first number bytes row b)
 
 demand_apart : (n : Network) → HasSmallSizes n → (number : ℕ) (bytes : List ℕ) (p q : Demand) → IsDemandLine n number bytes p → IsDemandLine n number bytes q → p ≡ q

@@ -55,11 +55,6 @@ pub edge_words : (bytes : List ℕ) (e : Edge) → IsEdgeLine bytes e
 edge_words bytes e (inl is) = (target_text e.target ++ cap_text e.cap, is ∙ simp append_assoc, inl refl)
 edge_words bytes e (inr is) = (target_text e.target, is.0 ∙ simp append_assoc, inr (refl, is.1))
 
--- an edge line by these words
-pub edge_line_of : (bytes words : List ℕ) (e : Edge) → bytes ≡ codes "edge " ++ (start_text e.start ++ 32 ∷ words) → IsTargetAndCap words e.target e.cap → IsEdgeLine bytes e
-edge_line_of bytes words e cut (inl is) = inl (rw is at cut ∙ sym (simp append_assoc))
-edge_line_of bytes words e cut (inr is) = inr (rw is.0 at cut ∙ sym (simp append_assoc), is.1)
-
 -- an edge line that was cut at its first word and at the space behind its start
 pub cut_words : (bytes ends front back : List ℕ) (e : Edge) → EdgeFits e → bytes ≡ codes "edge " ++ ends → SplitsAt 32 ends front back → IsEdgeLine bytes e
     → (front ≡ start_text e.start) × IsTargetAndCap back e.target e.cap

@@ -1,6 +1,6 @@
 //! The first line of a network's text.
 ghost use Rattle.std.specs.Prelude.{ℕ, IfSome, IfNone};
-ghost use Rattle.bt_answers.specs.Answers.{UnlessMemory};
+ghost use Rattle.bt_text.specs.Answers.{UnlessMemory};
 ghost use Rattle.bt_net.specs.Refusals.{IsHeader};
 ghost use Rattle.bt_net.specs.inner.Lines.{IsHeaderRead, AreSizes};
 

@@ -1,6 +1,6 @@
 //! Networks as values: what was checked once, each call above may rely on.
 ghost use Rattle.std.specs.Prelude.{◌≡◌};
-ghost use Rattle.bt_answers.specs.Answers.{AnswersAlways};
+ghost use Rattle.bt_text.specs.Answers.{AnswersAlways};
 ghost use Rattle.bt_net.specs.Network.{IsWired, IsNetOf, network_of};
 
 use crate::fault::NetFault;

@@ -2,7 +2,7 @@
 //!
 //! Each line is read once, and the first one that may not stand is told by its number.
 ghost use Rattle.std.specs.Prelude.{◌≡◌, ◌↔◌, ◌+◌, ◌≤◌, ◌<◌, ◌^◌, [], length, IfOk, IsTrue};
-ghost use Rattle.bt_answers.specs.Answers.{Answers, UnlessMemory, seen};
+ghost use Rattle.bt_text.specs.Answers.{Answers, UnlessMemory, seen};
 ghost use Rattle.bt_net.specs.PinText.{IsDemandHere, IsBlockHere};
 ghost use Rattle.bt_net.specs.Priorities.{AdmitsPriorities};
 ghost use Rattle.bt_net.specs.Readings.{IsNetRead, what_is_read};

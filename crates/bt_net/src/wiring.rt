@@ -1,6 +1,6 @@
 //! Edges while they are read, with a tally of each end, so that each line costs the same.
 ghost use Rattle.std.specs.Prelude.{◌≡◌, ◌<◌, ◌+◌, ◌↔◌, ℕ, [], ◌∷◌, ◌++◌, List, length, slice_index, slice_set, vec_len, IsTrue, IfOk, OnOk, OnErr, IsErrOf, All};
-ghost use Rattle.bt_answers.specs.Answers.{AnswersAlways};
+ghost use Rattle.bt_text.specs.Answers.{AnswersAlways};
 ghost use Rattle.bt_net.specs.inner.Tallies.{IsBelow, IsFreeStart, IsFreeTarget, CountsStart, CountsTarget};
 
 use crate::fault::NetFault;

@@ -33,7 +33,7 @@ same_cell a b h =
     ap (λ z. record { x = z; y = a.y }) ex ∙ ap (λ z. record { x = b.x; y = z }) ey
 
 -- a cell compares equal to itself
-pub cell_itself : (a : Cell) → is_eq (cell_order a a) ≡ true
+cell_itself : (a : Cell) → is_eq (cell_order a a) ≡ true
 cell_itself a = ap is_eq (tied_itself cell_order_total a)
 
 -- two cells are the same or not, as the order tells

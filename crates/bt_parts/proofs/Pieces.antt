@@ -76,7 +76,7 @@ back_first parts a b p = record {
 }
 
 -- the first piece is an exit of the entrance's direction
-pub ahead_pair : (parts : List Part) (a b : ℕ) (entrance : Part) → HasPart parts a entrance → entrance.kind ≡ Entrance
+ahead_pair : (parts : List Part) (a b : ℕ) (entrance : Part) → HasPart parts a entrance → entrance.kind ≡ Entrance
     → (f : IsFirstPiece parts entrance entrance.dir b) → f.piece.part.kind ≡ Exit → f.piece.part.dir ≡ entrance.dir → Pairs parts a b
 ahead_pair parts a b entrance is_a enters f leaves same_dir = record {
   entrance = entrance;
@@ -96,7 +96,7 @@ ahead_pair parts a b entrance is_a enters f leaves same_dir = record {
 }
 
 -- the first piece is an entrance of the exit's direction
-pub back_pair : (parts : List Part) (a b : ℕ) (exit : Part) → HasPart parts b exit → exit.kind ≡ Exit
+back_pair : (parts : List Part) (a b : ℕ) (exit : Part) → HasPart parts b exit → exit.kind ≡ Exit
     → (f : IsFirstPiece parts exit (opposite exit.dir) a) → f.piece.part.kind ≡ Entrance → f.piece.part.dir ≡ exit.dir → Pairs parts a b
 back_pair parts a b exit is_b leaves f enters same_dir =
     let near : f.piece.part.cell ≡ steps f.distance (opposite exit.dir) exit.cell = sym (own_cell f.piece.part _ (no_splitter f.piece.part f.piece.on_axis.0) f.piece.covers) in
@@ -136,7 +136,7 @@ pub record Meets (parts : List Part) (part : Part) (toward : Dir) (kind : Kind) 
   pub same_dir : first.piece.part.dir ≡ part.dir
 
 -- the piece that is met is the other end
-pub paired_if_met : (parts : List Part) (part : Part) (i j : ℕ) (toward : Dir) (kind : Kind) → HasPart parts i part → IsFarEnd part toward kind
+paired_if_met : (parts : List Part) (part : Part) (i j : ℕ) (toward : Dir) (kind : Kind) → HasPart parts i part → IsFarEnd part toward kind
     → Meets parts part toward kind j → ArePaired parts i j
 paired_if_met parts part i j toward kind here (inl far) m =
     let n = subst (λ k. Meets parts part part.dir k j) far.2 (subst (λ d. Meets parts part d kind j) far.1 m) in
@@ -158,7 +158,7 @@ met_back parts part i j here p =
     (record { first = back_first parts j i p; is_kind = p.enters; same_dir = sym p.same_dir })
 
 -- the other end is met
-pub met_if_paired : (parts : List Part) (part : Part) (i j : ℕ) (toward : Dir) (kind : Kind) → HasPart parts i part → IsFarEnd part toward kind
+met_if_paired : (parts : List Part) (part : Part) (i j : ℕ) (toward : Dir) (kind : Kind) → HasPart parts i part → IsFarEnd part toward kind
     → ArePaired parts i j → Meets parts part toward kind j
 met_if_paired parts part i j toward kind here (inl far) (inl p) =
     subst (λ k. Meets parts part toward k j) (sym far.2) (subst (λ d. Meets parts part d Exit j) (sym far.1) (met_ahead parts part i j here p))

@@ -1,7 +1,7 @@
 -- Whether a position is a bound row, told by where it rests.
 use Rattle.std.proofs.Common.{◌≡◌, Option, Some, None, sym, ◌∙◌, refl}
 use Rattle.bt_frac.specs.Rows.{RowParts}
-use Rattle.bt_frac.specs.declared.row.Relation.{Relation}
+use Rattle.bt_frac.specs.declared.relation.Relation.{Relation}
 use Rattle.bt_pivot.specs.Points.{bound_value, relation_of}
 use Rattle.bt_pivot.specs.inner.Rests.{rest_point, IsRestOf}
 use Rattle.bt_pivot.specs.declared.rests.Rest.{Rest}

@@ -21,7 +21,7 @@ use Rattle.bt_linear.proofs.SignedLines.{negated_back, substituted_signed, leavi
 use Rattle.bt_pivot.proofs.UnfitPivots.{basis_same, slot_unfit}
 use Rattle.bt_linear.proofs.Zeros.{one_number}
 
-pub signed_signed : (a b : Bool) (terms : Terms) → signed_terms a (signed_terms b terms) ≡ signed_terms (differ a b) terms
+signed_signed : (a b : Bool) (terms : Terms) → signed_terms a (signed_terms b terms) ≡ signed_terms (differ a b) terms
 signed_signed false b terms = refl
 signed_signed true false terms = refl
 signed_signed true true terms = negated_back terms
@@ -31,7 +31,7 @@ pub slots_length : (f : ℕ → Option Terms) (k : ℕ) (members : List Member) 
 slots_length f k [] = refl
 slots_length f k (m ∷ members) = let rest = slots_length f (k + 1) members in omega arith
 
-pub slot_from : (f : ℕ → Option Terms) (k : ℕ) (members : List Member) (p : ℕ) → p < length members → slot_at (slots_from f k members) p ≡ f (k + p)
+slot_from : (f : ℕ → Option Terms) (k : ℕ) (members : List Member) (p : ℕ) → p < length members → slot_at (slots_from f k members) p ≡ f (k + p)
 slot_from f k [] p h = absurd (omega arith)
 slot_from f k (m ∷ members) zero h = ap f (let e : k ≡ k + zero = omega arith in e)
 slot_from f k (m ∷ members) (suc p) h = slot_from f (k + 1) members p (omega arith) ∙ ap f (let e : k + 1 + p ≡ k + suc p = omega arith in e)
@@ -130,7 +130,7 @@ lone_named b q enters number named = elim (decide q enters) [ inl same ↦ same 
     lacks false apart = number_later (q, one) [] enters apart
     lacks true apart = number_later (q, negated one) [] enters apart
 
-pub lone_lacks : (b : Bool) (q enters : ℕ) → q ≢ enters → coefficient_at enters (signed_terms b ((q, one) ∷ [])) ≡ None
+lone_lacks : (b : Bool) (q enters : ℕ) → q ≢ enters → coefficient_at enters (signed_terms b ((q, one) ∷ [])) ≡ None
 lone_lacks false q enters apart = number_later (q, one) [] enters apart
 lone_lacks true q enters apart = number_later (q, negated one) [] enters apart
 

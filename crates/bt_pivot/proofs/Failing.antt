@@ -6,7 +6,7 @@ use Rattle.bt_frac.specs.Ratio.{Ratio, SameRatio, IsLess}
 use Rattle.bt_frac.specs.Rows.{RowParts}
 use Rattle.bt_frac.specs.Deltas.{IsLessDelta}
 use Rattle.bt_frac.specs.declared.delta.Delta.{Delta}
-use Rattle.bt_frac.specs.declared.row.Relation.TheVariants.{Above}
+use Rattle.bt_frac.specs.declared.relation.Relation.TheVariants.{Above}
 use Rattle.bt_frac.proofs.Order.{mul_lt, lt_from_mul}
 use Rattle.bt_frac.proofs.Ring.{turn_last}
 use Rattle.bt_lin.proofs.SameNumbers.{same_trans, stands_same}
@@ -65,7 +65,7 @@ fails_told t position row point basic is_bound here = (
 )
 
 -- a position without a line, or without a bound row, doesn't fail
-pub no_line : (t : TableauParts) (position : ℕ) → slot_at t.slots position ≡ None → Fails t position → ⊥
+no_line : (t : TableauParts) (position : ℕ) → slot_at t.slots position ≡ None → Fails t position → ⊥
 no_line t position none fails = let both : None ≡ Some fails.basic.0 = sym none ∙ fails.basic.1 in cc
 
 pub no_row : (t : TableauParts) (position : ℕ) → bound_row t position ≡ None → Fails t position → ⊥

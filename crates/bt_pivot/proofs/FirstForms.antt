@@ -13,7 +13,7 @@ use Rattle.bt_pivot.specs.Tableaus.{AreOverColumns, IsTableau, IsNew, positions_
 use Rattle.bt_pivot.specs.inner.Starts.{kept, start_slots}
 use Rattle.bt_pivot.proofs.FirstLines.{kept_line, kept_total, kept_over}
 use Rattle.bt_linear.proofs.Numbers.{Alike, itself, back, next}
-use Rattle.bt_pivot.proofs.Standing.{stands_some}
+use Rattle.bt_pivot.proofs.Denominators.{stands_some}
 use Rattle.bt_linear.proofs.Zeros.{total_along}
 
 slot_low : (columns p : ℕ) (more : Slots) → p < columns → slot_at (replicate columns None ++ more) p ≡ None
@@ -46,7 +46,7 @@ basis_at zero k rows = basis_rows k rows ∙ ap (λ n. positions_from n rows) (l
 basis_at (suc columns) k rows =
     basis_at columns (k + 1) rows ∙ ap (λ n. positions_from n rows) (let e : k + 1 + columns ≡ k + suc columns = omega arith in e)
 
-pub start_basis : (rows : List RowParts) (columns : ℕ) → basis_of (start_slots rows columns) ≡ positions_from columns rows
+start_basis : (rows : List RowParts) (columns : ℕ) → basis_of (start_slots rows columns) ≡ positions_from columns rows
 start_basis rows columns = basis_at columns 0 rows ∙ ap (λ n. positions_from n rows) (let e : 0 + columns ≡ columns = omega arith in e)
 
 positions_length : (k : ℕ) (rows : List RowParts) → length (positions_from k rows) ≡ length rows

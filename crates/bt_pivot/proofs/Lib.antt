@@ -2,6 +2,7 @@ pub mod BoundRests
 pub mod Carrying
 pub mod Changing
 pub mod Classes
+pub mod Denominators
 pub mod Failing
 pub mod FirstForms
 pub mod FirstLines
@@ -9,10 +10,9 @@ pub mod FreeRests
 pub mod GrowingClasses
 pub mod KeptSums
 pub mod Named
+pub mod Pivoted
 pub mod Places
 pub mod Resting
 pub mod ShortPoints
-pub mod Standing
 pub mod Substitutions
-pub mod Pivoted
 pub mod UnfitPivots

@@ -15,7 +15,7 @@ use Rattle.bt_pivot.specs.SolvedForms.{Slots, slot_at, basis_from, basis_of, at_
 use Rattle.bt_linear.specs.Substituting.{IsSubstituted}
 use Rattle.bt_pivot.specs.PivotedSlots.{IsPivoted}
 use Rattle.bt_linear.proofs.Numbers.{Positive, zero_alike, Alike, alike, itself, back, next, both_plus, both_times, times_positive, differ_none, adds_none}
-use Rattle.bt_pivot.proofs.Standing.{stands_some}
+use Rattle.bt_pivot.proofs.Denominators.{stands_some}
 use Rattle.bt_linear.proofs.Totals.{total_positive}
 use Rattle.bt_linear.proofs.Indicators.{LacksPosition, decide, indicator, indicator_some, having_total, total_at, none_lacks, zero_lacks, over_zero_of, combination_lacks, number_has}
 use Rattle.bt_linear.proofs.Zeros as zeros
@@ -292,7 +292,7 @@ same_weights (x ∷ xs) (y ∷ ys) e h =
     let sum' : sum_by weight (y ∷ ys) ≡ weight y + sum_by weight ys = sum_by-cons weight y ys in
     omega arith
 
-pub substituted_weight : (enters : ℕ) (zero : Terms) (old new : Option Terms) → IsSubstituted enters zero old new → weight new ≡ weight old
+substituted_weight : (enters : ℕ) (zero : Terms) (old new : Option Terms) → IsSubstituted enters zero old new → weight new ≡ weight old
 unfolding weight
 substituted_weight enters zero None new is = ap weight is
 substituted_weight enters zero (Some terms) new (inl h) = ap weight h.1

@@ -15,7 +15,7 @@ use Rattle.bt_linear.proofs.SignedLines.{negated_total, alone_line}
 use Rattle.bt_linear.proofs.Zeros.{one_some, one_term, one_times, negated_alike}
 
 -- a line with the other sign adds up to the point with the other sign
-pub signed_same : (rest : ℕ → Delta) → AreValues (λ p. (rest p).value) → AreValues (λ p. (rest p).tiny) → (told : Bool) (d : Delta) (terms : Terms) → All HasNumber terms
+signed_same : (rest : ℕ → Delta) → AreValues (λ p. (rest p).value) → AreValues (λ p. (rest p).tiny) → (told : Bool) (d : Delta) (terms : Terms) → All HasNumber terms
     → IsSamePoint d (standing rest 0 (Some terms)) → IsSamePoint (signed_point told d) (standing rest 0 (Some (signed_terms told terms)))
 signed_same rest values tinies false d terms all same = same
 signed_same rest values tinies true d terms all same =

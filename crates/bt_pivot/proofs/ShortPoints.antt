@@ -11,7 +11,7 @@ use Rattle.std.specs.Ordering.{MatchOrdering}
 use Rattle.bt_frac.specs.Rows.{RowParts, IsRow}
 use Rattle.bt_frac.specs.Values.{AreValues}
 use Rattle.bt_frac.specs.declared.delta.Delta.{Delta}
-use Rattle.bt_frac.specs.declared.row.Relation.TheVariants.{Equal as AnEquation}
+use Rattle.bt_frac.specs.declared.relation.Relation.TheVariants.{Equal as AnEquation}
 use Rattle.bt_frac.proofs.Ring.{products, sums}
 use Rattle.bt_linear.specs.Lines.{one, Terms, HasNumber, IsLine, total, signed_terms}
 use Rattle.bt_pivot.specs.Points.{bound_row, resting, standing, Breaks, Fails, IsSamePoint, signed_point}
@@ -28,7 +28,7 @@ use Rattle.bt_linear.proofs.Numbers.{Positive, Alike, alike, next}
 use Rattle.bt_pivot.proofs.Resting.{part_more, rest_value, rest_tiny}
 
 -- both sums over a denominator
-abbrev pub delta_over : Sums → ℕ → Delta
+abbrev delta_over : Sums → ℕ → Delta
 delta_over sums under = record { value = over_of sums.value under; tiny = over_of sums.tiny under }
 
 product_parts_ints : (z b o r u : ℤ) → o *ℤ u ≡ z *ℤ r → z *ℤ b *ℤ (r *ℤ pos 1) ≡ o *ℤ b *ℤ u
@@ -69,7 +69,7 @@ whole_more at some under numbers has all i x v b w inside is rests sum so_far =
     part_more at some (terms_over under numbers) all i (x.0, reduced x.1 under) (over_of v under) (over_of (x.1 *ℤ b) under) (over_of w under) inside' item low.0.positive so_far has product has added
 
 -- the same of both
-pub short_more : (t : TableauParts) → IsTableau t → (under : ℕ) (numbers : Numbers) (now : Terms) → IsShort under numbers → terms_over under numbers ≡ now → (i : ℕ) (x : ℕ × ℤ) (sums after : Sums) → i < length numbers
+short_more : (t : TableauParts) → IsTableau t → (under : ℕ) (numbers : Numbers) (now : Terms) → IsShort under numbers → terms_over under numbers ≡ now → (i : ℕ) (x : ℕ × ℤ) (sums after : Sums) → i < length numbers
     → x ≡ get_or numbers i x → IsSamePoint (delta_over sums under) (standing (resting t) 0 (Some (take i now))) → AddsWhole (resting t x.0) sums x.1 after
     → IsSamePoint (delta_over after under) (standing (resting t) 0 (Some (take (i + 1) now)))
 short_more t tableau under numbers now short now_is i x sums after inside is so_far adds =
@@ -104,7 +104,7 @@ short_point d a under sums some fits first second value_is tiny_is same =
         subst (λ q. Alike q b) (sym is) (next (alike (reduced z under) (over_of z under) low.positive left (reduced_over z under)) (alike (over_of z under) b left right same))
 
 -- all terms
-pub short_all : (t : TableauParts) (d : Delta) (under : ℕ) (numbers : Numbers) (now : Terms) (i : ℕ) → terms_over under numbers ≡ now → length numbers ≤ i
+short_all : (t : TableauParts) (d : Delta) (under : ℕ) (numbers : Numbers) (now : Terms) (i : ℕ) → terms_over under numbers ≡ now → length numbers ≤ i
     → IsSamePoint d (standing (resting t) 0 (Some (take i now))) → IsSamePoint d (standing (resting t) 0 (Some now))
 short_all t d under numbers now i now_is past same =
     let past' : length now ≤ i = subst (λ n. n ≤ i) (sym (length_over under numbers) ∙ ap length now_is) past in

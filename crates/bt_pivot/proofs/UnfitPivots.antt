@@ -21,7 +21,7 @@ use Rattle.bt_linear.specs.declared.unfit.Unfit.{Unfit}
 use Rattle.bt_pivot.specs.declared.causes.Cause.{Cause}
 use Rattle.bt_pivot.specs.inner.UnfitPivots.{AreAlike, HaveSameBasis, IsUnfitSlot, IsUnfitLine, IsUnfitPart, seen_right, entry_cause}
 use Rattle.bt_pivot.specs.PivotedSlots.{IsUnfitPivot}
-use Rattle.bt_linear.specs.Substituting.{IsZeroLine, IsSubstituted}
+use Rattle.bt_linear.specs.Substituting.{IsZeroLine}
 use Rattle.bt_linear.proofs.Indicators.{decide, indicator, indicator_some, here_is, other_is, lacking_total, total_at, none_lacks, number_has, times_one}
 use Rattle.bt_linear.proofs.Numbers.{Positive, nothing_some, Alike, itself, back, next, both_plus, both_times, swap_plus, swap_times, group_times, drop_zero, times_positive, times_zero, negated_times, zero_alike}
 use Rattle.bt_linear.proofs.Shares.{negated_twice, negated_low}
@@ -242,11 +242,6 @@ basis_same k (x ∷ xs) (y ∷ ys) same = first x y (same.alike 0) (basis_same (
 alike_itself : (slot : Option Terms) → AreAlike slot slot
 alike_itself None = tt
 alike_itself (Some terms) = tt
-
-substituted_alike : (enters : ℕ) (zero : Terms) (old new : Option Terms) → IsSubstituted enters zero old new → AreAlike new old
-substituted_alike enters zero None new is = subst (λ n. AreAlike n None) (sym is) tt
-substituted_alike enters zero (Some terms) new (inl h) = subst (λ n. AreAlike n (Some terms)) (sym h.1) tt
-substituted_alike enters zero (Some terms) new (inr h) = subst (λ n. AreAlike n (Some terms)) (sym h.2.1) tt
 
 -- put back in place, the line of the class makes the lines whole
 pub put_back : (enters : ℕ) (zero : Terms) (lines : Slots) (left : ℕ) (old : Option Terms) (lines' : Slots) (cause : Cause) → left < length lines → old ≡ slot_at lines left

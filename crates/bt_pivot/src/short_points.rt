@@ -1,6 +1,6 @@
 //! Where positions stand by their short lines, in whole numbers.
 ghost use Rattle.std.specs.Prelude.{◌≡◌, ◌<◌, ◌^◌, ◌*ℤ◌, ◌+ℤ◌, IfSome, IsTrue, ◌↔◌, Some, neg_ℤ};
-ghost use Rattle.bt_frac.specs.declared.row.Relation.TheVariants.{Equal as AnEquation};
+ghost use Rattle.bt_frac.specs.declared.relation.Relation.TheVariants.{Equal as AnEquation};
 ghost use Rattle.bt_frac.specs.Deltas.{IsOrderOfDeltas};
 ghost use Rattle.bt_pivot.specs.Points.{resting, standing, IsSamePoint, signed_point};
 ghost use Rattle.bt_pivot.specs.inner.Carrying.{AreCarried};

@@ -3,12 +3,12 @@ use Rattle.std.proofs.Common.{◌≡◌, ℕ, zero, suc, ◌<◌, ◌≤◌, ◌
 use Rattle.std.proofs.Math.Nat.{mul-le-mul_right}
 use Rattle.std.specs.List.{flat_map, range_with_len}
 
-pub get_left : {X : Type 0} (xs ys : List X) (k : ℕ) (d : X) → k < length xs → get_or (xs ++ ys) k d ≡ get_or xs k d
+get_left : {X : Type 0} (xs ys : List X) (k : ℕ) (d : X) → k < length xs → get_or (xs ++ ys) k d ≡ get_or xs k d
 get_left [] ys k d lt = absurd (omega arith)
 get_left (x ∷ xs) ys zero d lt = refl
 get_left (x ∷ xs) ys (suc k) d lt = get_left xs ys k d (omega arith)
 
-pub get_right : {X : Type 0} (xs ys : List X) (k : ℕ) (d : X) → get_or (xs ++ ys) (length xs + k) d ≡ get_or ys k d
+get_right : {X : Type 0} (xs ys : List X) (k : ℕ) (d : X) → get_or (xs ++ ys) (length xs + k) d ≡ get_or ys k d
 get_right [] ys k d = ap (λ n. get_or ys n d) (let z : 0 + k ≡ k = omega arith in z)
 get_right (x ∷ xs) ys k d = ap (λ n. get_or (x ∷ (xs ++ ys)) n d) (let z : suc (length xs) + k ≡ suc (length xs + k) = omega arith in z) ∙ get_right xs ys k d
 

@@ -30,7 +30,7 @@ use Rattle.bt_place.proofs.Marking.{all_marked}
 use Rattle.bt_place.proofs.Solving.{solved_of}
 
 -- a part that is kept
-abbrev pub KeptPart : Told → Part → Type 0
+abbrev KeptPart : Told → Part → Type 0
 KeptPart t part = IsKeptPart t.request (reading_of t) part
 
 -- the parts of the marked cells before this number, in the order of their cells

@@ -111,7 +111,7 @@ found_content (Turned (shape.Half Greater) South) = record { within = omega arit
 found_content (Turned (shape.Half Greater) West) = record { within = omega arith; is = refl }
 
 -- a class at its place
-pub found_class : (xs : List Class) (k : Class) → Contains xs k → Found xs (position_or_len (same_class k) xs) k
+found_class : (xs : List Class) (k : Class) → Contains xs k → Found xs (position_or_len (same_class k) xs) k
 found_class [] k h = absurd (contains_none k h)
 found_class (x ∷ xs) k h = by (same_class k x) refl (contains_cases x xs k h) (found_class xs k)
   where

@@ -1,14 +1,10 @@
 -- Clauses that are added to a formula.
-use Rattle.std.proofs.Common.{◌≡◌, List, [], ◌∷◌, ◌++◌, sym, ◌∙◌, ap, append_assoc, append-nil}
-use Rattle.bt_cnf.specs.declared.literal.Lit.{Lit}
+use Rattle.std.proofs.Common.{[], ◌++◌, sym, ◌∙◌, ap, append_assoc, append-nil}
 use Rattle.bt_cnf.specs.Formulas.{FormulaParts}
 use Rattle.bt_place.specs.Narrowed.{IsNarrowed}
 
 pub narrowed_none : (f : FormulaParts) → IsNarrowed f f
 narrowed_none f = ([], ap (λ l. record f { clauses = l }) (sym (append-nil f.clauses)))
-
-pub narrowed_one : (f g : FormulaParts) (lits : List Lit) → g ≡ record f { clauses = f.clauses ++ lits ∷ [] } → IsNarrowed f g
-narrowed_one f g lits e = (lits ∷ [], e)
 
 pub narrowed_more : (f g h : FormulaParts) → IsNarrowed f g → IsNarrowed g h → IsNarrowed f h
 narrowed_more f g h one two =

@@ -78,7 +78,7 @@ clause_below z n r has h = all_of_each (λ l. l.var < n) (clause_of z r)
 pub with_none : (z : Sizes) (f : FormulaParts) → f ≡ with_rules z f []
 with_none z f = ap (λ l. record f { clauses = l }) (sym (append-nil f.clauses))
 
-pub with_both : (z : Sizes) (f : FormulaParts) (a b : List Rule) → with_rules z (with_rules z f a) b ≡ with_rules z f (a ++ b)
+with_both : (z : Sizes) (f : FormulaParts) (a b : List Rule) → with_rules z (with_rules z f a) b ≡ with_rules z f (a ++ b)
 with_both z f a b =
     ap (λ l. record f { clauses = l }) (append_assoc f.clauses (map (clause_of z) a) (map (clause_of z) b) ∙ ap (λ l. f.clauses ++ l) (sym (map-append (clause_of z) a b)))
 

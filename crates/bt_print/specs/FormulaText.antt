@@ -5,8 +5,8 @@ use Rattle.bt_text.specs.Lines.{line}
 use Rattle.bt_frac.specs.Ratio.{Ratio}
 use Rattle.bt_frac.specs.Rows.{RowParts}
 use Rattle.bt_frac.specs.Texts.{frac_text}
-use Rattle.bt_frac.specs.declared.row.Relation.{Relation}
-use Rattle.bt_frac.specs.declared.row.Relation.TheVariants.{AtLeast, Above, Equal}
+use Rattle.bt_frac.specs.declared.relation.Relation.{Relation}
+use Rattle.bt_frac.specs.declared.relation.Relation.TheVariants.{AtLeast, Above, Equal}
 use Rattle.bt_cnf.specs.Formulas.{FormulaParts}
 use Rattle.bt_cnf.specs.declared.literal.Lit.{Lit}
 use Rattle.bt_log.specs.LogText.{words, lit_text}

@@ -2,12 +2,12 @@
 use Rattle.std.proofs.Common.{◌≡◌, ℕ, List, Option, Some, None, inl, inr, refl, sym, ◌∙◌}
 use Rattle.std.specs.Prelude.{Err}
 use Rattle.std.proofs.lemmas.Option.{same_Some}
-use Rattle.bt_answers.specs.Answers.{UnlessMemory}
+use Rattle.bt_text.specs.Answers.{UnlessMemory}
 use Rattle.bt_parts.specs.declared.part.Part.{Part}
 use Rattle.bt_parts.specs.Layouts.{IsWellPlaced, IsPieceAt}
-use Rattle.bt_grid.specs.declared.pairing.PairFault.{PairFault}
-use Rattle.bt_grid.specs.declared.pairing.PairFault.TheVariants.{Unpaired, Memory}
-use Rattle.bt_grid.specs.Pairing.{ArePartners, partner_of, ArePairedAs}
+use Rattle.bt_recover.specs.declared.pairing.PairFault.{PairFault}
+use Rattle.bt_recover.specs.declared.pairing.PairFault.TheVariants.{Unpaired, Memory}
+use Rattle.bt_recover.specs.Pairing.{ArePartners, partner_of, ArePairedAs}
 use Rattle.bt_model.specs.Clean.{IsPaired, IsSideLoaded, IsBlocked, IsOnRing, IsClean}
 use Rattle.bt_model.specs.Orderly.{Never, IsOrderly}
 use Rattle.bt_recover.specs.inner.Refused.{IsRefused, fault_of}

@@ -36,7 +36,7 @@ none_listed P = record {
   ascends = λ i j d lt in'. absurd (omega arith);
 }
 
-pub listed_more : (P : ℕ → Type 0) (xs : List ℕ) (n : ℕ) → ListsUpTo P xs n → P n → ListsUpTo P (xs ++ n ∷ []) (n + 1)
+listed_more : (P : ℕ → Type 0) (xs : List ℕ) (n : ℕ) → ListsUpTo P xs n → P n → ListsUpTo P (xs ++ n ∷ []) (n + 1)
 listed_more P xs n lists p = record {
   all = λ i lt q. ⊎_elim (λ below. Contains-append_left xs (n ∷ []) i (lists.all i below q))
       (λ above. let same : i ≡ n = omega arith in subst (λ x. Contains (xs ++ n ∷ []) x) (sym same) (Contains-push xs n)) (cases_lt i n);
@@ -46,7 +46,7 @@ listed_more P xs n lists p = record {
       (λ k d lt. (lists.only (get_or xs k d) (k, lt, get_or_default xs k (get_or xs k d) d lt)).0);
 }
 
-pub listed_same : (P : ℕ → Type 0) (xs : List ℕ) (n : ℕ) → ListsUpTo P xs n → (P n → ⊥) → ListsUpTo P xs (n + 1)
+listed_same : (P : ℕ → Type 0) (xs : List ℕ) (n : ℕ) → ListsUpTo P xs n → (P n → ⊥) → ListsUpTo P xs (n + 1)
 listed_same P xs n lists none = record {
   all = λ i lt q. ⊎_elim (λ below. lists.all i below q)
       (λ above. let same : i ≡ n = omega arith in absurd (none (subst P same q))) (cases_lt i n);
@@ -132,7 +132,7 @@ pub listed_within : (P : ℕ → Type 0) (xs : List ℕ) (n : ℕ) → ListsUpTo
 listed_within P xs n lists k d lt = (lists.only (get_or xs k d) (k, lt, get_or_default xs k (get_or xs k d) d lt)).0
 
 -- entries are ordered by their cells and then by their parts
-abbrev pub entry_order : Cell × ℕ → Cell × ℕ → Ordering
+abbrev entry_order : Cell × ℕ → Cell × ℕ → Ordering
 entry_order x y = ordering_then (cell_order x.0 y.0) (nat_cmp x.1 y.1)
 
 entry_total : IsTotalOrder entry_order

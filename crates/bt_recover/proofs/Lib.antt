@@ -11,3 +11,6 @@ pub mod PreferLemmas
 pub mod RefusalLemmas
 pub mod SideLemmas
 pub mod WiredLemmas
+pub mod IndexLemmas
+pub mod PartnerLemmas
+pub mod OneAnswer

@@ -191,7 +191,7 @@ unmarked_before parts marks are starts i unmarked (suc n) =
     (starts found.0 (slice_get_within parts found.0 link.0 link.1) link)
 
 -- so an unmarked part is on a ring
-pub unmarked_ring : (parts : List Part) → IsWellPlaced parts → (marks : List Bool) → AreMarks parts marks → HasStarts parts marks (length parts)
+unmarked_ring : (parts : List Part) → IsWellPlaced parts → (marks : List Bool) → AreMarks parts marks → HasStarts parts marks (length parts)
     → (i : ℕ) → IsUnmarkedLink parts marks i → IsOnRing parts i
 unmarked_ring parts placed marks are starts i unmarked =
     let found = unmarked_before parts marks are starts i unmarked (length parts) in

@@ -108,7 +108,7 @@ named_edge parts naming labels names are source start way starts leads = record 
 }
 
 -- and with the halves that it joins
-pub joint_from : (parts : List Part) (naming : Naming) (labels : Labels) → AreNames parts naming → AreLabels parts naming labels → (source : Source) (start : Start) (way : Way)
+joint_from : (parts : List Part) (naming : Naming) (labels : Labels) → AreNames parts naming → AreLabels parts naming labels → (source : Source) (start : Start) (way : Way)
     → IsStartOf naming source start → LeadsFrom parts labels.numbers.items source way → IsEdgeFrom parts (IsJoint parts naming) source (joint_of labels.one_tier source start way)
 joint_from parts naming labels names are source start way starts leads = record {
   chain = leads.chain;
@@ -157,7 +157,7 @@ halves_step parts clean naming labels names are k old new lt adds has =
     (adds_from parts naming labels names are (leaves s (beside adds.part.dir adds.part.cell)) (from.Split k) adds.mid new at adds.greater) has
 
 -- what stands for a chain with its halves stands for it without them
-pub halves_off : (parts : List Part) (naming : Naming) (chains : List Chain) (joints : List Joint) → AllZip (IsJoint parts naming) chains joints → AllZip (IsEdgeOf parts naming) chains (map (λ joint. joint.edge) joints)
+halves_off : (parts : List Part) (naming : Naming) (chains : List Chain) (joints : List Joint) → AllZip (IsJoint parts naming) chains joints → AllZip (IsEdgeOf parts naming) chains (map (λ joint. joint.edge) joints)
 halves_off parts naming [] [] z = tt
 halves_off parts naming [] (j ∷ js) z = absurd z
 halves_off parts naming (c ∷ cs) [] z = absurd z

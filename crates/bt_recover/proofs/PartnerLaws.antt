@@ -5,7 +5,7 @@ use Rattle.std.proofs.lemmas.Option.{none-some, slice_get_within}
 use Rattle.bt_parts.specs.declared.part.Kind.TheVariants.{Entrance, Exit}
 use Rattle.bt_parts.specs.declared.part.Part.{Part}
 use Rattle.bt_parts.specs.Layouts.{HasPart}
-use Rattle.bt_grid.specs.Pairing.{ArePartners, partner_of}
+use Rattle.bt_recover.specs.Pairing.{ArePartners, partner_of}
 use Rattle.bt_model.specs.Handing.{Hands}
 use Rattle.bt_model.specs.Chains.{IsOutput}
 use Rattle.bt_model.proofs.HandLaws.{pair_enters, pair_leaves, exit_unfed}

@@ -2,19 +2,19 @@
 use Rattle.std.proofs.Common.{◌≡◌, ◌≢◌, ◌⊎◌, ℕ, zero, suc, ◌+◌, ◌-◌, ◌<◌, List, [], ◌∷◌, map, length, get_or, Option, Some, None, true, IsTrue, refl, sym, ◌∙◌, ap, subst, inl, inr, ⊎_elim, arith}
 use Rattle.std.specs.Prelude.{MatchOption, Ok, Err}
 use Rattle.std.specs.List.{slice_get, AllPairs, AllZip, Contains}
-use Rattle.std.proofs.Common.{set, replicate}
+use Rattle.std.proofs.Common.{set}
 use Rattle.std.specs.Prelude.{Result}
 use Rattle.std.proofs.Math.ListN.{get_or-eq_default}
 use Rattle.std.proofs.lemmas.Bool.{eq-eqb}
-use Rattle.bt_answers.specs.Answers.{UnlessMemory, Answers, HasOneAnswer}
-use Rattle.bt_answers.proofs.OneAnswer.{answers_of}
-use Rattle.bt_hands.specs.declared.hand.Hand.{Hand}
-use Rattle.bt_hands.specs.Hands.{half_on}
+use Rattle.bt_text.specs.Answers.{UnlessMemory, Answers, HasOneAnswer}
+use Rattle.bt_text.proofs.OneAnswer.{answers_of}
+use Rattle.bt_parts.specs.declared.hand.Hand.{Hand}
+use Rattle.bt_parts.specs.Hands.{half_on}
 use Rattle.std.proofs.lemmas.Bool.{cases_lt, cases_eq}
 use Rattle.std.proofs.lemmas.Grind.{get_or-set_at}
-use Rattle.std.proofs.lemmas.List.{get_or-set_other, length-set, get_or-replicate, length-replicate}
+use Rattle.std.proofs.lemmas.List.{get_or-set_other, length-set}
 use Rattle.std.proofs.lemmas.Option.{same_Some, none-some, slice_get_within, slice_get-get_or, get_or_from_slice_get}
-use Rattle.bt_hands.specs.declared.hand.Priority.{Priority}
+use Rattle.bt_parts.specs.declared.hand.Priority.{Priority}
 use Rattle.bt_parts.specs.declared.part.Cell.{Cell}
 use Rattle.bt_parts.specs.declared.part.Part.{Part}
 use Rattle.bt_parts.specs.declared.part.Kind.TheVariants.{Splitter}
@@ -33,7 +33,7 @@ use Rattle.bt_net.specs.declared.network.Start.{Start}
 use Rattle.bt_net.specs.declared.network.Start.TheVariants as from
 use Rattle.bt_net.specs.declared.network.Target.{Target}
 use Rattle.bt_net.specs.declared.network.Target.TheVariants as into
-use Rattle.bt_model.specs.Chains.{Path, IsSplitter, Source, begins, leaves, Sink, ends, enters, Chain, EndsAs, IsLongest, IsEmptyChain, IsChain}
+use Rattle.bt_model.specs.Chains.{Path, IsSplitter, leaves, Sink, ends, enters, Chain, EndsAs, IsLongest, IsEmptyChain, IsChain}
 use Rattle.bt_model.specs.Clean.{IsClean}
 use Rattle.bt_model.specs.Shown.{Naming, IsStartOf, IsTargetOf, IsEdgeOf, ComesBefore, IsNumbered}
 use Rattle.bt_model.proofs.ChainLemmas.{path_stop, orderly_of, chain_from}
@@ -45,7 +45,7 @@ use Rattle.bt_model.proofs.SameChain.{Hop, same_hop}
 use Rattle.bt_model.proofs.Sorted.{one_place, same_ascending}
 use Rattle.bt_recover.specs.declared.edges.Joint.{Joint}
 use Rattle.bt_recover.specs.Preferred.{HandsOnFrom, EndsAtHalf, no_priority, priority_of, IsHalfOn, IsGivenFirst, IsTakenFirst, ArePreferred, IsPreferring, IsRecoveredWith}
-use Rattle.bt_recover.specs.inner.Edges.{naming_of, AreNames, half_of, EndsAtAny, IsJoint, HasEdges, AllDone, net_with}
+use Rattle.bt_recover.specs.inner.Edges.{naming_of, AreNames, EndsAtAny, IsJoint, HasEdges, AllDone, net_with}
 use Rattle.bt_recover.specs.inner.Found.{TellsPreferred, HasJoints}
 use Rattle.bt_recover.specs.declared.fault.RecoverFault.{RecoverFault}
 use Rattle.bt_recover.specs.declared.fault.RecoverFault.TheVariants.{Memory}
@@ -60,19 +60,11 @@ pub numbered_of : (parts : List Part) → IsClean parts → (naming : Naming) (e
 numbered_of parts clean naming edges joints names is has =
     numbered parts clean naming edges names (subst (λ es. HasEdges parts (IsEdgeOf parts naming) AllDone es) (sym is) (edges_alone parts naming AllDone joints has))
 
-abbrev pub numbered_joints : (parts : List Part) → IsClean parts → (naming : Naming) (joints : List Joint) → AreNames parts naming
+abbrev numbered_joints : (parts : List Part) → IsClean parts → (naming : Naming) (joints : List Joint) → AreNames parts naming
     → HasEdges parts (IsJoint parts naming) AllDone joints → IsNumbered parts (net_with naming (map (λ joint. joint.edge) joints)) naming
 numbered_joints parts clean naming joints names has = numbered parts clean naming (map (λ joint. joint.edge) joints) names (edges_alone parts naming AllDone joints has)
 
 -- ---- which splitter prefers the chain of an edge
-
-leaves_here : (naming : Naming) (source : Source) (start : Start) (told : Option Cell) (k : ℕ) (half : Cell) → IsStartOf naming source start → told ≡ half_of source → start ≡ from.Split k → told ≡ Some half
-    → (s : ℕ) × (slice_get naming.splitters k ≡ Some s) × (source ≡ leaves s half)
-leaves_here naming (begins i c) start told k half is t e f = absurd (none-some half (sym t ∙ f))
-leaves_here naming (leaves s h) (from.Input j) told k half is t e f = absurd is
-leaves_here naming (leaves s h) (from.Split j) told k half is t e f =
-    let same : j ≡ k = cc in
-    (s, ap (λ x. slice_get naming.splitters x) (sym same) ∙ is, ap (λ x. leaves s x) (same_Some h half (sym t ∙ f)))
 
 enters_here : (naming : Naming) (sink : Sink) (target : Target) (k : ℕ) → IsTargetOf naming sink target → target ≡ into.Split k
     → (s : ℕ) × (slice_get naming.splitters k ≡ Some s) × (sink ≡ enters s)
@@ -87,12 +79,6 @@ record StartsHere (naming : Naming) (chain : Chain) (k : ℕ) (half : Cell) : Ty
   s : ℕ
   at : slice_get naming.splitters k ≡ Some s
   source : chain.source ≡ leaves s half
-
-starts_here : (parts : List Part) (naming : Naming) (chain : Chain) (joint : Joint) (k : ℕ) (half : Cell) → IsJoint parts naming chain joint → joint.edge.start ≡ from.Split k → joint.source_half ≡ Some half
-    → StartsHere naming chain k half
-starts_here parts naming chain joint k half is e f =
-    let found = leaves_here naming chain.source joint.edge.start joint.source_half k half is.edge.start is.starts_at e f in
-    record { s = found.0; at = found.1; source = found.2 }
 
 number_missed : (naming : Naming) (splitters : List ℕ) (k s : ℕ) → naming.splitters ≡ splitters → slice_get naming.splitters k ≡ Some s → slice_get splitters k ≡ None → ⊥
 number_missed naming splitters k s e at none = none-some s (sym none ∙ ap (λ xs. slice_get xs k) (sym e) ∙ at)
@@ -198,11 +184,6 @@ taken_never parts priorities splitters joint none naming chain same is s taken =
     let never : (t : ℕ) (half : Cell) → EndsAtHalf parts chain t half → ⊥ = subst (λ told. EndsAtAny parts chain told) none is.ends_at in
     never s taken.0 taken.1
 
-ends_output : (naming : Naming) (sink : Sink) (target : Target) (k s : ℕ) → IsTargetOf naming sink target → target ≡ into.Output k → sink ≡ enters s → ⊥
-ends_output naming (ends i) target k s is e f = absurd (cc)
-ends_output naming (enters t) (into.Output j) k s is e f = is
-ends_output naming (enters t) (into.Split j) k s is e f = absurd (cc)
-
 -- ---- one edge after another
 
 -- as far as this edge each splitter has the place of the chain that it prefers
@@ -212,13 +193,6 @@ pub record PreferredUpTo (Prefers : Chain → ℕ → Type 0) (splitters : List 
       ((b : ℕ) (chain : Chain) → b < a → slice_get chains b ≡ Some chain → Prefers chain s → ⊥)
       (λ b. (chain : Chain) × (slice_get chains b ≡ Some chain) × Prefers chain s)
 
-pub preferred_first : (Prefers : Chain → ℕ → Type 0) (splitters : List ℕ) (chains : List Chain) (edges : List (Option ℕ)) → edges ≡ replicate (length splitters) None → PreferredUpTo Prefers splitters chains edges 0
-preferred_first Prefers splitters chains edges is = record {
-  count = ap length is ∙ length-replicate (length splitters) None;
-  each = λ k s at.
-      let none : get_or edges k None ≡ None = ap (λ es. get_or es k None) is ∙ get_or-replicate (length splitters) k None None (slice_get_within splitters k s at) in
-      subst (λ o. MatchOption o ((b : ℕ) (chain : Chain) → b < 0 → slice_get chains b ≡ Some chain → Prefers chain s → ⊥) (λ b. (chain : Chain) × (slice_get chains b ≡ Some chain) × Prefers chain s)) (sym none)
-      (λ b chain lt got p. absurd (omega (arith, lt)));
 }
 
 abbrev NoneBefore : (Chain → ℕ → Type 0) → List Chain → ℕ → ℕ → Type 0
@@ -442,12 +416,12 @@ one_taken parts priorities clean s c d splitter is_c is_d x y =
     one_ending parts clean s y.0 c d splitter is_c is_d
     (subst (λ h. EndsAtHalf parts c s h) (one_half_on parts s (priority_of priorities s).take x.0 y.0 x.2 y.2) x.1) y.1
 
-pub into_splitter_at : (parts : List Part) (chain : Chain) (s : ℕ) → IsChain parts chain → chain.sink ≡ enters s → IsSplitter parts s
+into_splitter_at : (parts : List Part) (chain : Chain) (s : ℕ) → IsChain parts chain → chain.sink ≡ enters s → IsSplitter parts s
 into_splitter_at parts chain s (inl h) e = (subst (λ x. EndsAs parts x h.last) e h.ends).0
 into_splitter_at parts chain s (inr h) e = subst (λ x. IsSplitter parts x) (enters_same h.to s (sym h.sink ∙ e)) h.is_to
 
 -- a layout with priorities has one numbered network at most
-pub same_preferring : (parts : List Part) (priorities : List Priority) (m n : Network) (naming : Naming) → IsPreferring parts priorities m naming → IsPreferring parts priorities n naming → m ≡ n
+same_preferring : (parts : List Part) (priorities : List Priority) (m n : Network) (naming : Naming) → IsPreferring parts priorities m naming → IsPreferring parts priorities n naming → m ≡ n
 same_preferring parts priorities m n naming h k =
     let x = h.numbered in
     let y = k.numbered in

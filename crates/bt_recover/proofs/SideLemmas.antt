@@ -4,8 +4,8 @@ use Rattle.std.specs.Prelude.{Result, Ok, Err, All, Option, Some, None, IsTrue}
 use Rattle.std.proofs.lemmas.Bool.{cases_eq}
 use Rattle.std.proofs.lemmas.List.{append-nil, append_assoc, get_or_default, length-take-le, take_more}
 use Rattle.std.proofs.lemmas.Option.{same_Some}
-use Rattle.bt_answers.specs.Answers.{UnlessMemory, Answers, HasOneAnswer}
-use Rattle.bt_answers.proofs.OneAnswer.{answers_of}
+use Rattle.bt_text.specs.Answers.{UnlessMemory, Answers, HasOneAnswer}
+use Rattle.bt_text.proofs.OneAnswer.{answers_of}
 use Rattle.bt_parts.specs.declared.part.Cell.{Cell}
 use Rattle.bt_parts.specs.declared.part.Dir.{Dir}
 use Rattle.bt_parts.specs.declared.part.Part.{Part}
@@ -70,7 +70,7 @@ pub sides_answer : (parts : List Part) (told : Result (List Demand) RecoverFault
 sides_answer parts = answers_of Memory (AreEndSides parts) (one_end_sides parts)
 
 -- one end more
-pub stays_more : (parts : List Part) (end_of : ℕ → End) (number : ℕ) (indices : List ℕ) (stays : List Demand) (i : ℕ) (part : Part) (last : List Demand)
+stays_more : (parts : List Part) (end_of : ℕ → End) (number : ℕ) (indices : List ℕ) (stays : List Demand) (i : ℕ) (part : Part) (last : List Demand)
     → AreStaysOf parts end_of number indices stays → HasPart parts i part → IsStayOf parts (end_of (number + length indices)) part last
     → AreStaysOf parts end_of number (indices ++ i ∷ []) (stays ++ last)
 stays_more parts end_of number [] stays i part last h at is =

@@ -1,6 +1,6 @@
 -- The network of a layout whose parts have priorities.
 use Rattle.std.specs.Prelude.{List, Result, Ok, Err}
-use Rattle.bt_hands.specs.declared.hand.Priority.{Priority}
+use Rattle.bt_parts.specs.declared.hand.Priority.{Priority}
 use Rattle.bt_parts.specs.declared.part.Part.{Part}
 use Rattle.bt_net.specs.Network.{Network, IsNetwork}
 pub use Rattle.bt_model.specs.Preferring.{HandsOnFrom, EndsAtHalf, no_priority, priority_of, IsHalfOn, IsGivenFirst, IsTakenFirst, ArePreferred}

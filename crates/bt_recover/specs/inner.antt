@@ -7,3 +7,5 @@ pub mod Refused
 pub mod Speeds
 pub mod Staying
 pub mod Told
+pub mod Index
+pub mod Partners

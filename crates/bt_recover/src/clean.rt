@@ -2,14 +2,16 @@
 //!
 //! Rings are looked for last, since chains can be followed only where each part has one giver.
 ghost use Rattle.std.specs.Prelude.{◌≡◌, IfOk, IfErr};
-ghost use Rattle.bt_grid.specs.Pairing.{ArePartners};
+ghost use Rattle.bt_recover.specs.Pairing.{ArePartners};
 ghost use Rattle.bt_model.specs.Clean.{IsClean};
 ghost use Rattle.bt_recover.specs.inner.Refused.{fault_of, IsRefused};
 
 use crate::fault::RecoverFault;
+use crate::grid::Grid;
 use crate::marks::first_on_ring;
+use crate::pairing::{PairFault, pairs};
+use crate::partners::Pairs;
 use crate::refusals::{first_blocked, first_side_loaded};
-use bt_grid::{Grid, PairFault, Pairs, pairs};
 use std::alloc::Global;
 
 /// What is refused where a piece is in no pair.

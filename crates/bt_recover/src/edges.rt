@@ -5,15 +5,16 @@
 //! is that of the parts.
 ghost use Rattle.std.specs.Prelude.{◌≡◌, ◌≢◌, map, ◌↔◌, ℕ, ◌<◌, ◌≤◌, length, OnOk, IfOk, MatchOption, All, AllPairs, Contains};
 ghost use Rattle.bt_parts.specs.Layouts.{IsAt};
-ghost use Rattle.bt_grid.specs.Pairing.{ArePartners};
+ghost use Rattle.bt_recover.specs.Pairing.{ArePartners};
 ghost use Rattle.bt_model.specs.Chains.{IsLink, IsSplitter, Source, leaves};
 ghost use Rattle.bt_model.specs.Clean.{IsClean};
 ghost use Rattle.bt_recover.specs.inner.Edges.{naming_of, AreNames, HasMany, AreNumbered, AreNumbers, AreLabels, KeepsOthers, edge_to, half_of, joint_of, IsFrontOf, LeadsTo, LeadsIfAny, AddsEdge, AddsHalves, IsJoint, HasEdges, AllDone};
 
 use crate::ends::Names;
 use crate::following::taker;
+use crate::grid::Grid;
+use crate::partners::Pairs;
 use crate::speeds::{has_one_tier, slowed_by, speed_at};
-use bt_grid::{Grid, Pairs};
 use bt_model::is_kind;
 use bt_net::{Edge, MOST_OF_EACH, Start, Target};
 use bt_parts::{Cell, Kind, cells_of, front};

@@ -3,14 +3,15 @@
 //! Each list is made in the order of the parts first; the ends are then sorted by cell, with the part
 //! beside its cell as the key, so that the sort alone takes more than one step a part.
 ghost use Rattle.std.specs.Prelude.{◌≡◌, ◌++◌, ◌∷◌, [], if◌then◌else◌, OnOk, ◌↔◌, ℕ, ◌<◌, length, IsTrue, IfOk, All, AllPairs, IsPermutation, map};
-ghost use Rattle.bt_grid.specs.Pairing.{ArePartners};
+ghost use Rattle.bt_recover.specs.Pairing.{ArePartners};
 ghost use Rattle.bt_model.specs.Chains.{IsSplitter, IsInput, IsOutput};
 ghost use Rattle.bt_model.specs.Shown.{IsPlacedBefore};
 ghost use Rattle.bt_recover.specs.inner.Edges.{naming_of, AreNames, HasMany};
 ghost use Rattle.bt_recover.specs.inner.Ends.{AreListed, AreKeyed};
 
 use crate::following::giver;
-use bt_grid::{Grid, Pairs};
+use crate::grid::Grid;
+use crate::partners::Pairs;
 use bt_model::is_kind;
 use bt_net::MOST_OF_EACH;
 use bt_parts::{Cell, Kind, Part, front};

@@ -5,15 +5,16 @@
 ghost use Rattle.std.specs.Prelude.{◌≡◌, ◌≢◌, ◌↔◌, ℕ, ◌<◌, length, IsTrue, MatchOption, IfSome};
 ghost use Rattle.bt_parts.specs.Cells.{IsInRange, opposite};
 ghost use Rattle.bt_parts.specs.Layouts.{HasPart, IsAt, IsWellPlaced};
-ghost use Rattle.bt_grid.specs.Pairing.{ArePartners};
+ghost use Rattle.bt_recover.specs.Pairing.{ArePartners};
 ghost use Rattle.bt_model.specs.Handing.{Hands};
 ghost use Rattle.bt_model.specs.Chains.{IsLink, LinksTo, IsOutput};
 ghost use Rattle.bt_model.specs.Orderly.{IsOrderly};
 ghost use Rattle.bt_model.specs.inner.Sight.{IsBeltFeeder};
 ghost use Rattle.bt_recover.specs.inner.Told.{TellsOne};
 
+use crate::grid::Grid;
+use crate::partners::Pairs;
 use crate::sight::{left, looker};
-use bt_grid::{Grid, Pairs};
 use bt_model::is_kind;
 use bt_parts::{Kind, Part, front};
 

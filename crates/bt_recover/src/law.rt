@@ -1,6 +1,6 @@
 //! What follows from the definition of the network that a layout with priorities shows.
 ghost use Rattle.std.specs.Prelude.{◌≡◌, ℕ, List, Result};
-ghost use Rattle.bt_hands.specs.declared.hand.Priority.{Priority};
+ghost use Rattle.bt_parts.specs.declared.hand.Priority.{Priority};
 ghost use Rattle.bt_parts.specs.declared.part.Part.{Part};
 ghost use Rattle.bt_net.specs.Network.{Network};
 ghost use Rattle.bt_model.specs.Shown.{Naming};

@@ -3,7 +3,7 @@
 //! Each part is marked once, so that this takes no more steps than there are parts, also where a
 //! layout has many chains.
 ghost use Rattle.std.specs.Prelude.{◌≡◌, ◌≢◌, ◌↔◌, ◌⊎◌, ℕ, ◌<◌, length, IsTrue, IfOk, MatchOption};
-ghost use Rattle.bt_grid.specs.Pairing.{ArePartners};
+ghost use Rattle.bt_recover.specs.Pairing.{ArePartners};
 ghost use Rattle.bt_model.specs.Chains.{IsLink, LinksTo};
 ghost use Rattle.bt_model.specs.Clean.{IsOnRing};
 ghost use Rattle.bt_model.specs.Orderly.{IsOrderly};
@@ -11,7 +11,8 @@ ghost use Rattle.bt_recover.specs.inner.Marks.{IsMarked, AreMarks, Keeps, IsUnma
 ghost use Rattle.bt_recover.specs.inner.Told.{TellsFirst};
 
 use crate::following::{link_after, link_before};
-use bt_grid::{Grid, Pairs};
+use crate::grid::Grid;
+use crate::partners::Pairs;
 use bt_model::is_kind;
 use bt_parts::Kind;
 use std::alloc::{AllocError, Global};

@@ -8,10 +8,9 @@ ghost use Rattle.bt_recover.specs.inner.Edges.{IsJoint};
 ghost use Rattle.bt_recover.specs.inner.Found.{TellsPreferred};
 
 use crate::edges::Joint;
-use bt_grid::Grid;
-use bt_hands::{Hand, Priority, is_preferred};
+use crate::grid::Grid;
 use bt_net::{Start, Target};
-use bt_parts::Cell;
+use bt_parts::{Cell, Hand, Priority, is_preferred};
 use std::alloc::{AllocError, Global};
 
 /// The priority of the part with this index: none, where there are fewer priorities.

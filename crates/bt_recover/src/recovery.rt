@@ -1,7 +1,7 @@
 //! The network of a layout: refuse what isn't clean, number the ends and the splitters, and follow
 //! each chain to its end.
 ghost use Rattle.std.specs.Prelude.{◌≡◌};
-ghost use Rattle.bt_answers.specs.Answers.{Answers, UnlessMemory, seen};
+ghost use Rattle.bt_text.specs.Answers.{Answers, UnlessMemory, seen};
 ghost use Rattle.bt_net.specs.Network.{IsWired};
 ghost use Rattle.bt_recover.specs.declared.fault.RecoverFault.TheVariants.{Memory};
 ghost use Rattle.bt_recover.specs.Recovered.{IsRecovered, network_and_naming};
@@ -14,10 +14,10 @@ use crate::clean::clean_pairs;
 use crate::edges::{Joint, edges_in, joints_of};
 use crate::ends::{Names, has_many, names_of};
 use crate::fault::RecoverFault;
+use crate::grid::Grid;
 use crate::preferring::{gives_of, takes_of};
-use bt_grid::Grid;
-use bt_hands::Priority;
 use bt_net::{Edge, Net, NetFault};
+use bt_parts::Priority;
 use std::alloc::Global;
 
 /// A network that was recovered from a layout, with the parts that its numbers name.

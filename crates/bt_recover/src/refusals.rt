@@ -9,8 +9,8 @@ ghost use Rattle.bt_model.specs.Handing.{BlocksFrom};
 ghost use Rattle.bt_model.specs.Clean.{IsSideLoaded, IsHalfBlocked, IsBlocked};
 ghost use Rattle.bt_recover.specs.inner.Told.{TellsFirst};
 
+use crate::grid::Grid;
 use crate::sight::{is_seen_aside, is_seen_twice};
-use bt_grid::Grid;
 use bt_model::is_kind;
 use bt_parts::{Cell, Kind, Side, cells_of, front, side};
 

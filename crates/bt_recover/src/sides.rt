@@ -1,7 +1,7 @@
 //! The sides of a layout at which its ends stand.
 ghost use Rattle.std.specs.Prelude.{◌≡◌, ◌↔◌, ◌<◌, ◌≤◌, ◌++◌, All, IfOk, IsTrue, Ok, OnOk, length, vec_items};
 ghost use Rattle.std.specs.Option.{option_to_list};
-ghost use Rattle.bt_answers.specs.Answers.{Answers, seen};
+ghost use Rattle.bt_text.specs.Answers.{Answers, seen};
 ghost use Rattle.bt_parts.specs.Cells.{IsInRange};
 ghost use Rattle.bt_parts.specs.Layouts.{AreInRange};
 ghost use Rattle.bt_model.specs.Laying.{way_across};
@@ -11,8 +11,8 @@ ghost use Rattle.bt_recover.specs.Sides.{AreEndSides, AreStays, IsAtSideOf, IsFa
 ghost use Rattle.bt_recover.specs.inner.Staying.{AddsStays, end_of};
 
 use crate::fault::RecoverFault;
+use crate::grid::Grid;
 use crate::recovery::{Traced, recover};
-use bt_grid::Grid;
 use bt_net::{Demand, End, Ends, MOST_OF_EACH, Side};
 use bt_parts::{Cell, Dir, Part, cells_of};
 use std::alloc::{AllocError, Global};

@@ -5,7 +5,7 @@ ghost use Rattle.bt_parts.specs.Layouts.{HasPart, IsAt};
 ghost use Rattle.bt_model.specs.inner.Sight.{left, LooksToward, IsSeen, IsSeenAside, IsSeenOnBoth, IsSeenTwice};
 ghost use Rattle.bt_recover.specs.inner.Told.{TellsOne};
 
-use bt_grid::Grid;
+use crate::grid::Grid;
 use bt_parts::{Cell, Dir, Kind, Part};
 
 /// The direction to the left of this one.

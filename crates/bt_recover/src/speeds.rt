@@ -3,7 +3,7 @@ ghost use Rattle.std.specs.Prelude.{◌≡◌, ◌↔◌, ℕ, ◌<◌, length, 
 ghost use Rattle.bt_model.specs.Speeds.{HasSpeed, HasOneTier};
 ghost use Rattle.bt_recover.specs.inner.Speeds.{IsSlowedBy};
 
-use bt_grid::Grid;
+use crate::grid::Grid;
 use bt_parts::{Part, Tier};
 
 /// Whether the part is of the tier.

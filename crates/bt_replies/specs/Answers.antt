@@ -22,7 +22,7 @@ use Rattle.bt_grids.specs.SmallestText.{small_text, smallest_text}
 pub use Rattle.bt_grids.specs.SmallestText.{none_word, nowhere_text}
 use Rattle.bt_print.specs.Legends.{flow_formula_text, place_formula_text}
 use Rattle.bt_print.specs.TraceText.{pivots_text, wide_text}
-use Rattle.bt_write.specs.Written.{blueprint_text}
+use Rattle.bt_entities.specs.Written.{blueprint_text}
 use Rattle.bt_words.specs.declared.command.NetworkFamily.{NetworkFamily}
 use Rattle.bt_words.specs.declared.command.NetworkFamily.TheVariants.{Butterfly, Chain}
 use Rattle.bt_words.specs.declared.command.BuiltText.{BuiltText}
@@ -123,20 +123,20 @@ made_text made =
     ++ line (codes "outputs " ++ decimal made.outputs) ++ line (balance_word made.balanced ++ codes " balanced")
 
 -- the lines of definitions, and the steps of a log
-abbrev pub steps_text : List Definition → List Step → List ℕ
-steps_text definitions steps = definitions_text definitions ++ log_text steps
+abbrev pub extended_log_text : List Definition → List Step → List ℕ
+extended_log_text definitions steps = definitions_text definitions ++ log_text steps
 
 -- the yes certificate for a property: `yes` and its name, the definitions, and the steps of the log
 abbrev pub proved_text : Property → List Definition → List Step → List ℕ
-proved_text p definitions steps = line (codes "yes " ++ property_name p) ++ steps_text definitions steps
+proved_text p definitions steps = line (codes "yes " ++ property_name p) ++ extended_log_text definitions steps
 
 -- the certificate that two networks behave the same: `same`, the definitions, and the steps of the log
 abbrev pub same_text : List Definition → List Step → List ℕ
-same_text definitions steps = line (codes "same") ++ steps_text definitions steps
+same_text definitions steps = line (codes "same") ++ extended_log_text definitions steps
 
 -- the text of a log that is used up: `spent` and the number of its steps, the definitions, and the steps
 abbrev pub spent_text : List Definition → List Step → List ℕ
-spent_text definitions steps = line (codes "spent " ++ decimal (length steps)) ++ steps_text definitions steps
+spent_text definitions steps = line (codes "spent " ++ decimal (length steps)) ++ extended_log_text definitions steps
 
 -- the text where a search was given up
 abbrev pub gave_up_text : List Definition → gave.GaveUp → List ℕ

@@ -4,7 +4,7 @@ use Rattle.bt_net.specs.NetText.{line}
 use Rattle.bt_grids.specs.SmallestText.{blueprint_of, blueprint_of_small}
 use Rattle.bt_replies.specs.declared.answer.Answer.{Answer}
 use Rattle.bt_replies.specs.declared.answer.Answer.TheVariants.{Brief, LaidOut, Least, Small}
-use Rattle.bt_write.specs.Written.{blueprint_text}
+use Rattle.bt_entities.specs.Written.{blueprint_text}
 use Rattle.bt_replies.specs.Answers.{brief_text}
 use Rattle.bt_replies.specs.declared.text.Detail.{Detail}
 use Rattle.bt_replies.specs.declared.text.Detail.TheVariants.{Nothing, Name, Number, Numbers, ThreeNumbers, NameAndNumber, NamesAndNumber, NumberAndName}

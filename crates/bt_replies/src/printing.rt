@@ -2,7 +2,7 @@
 ghost use Rattle.bt_io.specs.Bytes.{WritesText};
 ghost use Rattle.bt_io.specs.Passages.{passage};
 ghost use Rattle.std.specs.Prelude.{◌≡◌};
-ghost use Rattle.bt_replies.specs.Answers.{balance_word, built_text, family_name, gave_up_text, made_text, proved_text, same_text, spent_text, steps_text, text_of};
+ghost use Rattle.bt_replies.specs.Answers.{balance_word, built_text, family_name, gave_up_text, made_text, proved_text, same_text, spent_text, extended_log_text, text_of};
 ghost use Rattle.bt_replies.specs.Lines.{formed_text};
 
 use crate::answer::Answer;
@@ -62,17 +62,17 @@ fn print_proof<K: Sink>(
         (proved_text property definitions.now log.now.steps) result }
 {
     write_pieces(sink, &[b"yes ", property.name().as_bytes(), b"\n"])?;
-    print_steps(definitions, log, sink)
+    print_extended_log(definitions, log, sink)
 }
 
 /// Writes the lines of definitions, and the steps of a log.
-fn print_steps<K: Sink>(
+fn print_extended_log<K: Sink>(
     definitions: &[Definition],
     log: &Log,
     sink: &mut K,
 ) -> Result<(), WriteFault>
     ensures { WritesText (passage K.held K.faults sink.old sink.new)
-        (steps_text definitions.now log.now.steps) result }
+        (extended_log_text definitions.now log.now.steps) result }
 {
     print_definitions(definitions, sink)?;
     log.print(sink)
@@ -88,7 +88,7 @@ fn print_same<K: Sink>(
         (same_text definitions.now log.now.steps) result }
 {
     write_all_of(sink, b"same\n")?;
-    print_steps(definitions, log, sink)
+    print_extended_log(definitions, log, sink)
 }
 
 /// Writes why a search was given up.
@@ -121,7 +121,7 @@ fn print_spent<K: Sink>(
         sink,
         &[b"spent ", steps.format(log.len()).as_bytes(), b"\n"],
     )?;
-    print_steps(definitions, log, sink)
+    print_extended_log(definitions, log, sink)
 }
 
 /// Writes the lines of a network that was made.

@@ -47,41 +47,41 @@ fn push_detail(text: &mut Vec<u8>, detail: Detail) -> Result<(), AllocError>
 {
     match detail {
         Detail::Nothing => Ok(()),
-        Detail::Name(name) => push_name(text, name),
-        Detail::Number(number) => push_number(text, number),
+        Detail::Name(name) => push_spaced_name(text, name),
+        Detail::Number(number) => push_spaced_number(text, number),
         Detail::Numbers(first, second) => {
-            push_number(text, first)?;
-            push_number(text, second)
+            push_spaced_number(text, first)?;
+            push_spaced_number(text, second)
         }
         Detail::ThreeNumbers(first, second, third) => {
-            push_number(text, first)?;
-            push_number(text, second)?;
-            push_number(text, third)
+            push_spaced_number(text, first)?;
+            push_spaced_number(text, second)?;
+            push_spaced_number(text, third)
         }
         Detail::NameAndNumber(name, number) => {
-            push_name(text, name)?;
-            push_number(text, number)
+            push_spaced_name(text, name)?;
+            push_spaced_number(text, number)
         }
         Detail::NamesAndNumber(first, second, number) => {
-            push_name(text, first)?;
-            push_name(text, second)?;
-            push_number(text, number)
+            push_spaced_name(text, first)?;
+            push_spaced_name(text, second)?;
+            push_spaced_number(text, number)
         }
         Detail::NumberAndName(number, name) => {
-            push_number(text, number)?;
-            push_name(text, name)
+            push_spaced_number(text, number)?;
+            push_spaced_name(text, name)
         }
     }
 }
 
-fn push_name(text: &mut Vec<u8>, name: &str) -> Result<(), AllocError>
+fn push_spaced_name(text: &mut Vec<u8>, name: &str) -> Result<(), AllocError>
     ensures { OnOk result (text.new.items ≡ text.old.items ++ (codes " " ++ name.now)) }
 {
     text.push(b' ')?;
     text.extend_from_slice(name.as_bytes())
 }
 
-fn push_number(text: &mut Vec<u8>, number: usize) -> Result<(), AllocError>
+fn push_spaced_number(text: &mut Vec<u8>, number: usize) -> Result<(), AllocError>
     ensures { OnOk result (text.new.items ≡ text.old.items ++ (codes " " ++ decimal number)) }
 {
     let mut buffer = Buffer::new();
@@ -96,7 +96,7 @@ pub fn formed_of(alloc: Global, answer: &Answer) -> Result<Vec<u8>, AllocError>
 {
     match answer {
         Answer::Brief(brief) => text_of(alloc, &line_of(*brief)),
-        Answer::LaidOut(parts, priorities) => bt_write::text_of(alloc, parts, priorities),
+        Answer::LaidOut(parts, priorities) => bt_entities::text_of(alloc, parts, priorities),
         Answer::Least(_, found, priorities) => { bt_grids::blueprint_of(alloc, found, priorities) }
         Answer::Small(found, priorities) => {
             bt_grids::blueprint_of_small(alloc, found, priorities)

@@ -42,7 +42,7 @@ use Rattle.bt_rules.proofs.StandingStay.{HasSaid, splitter_number, split_on}
 -- ---- the lists of classes
 
 -- a class of edges from inputs is none of a splitter
-pub no_split : (r : LayoutRequest) (s : ℕ) → In (input_classes r) (Split s) → ⊥
+no_split : (r : LayoutRequest) (s : ℕ) → In (input_classes r) (Split s) → ⊥
 no_split r s h =
     ⊎_elim
     (λ shared. let found = from_shared (splitters_of r) (Split s) shared in let e = found.2 in cc)

@@ -27,12 +27,12 @@ join parts i j last xs ys (more k m e rest link hands path) way =
     (k ∷ joined.0, more k m last joined.0 link hands joined.1, λ l h. contains_more k joined.0 l (joined.2 l h))
 
 -- a path has its first part
-pub has_first : (parts : List Part) (i last : ℕ) (links : List ℕ) → Path parts i last links → Contains links i
+has_first : (parts : List Part) (i last : ℕ) (links : List ℕ) → Path parts i last links → Contains links i
 has_first parts i last links (one j link) = contains_head j []
 has_first parts i last links (more j m e rest link hands path) = contains_head j rest
 
 -- and its last
-pub has_last : (parts : List Part) (i last : ℕ) (links : List ℕ) → Path parts i last links → Contains links last
+has_last : (parts : List Part) (i last : ℕ) (links : List ℕ) → Path parts i last links → Contains links last
 has_last parts i last links (one j link) = contains_head j []
 has_last parts i last links (more j m e rest link hands path) = contains_more j rest last (has_last parts m last rest path)
 
@@ -156,13 +156,6 @@ module _ (parts : List Part) (clean : IsClean parts) where
       (λ next. subst (Contains c.links) (one_handed parts clean.well_placed i next.0 j next.1.0 next.1.2 hands) next.2)
       (λ end. absurd (h.none_after j link (subst (λ k. Hands parts k j) (sym end) hands)))
       (followed c h i there)
-
-  -- and comes from the link that hands
-  pub comes_on : (c : Chain) (i j : ℕ) → IsChain parts c → Contains c.links j → IsLink parts i → Hands parts i j → Contains c.links i
-  comes_on c i j is there link hands =
-      let through = chain_through i link in
-      let same : through.0 ≡ c = one_chain through.0 c j through.1 is (goes_on through.0 i j through.1 through.2 hands (contained_link c j is there)) there in
-      subst (λ d. Contains d.links i) same through.2
 
   -- a chain with a link that hands to a splitter ends there, with that link
   pub ends_into : (c : Chain) (i s : ℕ) → IsChain parts c → Contains c.links i → Hands parts i s → IsSplitter parts s

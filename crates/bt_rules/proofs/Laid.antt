@@ -11,7 +11,6 @@ use Rattle.bt_parts.specs.Cells.{Covers, IsInside}
 use Rattle.bt_parts.specs.Layouts.{HasPart, IsAt, IsWellPlaced}
 use Rattle.bt_parts.proofs.Places.{same_part, one_there}
 use Rattle.bt_model.specs.Chains.{IsSplitter}
-use Rattle.bt_model.specs.Clean.{IsClean}
 use Rattle.bt_model.specs.Laying.{Lays}
 use Rattle.bt_model.specs.Requests.{LayoutRequest}
 use Rattle.bt_model.specs.Orderly.{IsOrderly}
@@ -57,10 +56,6 @@ pub from_inside : {X : Type 0} (rect : Rect) (c : Cell) (xs : List X) (x : X) �
 from_inside rect c xs x h =
     ⊎_elim (λ i. (i.0, subst (λ b. In (cond b xs []) x) i.1 h)) (λ o. absurd (subst (λ b. In (cond b xs []) x) o.1 h)) (inside_cases rect c)
 
-pub in_outside : {X : Type 0} (rect : Rect) (c : Cell) (xs : List X) (x : X) → (IsInside rect c → ⊥) → In xs x → In (where_outside rect c xs) x
-in_outside rect c xs x out h =
-    ⊎_elim (λ i. absurd (out i.0)) (λ o. subst (λ b. In (cond b [] xs) x) (sym o.1) h) (inside_cases rect c)
-
 -- ---- shapes
 
 -- the shape of a part on a cell that it covers
@@ -78,7 +73,7 @@ shape_on part c covers = by part.kind refl covers
     by kind.Splitter e (inr greater) = (shape.Half Greater, e, greater.1)
 
 -- the shape of a splitter is a half
-pub half_shape : (of : Shape) → kind_of of ≡ kind.Splitter → (half : Half) × (of ≡ shape.Half half)
+half_shape : (of : Shape) → kind_of of ≡ kind.Splitter → (half : Half) × (of ≡ shape.Half half)
 half_shape shape.Belt e = absurd (cc)
 half_shape shape.Entrance e = absurd (cc)
 half_shape shape.Exit e = absurd (cc)
@@ -104,9 +99,6 @@ module _ (r : LayoutRequest) (parts : List Part) (lays : Lays parts r) where
   -- what the layout says of a fact
   abbrev pub Said : Fact → Type 0
   Said = Says parts lays.naming r.net.edges r.demands match_of r.rect
-
-  pub clean_of : IsClean parts
-  clean_of = lays.shows.clean
 
   pub is_orderly : IsOrderly parts
   is_orderly = orderly_of parts lays.shows.clean

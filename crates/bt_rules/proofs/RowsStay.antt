@@ -27,14 +27,14 @@ use Rattle.bt_rules.proofs.PinningStay.{ends_said}
 use Rattle.bt_rules.proofs.Reading.{line_kind, named_count}
 
 -- the row of a kind that runs this way
-pub line_for : (kind : EndKind) (dir : Dir) → (dir ≡ East) ⊎ (dir ≡ South) → (l : Line) × In (lines_of kind) l × (way_of l ≡ dir)
+line_for : (kind : EndKind) (dir : Dir) → (dir ≡ East) ⊎ (dir ≡ South) → (l : Line) × In (lines_of kind) l × (way_of l ≡ dir)
 line_for Inputs dir (inl e) = (line.InputsEast, inl refl, sym e)
 line_for Inputs dir (inr e) = (line.InputsSouth, inr (inl refl), sym e)
 line_for Outputs dir (inl e) = (line.OutputsEast, inl refl, sym e)
 line_for Outputs dir (inr e) = (line.OutputsSouth, inr (inl refl), sym e)
 
 -- the rows of a kind are of its ends
-pub kind_of_line : (kind : EndKind) (l : Line) → In (lines_of kind) l → line_kind l ≡ kind
+kind_of_line : (kind : EndKind) (l : Line) → In (lines_of kind) l → line_kind l ≡ kind
 kind_of_line Inputs l (inl e) = ap line_kind e
 kind_of_line Inputs l (inr (inl e)) = ap line_kind e
 kind_of_line Inputs l (inr (inr none)) = absurd none

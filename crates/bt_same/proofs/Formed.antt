@@ -9,7 +9,7 @@ use Rattle.bt_frac.specs.Rows.{RowParts, IsRow, columns_of}
 use Rattle.bt_cnf.specs.declared.literal.Lit.{Lit}
 use Rattle.bt_cnf.specs.Formulas.{LitsBelow, AscendBelow, IsFormula}
 use Rattle.bt_net.specs.Network.{Network, IsNetwork}
-use Rattle.bt_fenc.specs.Columns.{output_edge}
+use Rattle.bt_flow.specs.EndEdges.{output_edge}
 use Rattle.bt_fenc.specs.Numbering.{mentioned, rows_in, atoms_from}
 use Rattle.bt_fenc.specs.Properties.{differ}
 use Rattle.bt_fenc.specs.FlowFormula.{steady_clauses, steady_formula}

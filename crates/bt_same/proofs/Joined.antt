@@ -1,5 +1,5 @@
 -- What adding the rows and clauses of one network after another makes of a formula.
-use Rattle.std.proofs.Common.{◌≡◌, ℕ, ◌<◌, ◌≤◌, ◌+◌, true, List, [], ◌∷◌, ◌++◌, length, map, take, get_or, ap, sym, ◌∙◌, refl, arith, append-nil, append_assoc, length-append}
+use Rattle.std.proofs.Common.{◌≡◌, ℕ, ◌<◌, ◌≤◌, ◌+◌, true, List, [], ◌∷◌, ◌++◌, length, map, take, get_or, ap, sym, ◌∙◌, refl, arith, append_assoc, length-append}
 use Rattle.std.specs.List.{AllByRecursion, flat_map, range_with_len}
 use Rattle.std.proofs.lemmas.List.{length-map}
 use Rattle.bt_frac.specs.Rows.{RowParts}
@@ -22,13 +22,7 @@ parts v cs xs = record { vars = v; clauses = cs; atoms = xs }
 pub same_parts : (v w : ℕ) (cs ds : List (List Lit)) (xs ys : List (ℕ × RowParts)) → v ≡ w → cs ≡ ds → xs ≡ ys → parts v cs xs ≡ parts w ds ys
 same_parts v w cs ds xs ys p q r = ap (λ n. parts n cs xs) p ∙ ap (λ l. parts w l xs) q ∙ ap (λ l. parts w ds l) r
 
-pub rows_none : (f : FormulaParts) → f ≡ with_rows f []
-rows_none f = same_parts f.vars (f.vars + length {A = RowParts} []) f.clauses f.clauses f.atoms (f.atoms ++ []) (omega arith) refl (sym (append-nil f.atoms))
-
-pub lits_none : (f : FormulaParts) → f ≡ with_lits f []
-lits_none f = same_parts f.vars f.vars f.clauses (f.clauses ++ []) f.atoms f.atoms refl (sym (append-nil f.clauses)) refl
-
-pub rows_then : (f : FormulaParts) (xs ys : List RowParts) → with_rows (with_rows f xs) ys ≡ with_rows f (xs ++ ys)
+rows_then : (f : FormulaParts) (xs ys : List RowParts) → with_rows (with_rows f xs) ys ≡ with_rows f (xs ++ ys)
 rows_then f xs ys =
     let long = length-append xs ys in
     let next : ℕ = f.vars + length xs in
@@ -40,7 +34,7 @@ pub rows_more : (old now new : FormulaParts) (before more after : List RowParts)
 rows_more old now new before more after e h same = h ∙ ap (λ f. with_rows f more) e ∙ rows_then old before more ∙ ap (with_rows old) same
 
 -- one row after rows
-pub atom_more : (old now new : FormulaParts) (before after : List RowParts) (row : RowParts) → now ≡ with_rows old before
+atom_more : (old now new : FormulaParts) (before after : List RowParts) (row : RowParts) → now ≡ with_rows old before
     → new ≡ record now { vars = now.vars + 1; atoms = now.atoms ++ (now.vars, row) ∷ [] } → before ++ row ∷ [] ≡ after → new ≡ with_rows old after
 atom_more old now new before after row e h same =
     rows_more old now new before (row ∷ []) after e
@@ -58,7 +52,7 @@ taken_row columns rows items old now new i row moved same l is put e h =
     (mapped_more (moved_row columns) rows [] before (before ++ moved ∷ []) i row (omega (arith, l, long)) refl (ap (λ r. before ++ r ∷ []) (put ∙ ap (moved_row columns) there)))
 
 -- a clause after clauses
-pub lits_more : (old now new : FormulaParts) (before after : List (List Lit)) (lits : List Lit) → now ≡ with_lits old before → new ≡ record now { clauses = now.clauses ++ lits ∷ [] }
+lits_more : (old now new : FormulaParts) (before after : List (List Lit)) (lits : List Lit) → now ≡ with_lits old before → new ≡ record now { clauses = now.clauses ++ lits ∷ [] }
     → before ++ lits ∷ [] ≡ after → new ≡ with_lits old after
 lits_more old now new before after lits e h same =
     h ∙ ap {A = FormulaParts} {B = FormulaParts} (λ f. record f { clauses = f.clauses ++ lits ∷ [] }) e
@@ -73,7 +67,7 @@ taken_clause vars clauses old now new i clause moved lits l is put same e h =
     (mapped_more (moved_lits vars) clauses [] before (before ++ lits ∷ []) i clause l refl (ap {A = List Lit} {B = List (List Lit)} (λ x. before ++ x ∷ []) (same ∙ put ∙ ap (moved_lits vars) (sym is))))
 
 -- literals that say that rows hold
-pub hold-append : (next : ℕ) (xs ys : List RowParts) → hold_from next (xs ++ ys) ≡ hold_from next xs ++ hold_from (next + length xs) ys
+hold-append : (next : ℕ) (xs ys : List RowParts) → hold_from next (xs ++ ys) ≡ hold_from next xs ++ hold_from (next + length xs) ys
 hold-append next [] ys = ap (λ k. hold_from k ys) (let z : next ≡ next + length {A = RowParts} [] = omega arith in z)
 hold-append next (x ∷ xs) ys =
     ap {A = List Lit} {B = List Lit} (λ l. record { var = next; positive = true } ∷ l)

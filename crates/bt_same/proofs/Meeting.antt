@@ -10,7 +10,7 @@ use Rattle.bt_net.specs.Network.{Network, IsNetwork}
 use Rattle.bt_flow.specs.States.{Flows, flow_at, load_at, room_at}
 use Rattle.bt_cnf.specs.declared.literal.Lit.{Lit}
 use Rattle.bt_cnf.specs.Meeting.{MeetsClause, Meets}
-use Rattle.bt_fenc.specs.Columns.{output_edge, load_column, room_column}
+use Rattle.bt_flow.specs.EndEdges.{output_edge, load_column, room_column}
 use Rattle.bt_fenc.specs.Properties.{differ}
 use Rattle.bt_fenc.specs.Laws.{HasTrue}
 use Rattle.bt_fenc.specs.FlowFormula.{steady_formula}

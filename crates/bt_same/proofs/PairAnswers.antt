@@ -1,7 +1,7 @@
 -- What reading a pair answers, from what is read of its lines.
 use Rattle.std.proofs.Common.{◌≡◌, ℕ, List, [], ◌∷◌, ◌++◌, length, map, Bool, refl, sym, ◌∙◌, ap, subst, codes, Ok, Err}
-use Rattle.bt_answers.specs.Answers.{Answers}
-use Rattle.bt_answers.proofs.OneAnswer.{answers_of}
+use Rattle.bt_text.specs.Answers.{Answers}
+use Rattle.bt_text.proofs.OneAnswer.{answers_of}
 use Rattle.std.specs.Bool.{⊤}
 use Rattle.bt_frac.specs.Ratio.{Ratio, IsLowest}
 use Rattle.bt_frac.specs.Texts.{frac_text}

@@ -10,7 +10,7 @@ use Rattle.bt_frac.proofs.Over.{common_denominator, are_over_split}
 use Rattle.bt_frac.proofs.Euclid.{over_unique}
 use Rattle.bt_net.specs.Network.{Network, IsNetwork}
 use Rattle.bt_flow.specs.States.{Flows, Fractions, AreLowest, StandsFor, Fits, flow_at}
-use Rattle.bt_fenc.specs.Columns.{output_edge}
+use Rattle.bt_flow.specs.EndEdges.{output_edge}
 use Rattle.bt_fenc.proofs.Numbers.{all_to}
 use Rattle.bt_fenc.proofs.NetEdges.{output_is, edge_of_output}
 use Rattle.bt_same.specs.Sameness.{HaveEqualEnds, AreFedAlike, GiveAlike}

@@ -12,7 +12,7 @@ use Rattle.bt_flow.specs.States.{Flows, flow_at, backed_at}
 use Rattle.bt_cnf.specs.declared.literal.Lit.{Lit}
 use Rattle.bt_cnf.specs.Formulas.{LitsBelow}
 use Rattle.bt_cnf.specs.Meeting.{MeetsClause, Meets}
-use Rattle.bt_fenc.specs.Columns.{output_edge}
+use Rattle.bt_flow.specs.EndEdges.{output_edge}
 use Rattle.bt_fenc.specs.Properties.{differ}
 use Rattle.bt_fenc.specs.Laws.{IsMetWith, HasTrue, values_of}
 use Rattle.bt_fenc.specs.FlowFormula.{steady_clauses, steady_formula, variable_of}

@@ -7,7 +7,7 @@ use Rattle.bt_cnf.specs.Formulas.{FormulaParts}
 use Rattle.bt_net.specs.Network.{Network}
 use Rattle.bt_fenc.specs.declared.state_literal.Pair.{Pair}
 use Rattle.bt_fenc.specs.declared.state_literal.StateLiteral.{StateLiteral}
-use Rattle.bt_fenc.specs.Columns.{output_edge}
+use Rattle.bt_flow.specs.EndEdges.{output_edge}
 use Rattle.bt_fenc.specs.Properties.{differ}
 use Rattle.bt_fenc.specs.Numbering.{mentioned, rows_in, literals_from, atoms_from, IsNamed, AreNamed}
 use Rattle.bt_fenc.specs.FlowFormula.{steady_formula}

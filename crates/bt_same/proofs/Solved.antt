@@ -7,7 +7,7 @@ use Rattle.bt_frac.specs.Values.{AreValues, value_in, nothing}
 use Rattle.bt_net.specs.Network.{Network, IsNetwork}
 use Rattle.bt_flow.specs.States.{Flows, Fractions, AreLowest, Fits, StandsFor}
 use Rattle.bt_cnf.specs.Assignments.{truth_in}
-use Rattle.bt_fenc.specs.Columns.{load_column, room_column}
+use Rattle.bt_flow.specs.EndEdges.{load_column, room_column}
 use Rattle.bt_fenc.specs.Solutions.{HasValues, state_at}
 use Rattle.bt_fenc.proofs.Numbers.{all_to}
 use Rattle.bt_fenc.proofs.States.{fits, has_values}

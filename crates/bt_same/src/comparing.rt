@@ -6,8 +6,7 @@ ghost use Rattle.bt_flow.specs.States.{AreLowest};
 ghost use Rattle.bt_same.specs.Pairs.{AreAlike};
 ghost use Rattle.bt_same.specs.inner.Comparing.{OutputsAlike};
 
-use bt_fenc::output_edge;
-use bt_flow::{Ports, State};
+use bt_flow::{Ports, State, output_edge};
 use bt_frac::Frac;
 use bt_net::Net;
 use std::cmp::Ordering;

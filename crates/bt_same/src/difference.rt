@@ -4,8 +4,8 @@ ghost use Rattle.bt_fenc.specs.Columns as columns;
 ghost use Rattle.bt_same.specs.inner.Joining.{with_rows, with_lits, hold_from, difference_rows};
 
 use bt_cnf::{Formula, Lit};
-use bt_fenc::{above, output_edge};
-use bt_flow::Ports;
+use bt_fenc::above;
+use bt_flow::{Ports, output_edge};
 use bt_net::Net;
 use std::alloc::{AllocError, Global};
 

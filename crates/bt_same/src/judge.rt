@@ -1,6 +1,6 @@
 //! Whether a pair of states shows that two networks differ.
 ghost use Rattle.std.specs.Prelude.{◌≡◌, IfOk, IfErr, Ok, Err};
-ghost use Rattle.bt_answers.specs.Answers.{AnswersAlways};
+ghost use Rattle.bt_text.specs.Answers.{AnswersAlways};
 ghost use Rattle.bt_flow.specs.States.{Fits};
 ghost use Rattle.bt_same.specs.Sameness.{HaveEqualEnds};
 ghost use Rattle.bt_same.specs.Judging.{IsPairAnswer};

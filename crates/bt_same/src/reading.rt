@@ -1,6 +1,6 @@
 //! Reading a written pair of states, line by line, so that the first line that isn't right is named.
 ghost use Rattle.std.specs.Prelude.{◌≡◌, codes, IfOk, IfErr};
-ghost use Rattle.bt_answers.specs.Answers.{Answers};
+ghost use Rattle.bt_text.specs.Answers.{Answers};
 ghost use Rattle.bt_flow.specs.declared.fault.StateFault.TheVariants.{Memory};
 ghost use Rattle.bt_flow.specs.inner.Lines.{IsLineFault, IsTitled, StopsAtTitle};
 ghost use Rattle.bt_same.specs.Sameness.{HaveEqualEnds};

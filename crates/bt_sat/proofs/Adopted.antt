@@ -27,7 +27,7 @@ use Rattle.bt_watch.proofs.Longer.{with_assignment, numbered_kept, held_more, or
 pub clause_still : (all : List (List Lit)) (lits : List Lit) (n : ℕ) → n < length all → clause_at (all ++ lits ∷ []) n ≡ clause_at all n
 clause_still all lits n small = get_or_append_left all (lits ∷ []) [] n small
 
-pub reason_still : (all : List (List Lit)) (lits : List Lit) (before : List Lit) (l : Lit) (n : ℕ) → IsReason all before l n → IsReason (all ++ lits ∷ []) before l n
+reason_still : (all : List (List Lit)) (lits : List Lit) (before : List Lit) (l : Lit) (n : ℕ) → IsReason all before l n → IsReason (all ++ lits ∷ []) before l n
 reason_still all lits before l n reason =
     let same = clause_still all lits n reason.below in
     record {
@@ -53,7 +53,7 @@ numbered_still all lits s are = record {
 }
 
 -- the literals of the clause but the first are false before
-pub asserted_reason : (all : List (List Lit)) (s : Search) (lits : List Lit) → IsAsserting all s lits → IsReason (all ++ lits ∷ []) s.assignment.trail.items (lit_at lits 0) (length all)
+asserted_reason : (all : List (List Lit)) (s : Search) (lits : List Lit) → IsAsserting all s lits → IsReason (all ++ lits ∷ []) s.assignment.trail.items (lit_at lits 0) (length all)
 asserted_reason all s lits is =
     let T = s.assignment.trail.items in
     let here : clause_at (all ++ lits ∷ []) (length all) ≡ lits = get_or_push all lits [] (length all) refl in
@@ -70,7 +70,7 @@ asserted_reason all s lits is =
     }
 
 -- all is propagated still by the trail before
-pub propagated_longer : (s : Search) (a : Assignment) (l : Lit) (reason : Option ℕ) → IsWhole (with_assignment s a) → Assigns s.assignment a l reason → IsPropagatedTo (length s.assignment.trail.items) s
+propagated_longer : (s : Search) (a : Assignment) (l : Lit) (reason : Option ℕ) → IsWhole (with_assignment s a) → Assigns s.assignment a l reason → IsPropagatedTo (length s.assignment.trail.items) s
     → IsPropagatedTo (length s.assignment.trail.items) (with_assignment s a)
 propagated_longer s a l reason whole assigns is =
     let T = s.assignment.trail.items in
@@ -179,8 +179,6 @@ module _ (all : List (List Lit)) (s : Search) (lits : List Lit) (is : IsAssertin
 
   -- one of two or more
   module _ (mid : Search) (keeps : Keeps lits (length all) s mid) (many : 1 < length lits) where
-    assignment_is : mid.assignment ≡ s.assignment
-    assignment_is = keeps.assignment
 
     -- where a false literal of a front would leave the clause to propagate, there is none
     no_first : (front : List Lit) → ((m : Lit) → Contains front m → Contains s.assignment.trail.items m) → Contains front (opposite (first lits)) → ⊥

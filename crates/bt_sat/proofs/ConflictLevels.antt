@@ -4,7 +4,7 @@ use Rattle.std.specs.Prelude.{Contains}
 use Rattle.std.proofs.lemmas.List.{get_or_default}
 use Rattle.bt_watch.specs.declared.search.Search.{Search}
 use Rattle.bt_watch.specs.Levels.{start_of, IsLevelOf}
-use Rattle.bt_sat.specs.inner.Agendas.{IsGreatest, Reaches}
+use Rattle.bt_watch.specs.Agendas.{IsGreatest, Reaches}
 use Rattle.bt_sat.specs.inner.Analysing.{IsTopLevel, IsConflictLevel}
 use Rattle.bt_cnf.proofs.Lists.{lt_or, past}
 

@@ -13,7 +13,7 @@ use Rattle.bt_watch.specs.Watched.{no_lit}
 use Rattle.bt_watch.specs.Levels.{start_of, IsOrdered}
 use Rattle.bt_watch.specs.Reasons.{lit_at, IsReason}
 use Rattle.bt_sat.specs.declared.analysis.ConflictLevel.{ConflictLevel}
-use Rattle.bt_sat.specs.inner.Agendas.{IsGreatest}
+use Rattle.bt_watch.specs.Agendas.{IsGreatest}
 use Rattle.bt_sat.specs.inner.Analysing.{false_at, falses_at, IsSeen, MarksSeen, IsUnderway, IsDerived, IsLevelled, IsGrounded, IsTracing, IsTaken, IsTraced, MayTrace, IsLearnable}
 use Rattle.bt_cnf.proofs.Lists.{contains_here, contains_there, first_or, none_in, nat_or, lt_or_eq, all_of, lt_or}
 use Rattle.bt_watch.proofs.Backjumped.{apart_places}
@@ -25,16 +25,16 @@ pub nil_or : {X : Type 0} (xs : List X) → (xs ≡ []) ⊎ (0 < length xs)
 nil_or [] = inl refl
 nil_or (x ∷ xs) = inr (omega arith)
 
-pub no_length : {X : Type 0} (xs : List X) → 0 < length xs → xs ≡ [] → ⊥
+no_length : {X : Type 0} (xs : List X) → 0 < length xs → xs ≡ [] → ⊥
 no_length [] some e = omega (arith, some)
 no_length (x ∷ xs) some e = cc
 
 -- the last of a list comes first where it is reversed
-pub reverse_push : {X : Type 0} (xs : List X) (x : X) → reverse (xs ++ x ∷ []) ≡ x ∷ reverse xs
+reverse_push : {X : Type 0} (xs : List X) (x : X) → reverse (xs ++ x ∷ []) ≡ x ∷ reverse xs
 reverse_push xs x = reverse-append xs (x ∷ [])
 
 -- one more clause that is a unit
-pub units_more : (falses clause : List Lit) (l : Lit) (clauses : List (List Lit)) → IsUnit falses clause l → UnitsRefute (opposite l ∷ falses) clauses → UnitsRefute falses (clause ∷ clauses)
+units_more : (falses clause : List Lit) (l : Lit) (clauses : List (List Lit)) → IsUnit falses clause l → UnitsRefute (opposite l ∷ falses) clauses → UnitsRefute falses (clause ∷ clauses)
 units_more falses clause l [] unit rest = absurd rest
 units_more falses clause l (next ∷ more) unit rest = (l, unit, rest)
 

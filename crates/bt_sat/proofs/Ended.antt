@@ -19,14 +19,14 @@ use Rattle.bt_sat.specs.declared.kernel.Stage.{Stage}
 use Rattle.bt_sat.specs.declared.kernel.Stage.TheVariants.{Running, Complete, Refuted, Spent, Lost}
 use Rattle.bt_sat.specs.declared.logged_formula.LoggedFormula.{LoggedFormula}
 use Rattle.bt_sat.specs.declared.progress.Progress.{Progress}
-use Rattle.bt_sat.specs.declared.solver.Answer.{Answer}
-use Rattle.bt_sat.specs.declared.solver.Assumed.{Assumed}
+use Rattle.bt_sat.specs.declared.answer.Answer.{Answer}
+use Rattle.bt_sat.specs.declared.answer.Assumed.{Assumed}
 use Rattle.bt_sat.specs.inner.Choices.{IsComplete}
 use Rattle.bt_sat.specs.inner.Searching.{HasSpent, IsRefuted}
 use Rattle.bt_sat.specs.inner.Kernels.{AddsTo, AnswersBy, AssumesBy, Comes, MayGoOn, StandsAt, StandsBy, model_of, parts_of, stage_after, stage_assumed}
 use Rattle.bt_sat.specs.inner.Progressing.{IsLogged, IsNextStep}
-use Rattle.bt_sat.specs.declared.solver.Answer.TheVariants as answer
-use Rattle.bt_sat.specs.declared.solver.Assumed.TheVariants as assumed
+use Rattle.bt_sat.specs.declared.answer.Answer.TheVariants as answer
+use Rattle.bt_sat.specs.declared.answer.Assumed.TheVariants as assumed
 use Rattle.bt_cnf.proofs.Lists.{all_of}
 use Rattle.bt_sat.proofs.Counting.{fresh_steps_are_few}
 use Rattle.bt_sat.proofs.Logging.{fresh_push, valid_push}

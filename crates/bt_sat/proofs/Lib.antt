@@ -9,7 +9,6 @@ pub mod Deriving
 pub mod Ended
 pub mod Listed
 pub mod Logging
-pub mod Marks
 pub mod Modelled
 pub mod Open
 pub mod Picking

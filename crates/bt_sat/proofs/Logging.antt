@@ -65,7 +65,7 @@ logged_push old new limit step is logs next some room =
     (subst (λ x. IsLogged (record { formula = x; log = record { first = old.log.first; steps = old.log.steps ++ step ∷ [] } }) limit) (sym logs.formula) done)
 
 -- a clause that is asserted is fresh
-pub asserted_fresh : (all : List (List Lit)) (s : Search) (lits : List Lit) → IsAsserting all s lits → IsFreshLearnt all lits
+asserted_fresh : (all : List (List Lit)) (s : Search) (lits : List Lit) → IsAsserting all s lits → IsFreshLearnt all lits
 asserted_fresh all s lits is =
     let T = s.assignment.trail.items in
     let x = lit_at lits 0 in
@@ -90,7 +90,7 @@ prepared_next known s lits hints is = record {
 }
 
 -- a log with one learnt clause more
-abbrev pub with_learnt : LogParts → List Lit → List ℕ → LogParts
+abbrev with_learnt : LogParts → List Lit → List ℕ → LogParts
 with_learnt log lits hints = record { first = log.first; steps = log.steps ++ Learnt lits hints ∷ [] }
 
 pub same_learnt : (log : LogParts) (lits lits' : List Lit) (hints hints' : List ℕ) → lits ≡ lits' → hints ≡ hints' → with_learnt log lits hints ≡ with_learnt log lits' hints'

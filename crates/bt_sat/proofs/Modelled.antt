@@ -87,7 +87,7 @@ true_under : (values : List (Option Bool)) (l : Lit) → IsTrueIn values l → I
 true_under values l is = value_is values l.var ∙ ap value_of is
 
 -- each clause has a true literal
-pub complete_meets : (p : Progress) → IsComplete p → All (MeetsClause (truth_in (model_of p.search.assignment.values))) (clauses_in p.known)
+complete_meets : (p : Progress) → IsComplete p → All (MeetsClause (truth_in (model_of p.search.assignment.values))) (clauses_in p.known)
 complete_meets p is =
     let s = p.search in
     let all = clauses_in p.known in

@@ -10,7 +10,7 @@ use Rattle.bt_cnf.specs.Units.{opposite}
 use Rattle.bt_watch.specs.declared.search.Search.{Search}
 use Rattle.bt_watch.specs.Watched.{no_lit}
 use Rattle.bt_watch.specs.Reasons.{lit_at}
-use Rattle.bt_sat.specs.inner.Agendas.{IsGreatest, Takes}
+use Rattle.bt_watch.specs.Agendas.{IsGreatest, Takes}
 use Rattle.bt_sat.specs.inner.Analysing.{false_at, falses_at, IsSeen, MarksSeen}
 use Rattle.bt_sat.specs.inner.Lemmas.{ArePicked, IsListing, IsTraceable}
 use Rattle.bt_cnf.proofs.Lists.{nat_or, none_in, lt_or_eq}

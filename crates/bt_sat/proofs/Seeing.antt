@@ -3,7 +3,7 @@ use Rattle.std.proofs.Common.{◌≡◌, ◌≢◌, ℕ, ◌+◌, ◌⊎◌, ◌
 use Rattle.std.specs.Prelude.{Contains}
 use Rattle.bt_cnf.specs.declared.literal.Lit.{Lit}
 use Rattle.bt_watch.specs.Reasons.{lit_at}
-use Rattle.bt_sat.specs.inner.Agendas.{Adds}
+use Rattle.bt_watch.specs.Agendas.{Adds}
 use Rattle.bt_sat.specs.inner.Analysing.{IsSeen}
 use Rattle.bt_cnf.proofs.Lists.{lt_or_eq}
 

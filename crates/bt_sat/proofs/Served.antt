@@ -9,7 +9,7 @@ use Rattle.bt_cnf.specs.Choosing.{Gains}
 use Rattle.bt_cnf.specs.declared.literal.Lit.{Lit}
 use Rattle.bt_log.specs.Logs.{Step, clause_of}
 use Rattle.bt_sat.specs.Serving.{HearsOf, TellsSteps, epoch}
-use Rattle.bt_sat.specs.declared.solver.TheConstants.{EPOCH_STEPS}
+use Rattle.bt_sat.specs.declared.serving.TheConstants.{EPOCH_STEPS}
 use Rattle.bt_sat.specs.inner.Telling.{IsServing, TellsOne}
 use borrow.Rule.Slice.PartMut.{mid_of, post_of, put_mid, put_same}
 

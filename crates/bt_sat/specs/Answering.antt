@@ -8,12 +8,12 @@ use Rattle.bt_log.specs.Logs.{Step, Lemma}
 use Rattle.bt_log.specs.Refuting.{Refutes}
 use Rattle.bt_sat.specs.Serving.{TellsSteps}
 use Rattle.bt_sat.specs.Solving.{SolverParts, KeepsModel, Searches, EndsRefuted, EndsSpent, LacksMemory, IsModel, IsSoundLog, IsSpent, IsLearnt, GoesOnBy}
-use Rattle.bt_sat.specs.declared.solver.Answer.{Answer}
-use Rattle.bt_sat.specs.declared.solver.Assumed.{Assumed}
-use Rattle.bt_sat.specs.declared.solver.Added.{Added}
-use Rattle.bt_sat.specs.declared.solver.Answer.TheVariants as answer
-use Rattle.bt_sat.specs.declared.solver.Assumed.TheVariants as assumed
-use Rattle.bt_sat.specs.declared.solver.Added.TheVariants as added
+use Rattle.bt_sat.specs.declared.answer.Answer.{Answer}
+use Rattle.bt_sat.specs.declared.answer.Assumed.{Assumed}
+use Rattle.bt_sat.specs.declared.answer.Added.{Added}
+use Rattle.bt_sat.specs.declared.answer.Answer.TheVariants as answer
+use Rattle.bt_sat.specs.declared.answer.Assumed.TheVariants as assumed
+use Rattle.bt_sat.specs.declared.answer.Added.TheVariants as added
 
 -- what an answer says of the solver that gives it
 abbrev pub Says : SolverParts → Answer → Type 0

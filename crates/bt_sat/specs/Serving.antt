@@ -3,7 +3,7 @@ use Rattle.std.specs.Prelude.{◌≡◌, ◌+◌, ◌*◌, ℕ, List, ◌++◌, 
 use Rattle.bt_cnf.specs.Choosing.{Gains}
 use Rattle.bt_cnf.specs.declared.literal.Lit.{Lit}
 use Rattle.bt_log.specs.Logs.{Step, clause_of}
-use Rattle.bt_sat.specs.declared.solver.TheConstants.{EPOCH_STEPS}
+use Rattle.bt_sat.specs.declared.serving.TheConstants.{EPOCH_STEPS}
 
 -- the steps of a log that are a chooser's epoch: as many for each chooser in turn, and for the last one all that follow
 abbrev pub epoch : ℕ → ℕ → List Step → List Step

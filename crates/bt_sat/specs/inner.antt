@@ -1,5 +1,4 @@
 -- How the search learns, chooses and logs, which no public clause cites.
-pub mod Agendas
 pub mod Analysing
 pub mod Asserting
 pub mod Choices

@@ -8,10 +8,9 @@ ghost use Rattle.bt_sat.specs.inner.KnownLits.{lits_in};
 ghost use Rattle.bt_sat.specs.inner.LoggedFormula.{clauses_in};
 ghost use Rattle.bt_watch.specs.Levels.{AreLevels, IsInConflict, IsOrdered};
 
-use crate::agenda::Agenda;
+use bt_watch::{Agenda, Search, level_of, start};
 use crate::logged_formula::{KnownLits, LoggedFormula};
 use crate::minimizing::{Minimizer, Scene};
-use bt_watch::{Search, level_of, start};
 use std::alloc::AllocError;
 
 /// A clause that is being learnt.

@@ -6,7 +6,7 @@ ghost use Rattle.bt_sat.specs.inner.Kernels.{MayGoOn, stage_after, stage_assumed
 
 use crate::loading::load;
 use crate::progress::Progress;
-use crate::solver::{Added, Answer, Assumed};
+use crate::answer::{Added, Answer, Assumed};
 use crate::turns::{add, answer, supposed};
 use bt_choosers::Plan;
 use bt_cnf::{Chooser, Formula, Lit};

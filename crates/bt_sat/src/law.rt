@@ -2,7 +2,7 @@
 ghost use Rattle.std.specs.Prelude.{◌≡◌};
 ghost use Rattle.bt_sat.specs.Laws.{FreshStepsAreFew, OnlyEmptyAfterConflict, PropagatedIsOpen};
 
-use crate::solver::EPOCH_STEPS;
+use crate::serving::EPOCH_STEPS;
 
 /// A clause is fresh where propagation has come to its end without a false clause, all its literals but
 /// one are false, and that one isn't true. So is the clause that a search learns, once it has gone back to

@@ -1,8 +1,8 @@
 //! A search for models of formulas that learns clauses.
 #![tactic(auto)]
 
-mod agenda;
 mod analysis;
+mod answer;
 mod assuming;
 mod cdcl;
 mod choosing;
@@ -19,6 +19,8 @@ mod serving;
 mod solver;
 mod turns;
 
+pub use answer::{Added, Answer, Assumed};
 pub use law::{fresh_steps_are_few, limits_are, only_empty_after_conflict, propagated_is_open};
-pub use solver::{Added, Answer, Assumed, EPOCH_STEPS, Solver};
+pub use serving::EPOCH_STEPS;
+pub use solver::Solver;
 pub use std::alloc::AllocError as Memory;

@@ -4,7 +4,7 @@ ghost use Rattle.bt_sat.specs.inner.Loading.{IsLoaded};
 ghost use Rattle.bt_sat.specs.inner.Progressing.{IsLogged};
 ghost use Rattle.bt_watch.specs.Levels.{Stands};
 
-use crate::agenda::Agenda;
+use bt_watch::{Agenda, Search, load_search};
 use crate::analysis::Analysis;
 use crate::learning::LearntClause;
 use crate::logged_formula::LoggedFormula;
@@ -13,7 +13,6 @@ use crate::progress::Progress;
 use bt_choosers::{Order, Plan};
 use bt_cnf::Formula;
 use bt_log::Log;
-use bt_watch::{Search, load_search};
 use std::alloc::{AllocError, Global};
 
 /// Where conflicts decide, so many reasons after another are followed back at most, so that one literal costs no long walk.

@@ -1,9 +1,8 @@
 //! Which literals a learnt clause can do without, since they are false where its others are. Nothing is claimed of it: any
 //! literal below the level of the conflict may be traced back.
 
-use crate::agenda::Agenda;
+use bt_watch::{Agenda, Search};
 use crate::logged_formula::{KnownLits, LoggedFormula};
-use bt_watch::Search;
 use std::alloc::{AllocError, Global};
 
 /// How far literals are followed back.

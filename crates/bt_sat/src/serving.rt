@@ -2,9 +2,11 @@
 ghost use Rattle.std.specs.Prelude.{◌≡◌, ◌<◌, ◌≤◌, length, map, IfErr, IfOk, OnOk};
 ghost use Rattle.bt_sat.specs.inner.Telling.{IsServing, TellsOne};
 
-use crate::solver::EPOCH_STEPS;
 use bt_cnf::{Chooser, Lit};
 use std::alloc::AllocError;
+
+/// The number of steps of an epoch, after which the next chooser serves. The last one serves on.
+pub const EPOCH_STEPS: u64 = 128;
 
 /// The place of the chooser that serves where the log has so many steps, or 0 where there is none.
 pub fn serving_place(choosers: usize, steps: u64) -> usize

@@ -3,48 +3,13 @@ ghost use Rattle.std.specs.Prelude.{◌≡◌, map, IfOk, OnErr};
 ghost use Rattle.bt_sat.specs.Answering.{Assumes, GivesNext, IsAdded, MayAnswer};
 ghost use Rattle.bt_sat.specs.Solving.{begun, log_of, IsLemmaOf, LacksMemory};
 
+use crate::answer::{Added, Answer, Assumed};
 use crate::kernel::Kernel;
 use bt_choosers::Plan;
 use bt_cnf::{Chooser, Formula, Lit};
 use bt_frac::Frac;
 use bt_log::Log;
 use std::alloc::{AllocError, Global};
-
-/// The number of steps of an epoch, after which the next chooser serves. The last one serves on.
-pub const EPOCH_STEPS: u64 = 128;
-
-/// What a search for the next model comes to.
-#[derive(Drop)]
-pub enum Answer {
-    /// The values of the variables in a model, which meets every clause of the formula and of the log.
-    Model(Vec<bool>),
-    /// The log refutes the formula.
-    Refuted,
-    /// The log has as many steps as it may, and one more is needed.
-    Spent,
-}
-
-/// What comes of making literals false in turn.
-#[derive(Drop)]
-pub enum Assumed {
-    /// All of them are false, and no clause is: for each variable, whether it is true then.
-    Open(Vec<bool>),
-    /// One of them is true where those before it are false.
-    Follows,
-    /// The log refutes the formula.
-    Refuted,
-    /// The log has as many steps as it may, and one more is needed.
-    Spent,
-}
-
-/// What became of a lemma.
-#[derive(Clone, Copy, PartialEq, Eq)]
-pub enum Added {
-    /// It is a step of the log now.
-    Kept,
-    /// The log has as many steps as it may already. Nothing has changed.
-    Spent,
-}
 
 /// A search for models of a formula, whose log may have a limited number of steps, and which is steered by
 /// choosers: each in turn for an epoch of 128 steps of the log, of which it is told, and the last one for all that

@@ -12,7 +12,7 @@ use crate::cdcl::{Found, find_model, restart};
 use crate::lemmas::take_lemma;
 use crate::progress::Progress;
 use crate::serving::{begins_epoch, tell};
-use crate::solver::{Answer, Assumed};
+use crate::answer::{Answer, Assumed};
 use bt_cnf::{Chooser, Lit, Values};
 use bt_frac::Frac;
 use std::alloc::{AllocError, Global};

@@ -41,7 +41,7 @@ ahead_more P terms t rest so_far lacks =
         omega arith
 
 -- the first term with the property is the least position
-pub ahead_least : (P : ℕ → Ratio → Type 0) (terms : Terms) (t : ℕ × Ratio) (rest : Terms) → IsAhead P terms (t ∷ rest) → P t.0 t.1 → IsLeast (λ q. Names terms P q) t.0
+ahead_least : (P : ℕ → Ratio → Type 0) (terms : Terms) (t : ℕ × Ratio) (rest : Terms) → IsAhead P terms (t ∷ rest) → P t.0 t.1 → IsLeast (λ q. Names terms P q) t.0
 ahead_least P terms t rest so_far has = ((t.1, so_far.named t.0 t.1 (number_here t rest t.0 refl), has), λ q names. first q names.0 (so_far.ahead q names.0 names.1 names.2))
   where
     first : (q : ℕ) (number : Ratio) → coefficient_at q (t ∷ rest) ≡ Some number → t.0 ≤ q
@@ -53,7 +53,7 @@ ahead_least P terms t rest so_far has = ((t.1, so_far.named t.0 t.1 (number_here
     ]
 
 -- nothing has the property where nothing is left
-pub ahead_none : (P : ℕ → Ratio → Type 0) (terms : Terms) → IsAhead P terms [] → (q : ℕ) → Names terms P q → ⊥
+ahead_none : (P : ℕ → Ratio → Type 0) (terms : Terms) → IsAhead P terms [] → (q : ℕ) → Names terms P q → ⊥
 ahead_none P terms so_far q names = let none : None ≡ Some names.0 = so_far.ahead q names.0 names.1 names.2 in cc
 
 -- the same at a place of the walk

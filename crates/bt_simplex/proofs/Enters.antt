@@ -5,7 +5,7 @@ use Rattle.bt_frac.specs.Rows.{RowParts}
 use Rattle.std.specs.declared.cmp.Ordering.{Ordering}
 use Rattle.bt_frac.specs.Deltas.{IsOrderOfDeltas}
 use Rattle.bt_frac.specs.declared.delta.Delta.{Delta}
-use Rattle.bt_frac.specs.declared.row.Relation.TheVariants.{Equal}
+use Rattle.bt_frac.specs.declared.relation.Relation.TheVariants.{Equal}
 use Rattle.bt_lin.specs.WeightedRows.{coefficient_at}
 use Rattle.bt_linear.specs.Lines.{Terms}
 use Rattle.bt_pivot.specs.SolvedForms.{slot_at}
@@ -13,7 +13,7 @@ use Rattle.bt_pivot.specs.Tableaus.{TableauParts}
 use Rattle.bt_pivot.specs.Points.{bound_row, bound_value, resting, standing, point_at, Fails, IsSamePoint, IsBoundOrder, relation_of}
 use Rattle.bt_simplex.specs.Pivots.{MovesTowards, MayMove, CanEnter, IsLeast}
 use Rattle.bt_simplex.specs.inner.Bases.{IsLeastOf, MayEnter, Names}
-use Rattle.bt_frac.specs.declared.row.Relation.{Relation}
+use Rattle.bt_frac.specs.declared.relation.Relation.{Relation}
 use Rattle.bt_pivot.proofs.Failing.{same_back, row_is, point_is, less_delta_right, less_delta_left}
 use Rattle.bt_pivot.proofs.BoundRests.{row_of}
 
@@ -22,7 +22,7 @@ moves_by row a b number s (inl (less, up)) = inl (less_delta_left a b (bound_val
 moves_by row a b number s (inr (less, down)) = inr (less_delta_right a b (bound_value row) s less, down)
 
 -- what can enter is told by the failing line and its row
-pub enters_told : (t : TableauParts) (fails enters : ℕ) (terms : Terms) (row : RowParts) (point : Delta) → slot_at t.slots fails ≡ Some terms → bound_row t fails ≡ Some row
+enters_told : (t : TableauParts) (fails enters : ℕ) (terms : Terms) (row : RowParts) (point : Delta) → slot_at t.slots fails ≡ Some terms → bound_row t fails ≡ Some row
     → IsSamePoint point (standing (resting t) 0 (Some terms)) → Names terms (MayEnter t row point) enters ↔ CanEnter t fails enters
 enters_told t fails enters terms row point line is_bound same = (forth, from)
   where
@@ -53,7 +53,7 @@ enters_told t fails enters terms row point line is_bound same = (forth, from)
     from can = (can.number, subst (λ ts. coefficient_at enters ts ≡ Some can.number) (line_is can.terms can.line) can.names, enter can.number can.may_move)
 
 -- the least of one property is that of the same property in other words
-pub least_told : (P Q : ℕ → Type 0) → ((p : ℕ) → P p ↔ Q p) → (position : ℕ) → IsLeast P position → IsLeast Q position
+least_told : (P Q : ℕ → Type 0) → ((p : ℕ) → P p ↔ Q p) → (position : ℕ) → IsLeast P position → IsLeast Q position
 least_told P Q same position least = ((same position).0 least.0, λ other has. least.1 other ((same other).1 has))
 
 -- the same of a position whose row's bound value and point have this order

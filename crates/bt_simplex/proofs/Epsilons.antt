@@ -8,7 +8,7 @@ use Rattle.bt_frac.specs.Rows.{RowParts}
 use Rattle.bt_frac.specs.Values.{plus, times}
 use Rattle.bt_frac.specs.declared.delta.Delta.{Delta}
 use Rattle.bt_lin.proofs.SameNumbers.{stands_same}
-use Rattle.bt_frac.specs.declared.row.Relation.TheVariants.{AtLeast}
+use Rattle.bt_frac.specs.declared.relation.Relation.TheVariants.{AtLeast}
 use Rattle.bt_linear.specs.Lines.{one}
 use Rattle.bt_pivot.specs.Tableaus.{TableauParts, IsTableau}
 use Rattle.bt_pivot.specs.Points.{bound_row, point_at, IsSamePoint}
@@ -103,7 +103,7 @@ negated_some a h e = none a.over h e
     none : (z : ℤ) → z <ℤ pos 0 → neg_ℤ z ≡ pos 0 → ⊥
     none z h e = omega (arith, ints)
 
-pub below_by : {a b : Ratio} → Alike a b → a.over <ℤ pos 0 → b.over <ℤ pos 0
+below_by : {a b : Ratio} → Alike a b → a.over <ℤ pos 0 → b.over <ℤ pos 0
 below_by {a} {b} h low = from b.over (above_by (negated_alike h) (to a.over low))
   where
     to : (z : ℤ) → z <ℤ pos 0 → pos 0 <ℤ neg_ℤ z

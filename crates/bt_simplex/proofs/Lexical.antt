@@ -113,12 +113,12 @@ not_less_of a b (inr (none, up)) (inr (e, h)) = never (a.tiny.over *ℤ pos b.ti
     never x y h k = omega (arith, ints)
 
 -- a point that is less than another
-pub up_of : (a b : Delta) → IsLessDelta b a → IsUp (less a.value b.value) (less a.tiny b.tiny)
+up_of : (a b : Delta) → IsLessDelta b a → IsUp (less a.value b.value) (less a.tiny b.tiny)
 up_of a b (inl h) = inl (of_less b.value a.value h)
 up_of a b (inr (e, h)) = inr (differ_none a.value b.value (sym e), above_not_below (less a.tiny b.tiny) (of_less b.tiny a.tiny h))
 
 -- two points are less, the same or greater
-pub compared_deltas : (a b : Delta) → IsLessDelta a b ⊎ (SameDelta a b ⊎ IsLessDelta b a)
+compared_deltas : (a b : Delta) → IsLessDelta a b ⊎ (SameDelta a b ⊎ IsLessDelta b a)
 compared_deltas a b = by (compared a.value b.value) (compared a.tiny b.tiny)
   where
     by : IsLess a.value b.value ⊎ (SameRatio a.value b.value ⊎ IsLess b.value a.value) → IsLess a.tiny b.tiny ⊎ (SameRatio a.tiny b.tiny ⊎ IsLess b.tiny a.tiny)

@@ -62,7 +62,7 @@ weight_named columns above (u ∷ line) row z over e = at (u.0 == columns + row)
         ∙ later h
 
 -- the weight of the failing position
-abbrev pub weight_sign : Bool → Ratio
+abbrev weight_sign : Bool → Ratio
 weight_sign above = if above then negated one else one
 
 own_weight : (above : Bool) → signed above (negated one) ≡ weight_sign above

@@ -13,8 +13,8 @@ use Rattle.bt_frac.specs.Rows.{RowParts}
 use Rattle.bt_frac.specs.Values.{AreValues, nothing, plus, times, value_in, Stands, RowHolds}
 use Rattle.bt_frac.specs.Deltas.{IsLessDelta}
 use Rattle.bt_frac.specs.declared.delta.Delta.{Delta}
-use Rattle.bt_frac.specs.declared.row.Relation.{Relation}
-use Rattle.bt_frac.specs.declared.row.Relation.TheVariants.{AtLeast, Above, Equal}
+use Rattle.bt_frac.specs.declared.relation.Relation.{Relation}
+use Rattle.bt_frac.specs.declared.relation.Relation.TheVariants.{AtLeast, Above, Equal}
 use Rattle.bt_lin.specs.WeightedRows.{empty_row}
 use Rattle.bt_lin.proofs.SameNumbers.{stands_same}
 use Rattle.bt_linear.specs.Lines.{one, Terms, HasNumber, total}
@@ -30,7 +30,7 @@ use Rattle.bt_simplex.proofs.Epsilons.{fall_above, twice_fall, twice_some, twice
 use Rattle.bt_linear.proofs.Indicators.{times_one}
 use Rattle.bt_pivot.proofs.Resting.{rest_value, rest_tiny, point_some, bound_some_of, bound_within}
 use Rattle.bt_simplex.proofs.Signs.{IsAbove, IsNotBelow, above_plus, above_times, not_below_times, above_factor, above_by, not_below_by, less_of, of_less, at_most_of, of_at_most, compared, less_at_most}
-use Rattle.bt_pivot.proofs.Standing.{stands_some}
+use Rattle.bt_pivot.proofs.Denominators.{stands_some}
 use Rattle.bt_linear.proofs.Totals.{total_positive}
 use Rattle.bt_linear.proofs.Zeros.{one_some, one_times, total_along, all_from, named_or_lacks, negated_alike, zero_of}
 
@@ -38,7 +38,7 @@ use Rattle.bt_linear.proofs.Zeros.{one_some, one_times, total_along, all_from, n
 abbrev pub shifted : Ratio → Delta → Ratio
 shifted epsilon point = plus point.value (times epsilon point.tiny)
 
-pub shifted_some : (epsilon : Ratio) (point : Delta) → Positive epsilon → Positive point.value → Positive point.tiny → Positive (shifted epsilon point)
+shifted_some : (epsilon : Ratio) (point : Delta) → Positive epsilon → Positive point.value → Positive point.tiny → Positive (shifted epsilon point)
 shifted_some epsilon point some v t = plus_positive point.value (times epsilon point.tiny) v (times_positive epsilon point.tiny some t)
 
 -- a sum where each position is shifted is the sum of the values, and the number times the sum of the rest
@@ -115,7 +115,7 @@ module _ (t : TableauParts) (epsilon : Ratio) (tableau : IsTableau t) (some : Po
           (next along (total_shifted (resting t) epsilon some (rest_value t tableau.rows) (rest_tiny t) terms lines.0.numbers))
 
 -- epsilon is above 0
-pub epsilon_above : (t : TableauParts) (epsilon : Ratio) → IsTableau t → IsEpsilon t epsilon → IsAbove epsilon
+epsilon_above : (t : TableauParts) (epsilon : Ratio) → IsTableau t → IsEpsilon t epsilon → IsAbove epsilon
 epsilon_above t epsilon tableau is = by is.is
   where
     by : (epsilon ≡ one) ⊎ ((position : ℕ) × IsHalfRoom t position epsilon) → IsAbove epsilon

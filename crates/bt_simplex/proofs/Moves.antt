@@ -25,19 +25,10 @@ even : (a b : Delta) → SameDelta a b → IsLessDelta a b → ⊥
 even a b same (inl h) = less_even h same.0
 even a b same (inr (s, h)) = less_even h same.1
 
-even_back : (a b : Delta) → SameDelta a b → IsLessDelta b a → ⊥
-even_back a b same (inl h) = less_even h (sym same.0)
-even_back a b same (inr (s, h)) = less_even h (sym same.1)
-
 up_is : (o : Ordering) (z : ℤ) → IsSign o z → pos 0 <ℤ z → o ≡ Greater
 up_is Less z sign up = absurd (omega (arith, ints))
 up_is Equal z sign up = absurd (omega (arith, ints))
 up_is Greater z sign up = refl
-
-down_is : (o : Ordering) (z : ℤ) → IsSign o z → z <ℤ pos 0 → o ≡ Less
-down_is Less z sign down = refl
-down_is Equal z sign down = absurd (omega (arith, ints))
-down_is Greater z sign down = absurd (omega (arith, ints))
 
 -- below its bound value a row is moved towards it by a number above 0
 pub moves_up : (row : RowParts) (point : Delta) (number : Ratio) (o : Ordering) → IsLessDelta point (bound_value row) → IsSign o number.over → (o ≡ Greater) ↔ MovesTowards row point number

@@ -11,7 +11,7 @@ use Rattle.bt_linear.specs.Lines.{Terms, HasNumber, IsLineFrom, total}
 use Rattle.bt_pivot.specs.SolvedForms.{Slots, slot_at, at_position, IsOutside, IsSolvedForm, InBasis}
 use Rattle.bt_linear.proofs.Indicators.{LacksPosition, decide, indicator, indicator_some, lacking_total, having_total, later_lacks, over_zero_of, other_is}
 use Rattle.bt_linear.proofs.Numbers.{Alike, alike, back, next, drop_zero, times_positive, times_zero}
-use Rattle.bt_pivot.proofs.Standing.{stands_some}
+use Rattle.bt_pivot.proofs.Denominators.{stands_some}
 use Rattle.bt_linear.proofs.Totals.{total_positive, rest_line}
 use Rattle.bt_linear.proofs.Zeros.{named_or_lacks, all_from, total_along}
 

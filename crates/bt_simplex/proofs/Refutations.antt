@@ -12,8 +12,8 @@ use Rattle.bt_frac.specs.Rows.{RowParts, columns_of}
 use Rattle.bt_frac.specs.Values.{AreValues, nothing, plus, times, sum_of_products}
 use Rattle.bt_frac.specs.Deltas.{IsLessDelta}
 use Rattle.bt_frac.specs.declared.delta.Delta.{Delta}
-use Rattle.bt_frac.specs.declared.row.Relation.{Relation}
-use Rattle.bt_frac.specs.declared.row.Relation.TheVariants.{AtLeast, Above, Equal}
+use Rattle.bt_frac.specs.declared.relation.Relation.{Relation}
+use Rattle.bt_frac.specs.declared.relation.Relation.TheVariants.{AtLeast, Above, Equal}
 use Rattle.bt_lin.specs.FalseSums.{MayHave, MayWeigh, MakesStrict, IsStrict, IsFalseBound, Cancels, IsFalseSum}
 use Rattle.bt_lin.specs.WeightedRows.{empty_row, coefficient_at, part_of, pairs_at}
 use Rattle.bt_lin.specs.declared.places.Place.{Place}
@@ -35,12 +35,12 @@ use Rattle.bt_linear.proofs.Numbers.{negated_plus, Positive, nothing_some, Alike
 use Rattle.bt_pivot.proofs.Resting.{bound_some_of, point_some, rest_value, rest_tiny, bound_some, tiny_some, bound_within}
 use Rattle.bt_linear.proofs.Shares.{negated_low, negated_twice}
 use Rattle.bt_simplex.proofs.Signs.{IsAbove, IsNotBelow, of_less, above_by, not_below_by, not_below_plus}
-use Rattle.bt_pivot.proofs.Standing.{stands_some}
+use Rattle.bt_pivot.proofs.Denominators.{stands_some}
 use Rattle.bt_linear.proofs.Totals.{total_positive}
 use Rattle.bt_linear.proofs.Zeros.{one_some, one_lowest, one_times, combined_alike, negated_alike, zero_of, named_has, total_along}
 
 -- a bound row is past the columns, and is that of its place
-pub bound_place : (t : TableauParts) (q : ℕ) (row : RowParts) → bound_row t q ≡ Some row → (t.columns ≤ q) × (get_or t.rows (q - t.columns) empty_row ≡ row)
+bound_place : (t : TableauParts) (q : ℕ) (row : RowParts) → bound_row t q ≡ Some row → (t.columns ≤ q) × (get_or t.rows (q - t.columns) empty_row ≡ row)
 bound_place t q row e = first (nat_lt q t.columns) refl e
   where
     second : (b : Bool) → (if b then Some (get_or t.rows (q - t.columns) empty_row) else None) ≡ Some row → get_or t.rows (q - t.columns) empty_row ≡ row
@@ -53,7 +53,7 @@ bound_place t q row e = first (nat_lt q t.columns) refl e
     first false test h = (grind (arith, nat_tests), second (get_or t.bound (q - t.columns) false) h)
 
 -- a bound row's place is marked
-pub bound_marked : (t : TableauParts) (q : ℕ) (row : RowParts) → bound_row t q ≡ Some row → get_or t.bound (q - t.columns) false ≡ true
+bound_marked : (t : TableauParts) (q : ℕ) (row : RowParts) → bound_row t q ≡ Some row → get_or t.bound (q - t.columns) false ≡ true
 bound_marked t q row e = first (nat_lt q t.columns) e
   where
     second : (b : Bool) → (if b then Some (get_or t.rows (q - t.columns) empty_row) else None) ≡ Some row → b ≡ true
@@ -65,7 +65,7 @@ bound_marked t q row e = first (nat_lt q t.columns) e
     first false h = second (get_or t.bound (q - t.columns) false) h
 
 -- positions less the columns ascend too
-pub rows_ascend : (columns k : ℕ) (above : Bool) (line : Terms) → AreColumnsFrom (columns + k) (columns_of line) → AreColumnsFrom k (columns_of (map (weight_of columns above) line))
+rows_ascend : (columns k : ℕ) (above : Bool) (line : Terms) → AreColumnsFrom (columns + k) (columns_of line) → AreColumnsFrom k (columns_of (map (weight_of columns above) line))
 rows_ascend columns k above [] ascend = tt
 rows_ascend columns k above (u ∷ line) ascend =
     let low = ascend.0 in
@@ -90,11 +90,11 @@ signed_alike true z some = back (one_times z some)
 signed_alike false z some = back (subst (λ r. Alike r (negated z)) (sym (negated_times one z)) (negated_alike (one_times z some)))
 
 -- what stands in a row at a place, or 0
-abbrev pub part_or_zero : Place → RowParts → Ratio
+abbrev part_or_zero : Place → RowParts → Ratio
 part_or_zero place row = number_or_zero (part_of place row)
 
 -- a weighted sum over a line, where this stands at its positions
-pub pairs_total : (rows : List RowParts) (columns : ℕ) (above : Bool) (place : Place) (at : ℕ → Ratio) → AreValues at → (line : Terms) → All HasNumber line
+pairs_total : (rows : List RowParts) (columns : ℕ) (above : Bool) (place : Place) (at : ℕ → Ratio) → AreValues at → (line : Terms) → All HasNumber line
     → All (λ t. Alike (part_or_zero place (get_or rows (t.0 - columns) empty_row)) (at t.0)) line
     → Alike (sum_of_products (pairs_at place (weighted_rows rows (map (weight_of columns above) line)))) (times (sign_of above) (total at line))
 pairs_total rows columns above place at values [] all same =
@@ -337,7 +337,7 @@ strict_here Above weight = by weight.over refl
     by (negsuc n) e = inr (subst (λ z. pos 0 ≤ℤ neg_ℤ (z *ℤ pos 1)) (sym e) (omega (arith, ints)))
 
 -- the rest of each row's bound value, at its position
-abbrev pub tiny_at : List RowParts → ℕ → ℕ → Ratio
+abbrev tiny_at : List RowParts → ℕ → ℕ → Ratio
 tiny_at rows columns q = tiny_of (get_or rows (q - columns) empty_row).relation
 
 -- some row is strict with a positive weight, or the weighted sum of the rests isn't above 0

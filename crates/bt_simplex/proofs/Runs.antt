@@ -23,7 +23,7 @@ pub bland_can : (t : TableauParts) (pivot : Pivot) → IsBlandPivot t pivot → 
 bland_can t pivot bland = let can = bland.enters.0 in (can.terms, can.line, (can.number, can.names))
 
 -- a basis with a pivot isn't final
-pub bland_goes_on : (t : TableauParts) (pivot : Pivot) → IsBlandPivot t pivot → IsFinal t → ⊥
+bland_goes_on : (t : TableauParts) (pivot : Pivot) → IsBlandPivot t pivot → IsFinal t → ⊥
 bland_goes_on t pivot bland (inl met) = met pivot.leaves bland.leaves.0
 bland_goes_on t pivot bland (inr (position, least, none)) = none pivot.enters (subst (λ p. CanEnter t p pivot.enters) same bland.enters.0)
   where
@@ -47,7 +47,7 @@ leaves_within slots pivot can = inside pivot.leaves (length slots) past
     inside m n apart = omega arith
 
 -- a pivot that the slots made is Bland's
-pub made_pivot : (t : TableauParts) (slots : Slots) (pivot : Pivot) (slots' : Slots) → IsTableau (with_slots t slots) → IsBlandPivot (with_slots t slots) pivot
+made_pivot : (t : TableauParts) (slots : Slots) (pivot : Pivot) (slots' : Slots) → IsTableau (with_slots t slots) → IsBlandPivot (with_slots t slots) pivot
     → IsPivoted slots pivot.leaves pivot.enters slots' → IsMade t pivot slots slots'
 made_pivot t slots pivot slots' tableau bland made =
     let can = bland_can (with_slots t slots) pivot bland in
@@ -76,7 +76,7 @@ can_part rows columns slots pivot form can = record { terms = can.0; slot_is = c
         absurd cc
 
 -- the operation that doesn't fit in Bland's pivot is a cause
-pub pivot_cause : (t : TableauParts) (pivot : Pivot) (slots' : Slots) (cause : Cause) → IsBlandPivot t pivot → IsUnfitPivot t.slots pivot.leaves pivot.enters slots' cause → IsCause t cause
+pivot_cause : (t : TableauParts) (pivot : Pivot) (slots' : Slots) (cause : Cause) → IsBlandPivot t pivot → IsUnfitPivot t.slots pivot.leaves pivot.enters slots' cause → IsCause t cause
 pivot_cause t pivot slots' cause bland unfit = (
   unfit.none,
   subst (λ place. IsStepAt t place cause.row cause.column cause.operation cause.left cause.right) (sym unfit.place) (pivot, bland, unfit.step),

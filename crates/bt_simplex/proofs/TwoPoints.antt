@@ -11,7 +11,7 @@ use Rattle.bt_pivot.specs.Tableaus.{TableauParts, IsTableau, with_slots}
 use Rattle.bt_simplex.proofs.Lexical.{IsUp, less, less_some, total_less, up_total, up_by, not_less_of}
 use Rattle.bt_linear.proofs.Numbers.{Alike, alike, itself, back, next, both_plus}
 use Rattle.bt_pivot.proofs.Resting.{rest_value, rest_tiny, point_some}
-use Rattle.bt_pivot.proofs.Standing.{stands_some}
+use Rattle.bt_pivot.proofs.Denominators.{stands_some}
 use Rattle.bt_linear.proofs.Totals.{total_positive}
 use Rattle.bt_linear.proofs.Zeros.{total_along, all_from, named_or_lacks, negated_alike}
 

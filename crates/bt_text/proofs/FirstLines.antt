@@ -23,7 +23,7 @@ split_apart b (x ∷ xs) (y ∷ ys) s t p q e =
     (cc, k.1)
 
 -- what stands before the first such byte, and after it, are one
-pub SplitsAt-unique : {b : ℕ} {text f g s t : List ℕ} → SplitsAt b text f s → SplitsAt b text g t → (f ≡ g) × (s ≡ t)
+SplitsAt-unique : {b : ℕ} {text f g s t : List ℕ} → SplitsAt b text f s → SplitsAt b text g t → (f ≡ g) × (s ≡ t)
 SplitsAt-unique {b} {text} {f} {g} {s} {t} p q = split_apart b f g s t p.first q.first (sym p.text_is ∙ q.text_is)
 
 -- where a text has such a byte, it has a first one

@@ -3,3 +3,4 @@ pub mod Pieces
 pub mod Longer
 pub mod Lacking
 pub mod WholeLines
+pub mod OneAnswer

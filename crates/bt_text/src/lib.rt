@@ -1,4 +1,4 @@
-//! Lines, words and blanks: what the readers of texts share.
+//! Lines, words and blanks, which the readers of texts share; and what the contracts of all crates say alike of answers.
 #![tactic(auto)]
 
 mod blank;

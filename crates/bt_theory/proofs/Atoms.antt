@@ -6,7 +6,7 @@ use Rattle.std.specs.Option.{is_some}
 use Rattle.std.proofs.lemmas.Bool.{false≢true}
 use Rattle.std.proofs.lemmas.List.{get_or_default}
 use Rattle.bt_cnf.specs.Places.{IsPlaceOf}
-use Rattle.std.proofs.lemmas.List.Elements.{All-contains, All-nil, All-push, All-weaker, Contains-append_cases, Contains-append_right, Contains-get_or}
+use Rattle.std.proofs.lemmas.List.Elements.{All-contains, All-push, All-weaker, Contains-append_cases, Contains-append_right, Contains-get_or}
 use Rattle.bt_cnf.specs.Formulas.{AscendBelow}
 
 -- these are the numbers below a place, and the others ascend from there on
@@ -15,9 +15,6 @@ pub record IsSplitAt (vars items : List ℕ) (place end : ℕ) : Type 0 where
   pub split : vars ≡ items ++ rest
   pub below : All (λ v. v < place) items
   pub ascends : AscendBelow place end rest
-
-pub split_none : (vars : List ℕ) (end : ℕ) → AscendBelow 0 end vars → IsSplitAt vars [] 0 end
-split_none vars end h = record { rest = vars; split = refl; below = All-nil (λ v. v < 0); ascends = h }
 
 least_of : (place end v : ℕ) (rest : List ℕ) → AscendBelow place end rest → Contains rest v → place ≤ v
 least_of place end v [] h c = let l = c.1 in absurd (omega arith)

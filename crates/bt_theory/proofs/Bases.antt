@@ -67,7 +67,7 @@ pub base_whole : (f : FormulaParts) (b : Base) → IsWhole f b → base_in b f �
 base_whole f b whole = base_extended f b [] whole
 
 -- what holds of all of a list holds of its front
-pub all_take : {X : Type 0} (P : X → Type 0) (n : ℕ) (xs : List X) → n ≤ length xs → All P xs → All P (take n xs)
+all_take : {X : Type 0} (P : X → Type 0) (n : ℕ) (xs : List X) → n ≤ length xs → All P xs → All P (take n xs)
 all_take P n xs l h = λ k d inside.
     let size = length-take-le n xs l in
     let within : k < n = omega (arith, inside, size) in
@@ -80,14 +80,14 @@ in_front P n xs i x long h l at =
     subst P (get_or-take n xs i x l ∙ get_or_from_slice_get xs i x x at) (h i x (omega (arith, l, size)))
 
 -- what is in its front is in the list
-pub contains_take : {X : Type 0} (n : ℕ) (xs : List X) (x : X) → n ≤ length xs → Contains (take n xs) x → Contains xs x
+contains_take : {X : Type 0} (n : ℕ) (xs : List X) (x : X) → n ≤ length xs → Contains (take n xs) x → Contains xs x
 contains_take n xs x l (k, inside, at) =
     let size = length-take-le n xs l in
     let within : k < n = omega (arith, inside, size) in
     (k, omega (arith, within, l), sym (get_or-take n xs k x within) ∙ at)
 
 -- below its end the front of an assignment is the assignment
-pub truth_front : (n : ℕ) (model : List Bool) (var : ℕ) → var < n → truth_in (take n model) var ≡ truth_in model var
+truth_front : (n : ℕ) (model : List Bool) (var : ℕ) → var < n → truth_in (take n model) var ≡ truth_in model var
 truth_front n model var l = get_or-take n model var false l
 
 -- and false from there on

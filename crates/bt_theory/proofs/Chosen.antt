@@ -1,5 +1,5 @@
 -- What is chosen within a model settles a literal of each clause.
-use Rattle.std.proofs.Common.{◌≡◌, ℕ, ◌<◌, ◌+◌, inl, inr, Bool, true, List, length, get_or, Option, Some, None, slice_get, take, ap, sym, ◌∙◌, refl, subst}
+use Rattle.std.proofs.Common.{◌≡◌, ℕ, ◌<◌, ◌+◌, inl, inr, Bool, true, List, length, get_or, Option, Some, None, slice_get, take, ap, sym, ◌∙◌, subst}
 use Rattle.std.specs.List.{All}
 use Rattle.std.proofs.lemmas.Bool.{false≢true, cases_Bool}
 use Rattle.std.proofs.lemmas.Option.{slice_get_within, get_or_from_slice_get}
@@ -18,12 +18,6 @@ Found model lits i (Some var) = IsChoice model lits var
 pub is_positive : (model chosen : List Bool) (l : Lit) → (IsSettled model chosen l → ⊥) → IsTrueUnder (truth_in model) l → l.positive ≡ true
 is_positive model chosen l open_lit holds =
     elim (cases_Bool l.positive) [ inl p ↦ p | inr n ↦ absurd (open_lit (inr (n, holds ∙ n))) ]
-
-pub found_choice : (model chosen : List Bool) (lits : List Lit) (i : ℕ) (l : Lit) → i < length lits → l ≡ get_or lits i l → (IsSettled model chosen l → ⊥) → IsTrueUnder (truth_in model) l
-    → IsChoice model lits l.var
-found_choice model chosen lits i l within at open_lit holds =
-    let p = is_positive model chosen l open_lit holds in
-    ((i, l, within, sym at, (p, refl)), holds ∙ p)
 
 -- a settled literal is true under what is chosen
 settled_true : (model chosen : List Bool) (l : Lit) → IsWithin model chosen → IsSettled model chosen l → IsTrueUnder (truth_in chosen) l

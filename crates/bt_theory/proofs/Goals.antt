@@ -1,20 +1,19 @@
 -- What trying goals comes to.
-use Rattle.std.proofs.Common.{◌≡◌, ℕ, ◌<◌, ◌≤◌, Bool, List, [], ◌∷◌, length, Option, Some, None, ap, sym, ◌∙◌, refl, subst, arith, length-append}
+use Rattle.std.proofs.Common.{◌≡◌, ℕ, ◌<◌, ◌≤◌, Bool, List, length, Option, Some, ap, ◌∙◌, arith, length-append}
 use Rattle.std.specs.List.{All, Any}
-use Rattle.std.proofs.lemmas.List.Elements.{All-nil, All-cons, All-weaker}
+use Rattle.std.proofs.lemmas.List.Elements.{All-weaker}
 use Rattle.bt_frac.specs.Rows.{RowParts}
-use Rattle.bt_log.specs.Logs.{Step, Lemma}
+use Rattle.bt_log.specs.Logs.{Step}
 use Rattle.bt_sat.specs.Answering.{Assumes, GivesNext}
 use Rattle.bt_sat.specs.Solving.{SolverParts, IsLearnt, GoesOnBy}
-use Rattle.bt_sat.specs.declared.solver.Answer.{Answer}
-use Rattle.bt_sat.specs.declared.solver.Answer.TheVariants as answer
-use Rattle.bt_sat.specs.declared.solver.Assumed.{Assumed}
-use Rattle.bt_sat.specs.declared.solver.Assumed.TheVariants as assumed
+use Rattle.bt_sat.specs.declared.answer.Answer.{Answer}
+use Rattle.bt_sat.specs.declared.answer.Answer.TheVariants as answer
+use Rattle.bt_sat.specs.declared.answer.Assumed.{Assumed}
+use Rattle.bt_sat.specs.declared.answer.Assumed.TheVariants as assumed
 use Rattle.bt_theory.specs.Outcomes.{Fits}
 use Rattle.bt_theory.specs.declared.base.Base.{Base}
-use Rattle.bt_theory.specs.inner.Bases.{base_in}
-use Rattle.bt_theory.specs.inner.Goals.{AllFit, AreNegated, GoesOn, IsOfSame, IsPossible, IsGrown, IsTried, IsTry}
-use Rattle.bt_theory.specs.inner.Rounds.{HasModel, IsEnd, IsLemmaLearnt, IsReady, IsRound}
+use Rattle.bt_theory.specs.inner.Goals.{AllFit, GoesOn, IsOfSame, IsPossible, IsGrown, IsTry}
+use Rattle.bt_theory.specs.inner.Rounds.{HasModel, IsEnd, IsReady, IsRound}
 use Rattle.bt_theory.specs.inner.Scopes.{IsConflict, IsConflictIn, IsScopeOf}
 use Rattle.bt_theory.specs.declared.goal.Tried.{Tried}
 use Rattle.bt_theory.specs.declared.goal.Tried.TheVariants as tried
@@ -23,8 +22,6 @@ use Rattle.bt_theory.specs.declared.round.End.{End}
 use Rattle.bt_theory.specs.declared.round.End.TheVariants as end
 use Rattle.bt_cnf.specs.Formulas.{FormulaParts}
 use Rattle.bt_cnf.specs.declared.literal.Lit.{Lit}
-use Rattle.bt_pivot.specs.SolvedForms.{basis_of}
-use Rattle.bt_theory.specs.Reaching.{IsReachable, IsTableauOf}
 use Rattle.bt_theory.proofs.Rounds.{conflict_among, fits_on, learnt_fit, sound_log, used_up}
 use Rattle.bt_pivot.specs.Tableaus.{TableauParts}
 
@@ -70,10 +67,6 @@ module _ (old new : SolverParts) (waiting left : List (Option (List (List Lit)))
       let on = given_on answer.Spent a in
       (on.same, λ _. used_up new a.sound on.fits a.says.1)
 
--- at first nothing has changed
-pub goes_none : (s : SolverParts) → AllFit s → length s.steps ≤ s.limit → GoesOn s s
-goes_none s fits within = record { same = record { formula = refl; limit = refl }; fits = fits; more = omega arith; within = within }
-
 -- a goal is worth another try where the log has grown
 pub grown_try : (pivots : ℕ) (old new : SolverParts) (before now : ℕ) (said : Tried) → GoesOn old new → before ≡ length old.steps → now ≡ length new.steps → IsGrown before now said
     → IsTry pivots old new said
@@ -85,7 +78,7 @@ same_next : (old mid new : SolverParts) → IsOfSame old mid → IsOfSame mid ne
 same_next old mid new was is = record { formula = is.formula ∙ was.formula; limit = is.limit ∙ was.limit }
 
 -- one after the other
-pub goes_next : (old mid new : SolverParts) → GoesOn old mid → GoesOn mid new → GoesOn old new
+goes_next : (old mid new : SolverParts) → GoesOn old mid → GoesOn mid new → GoesOn old new
 goes_next old mid new was is = record {
   same = same_next old mid new was.same is.same;
   fits = is.fits;
@@ -101,31 +94,8 @@ then_try pivots old mid new tried.Again on is =
     (goes_next old mid new on is.0, (let l : length old.steps < length new.steps = omega (arith, first, second) in l))
 then_try pivots old mid new (tried.Ends e) on is = (same_next old mid new on.same is.0, is.1)
 
-pub then_tried : (pivots : ℕ) (old mid new : SolverParts) (said : Option End) → GoesOn old mid → IsTried pivots mid new said → IsTried pivots old new said
-then_tried pivots old mid new None on is = goes_next old mid new on is
-then_tried pivots old mid new (Some e) on is = (same_next old mid new on.same is.0, is.1)
-
 -- the lemma of a conflict under the model that the search keeps was added, or the log is full
 module _ (pivots : ℕ) (s s' : SolverParts) (model : List Bool) (conflict : Conflict) (fits : AllFit s) (has : HasModel s model) (is : IsConflict s.formula model conflict) where
-  pub learnt_again : IsLemmaLearnt s s' conflict None → IsTry pivots s s' tried.Again
-  learnt_again (goes, sound) =
-      let step = Lemma conflict.lits.items conflict.weights.items in
-      let long = ap length goes.steps ∙ length-append s.steps (step ∷ []) in (
-        advances s s' (step ∷ []) goes fits (All-cons (Fits s.formula) step [] is.fits (All-nil (Fits s.formula))) sound.within,
-        (let l : length s.steps < length s'.steps = omega (arith, long) in l),
-      )
-
-  pub learnt_ends : (e : End) → IsLemmaLearnt s s' conflict (Some e) → IsTry pivots s s' (tried.Ends e)
-  learnt_ends end.Spent (same, spent) =
-      subst (λ x. IsTry pivots s x (tried.Ends end.Spent)) (sym same) (record { formula = refl; limit = refl }, λ _. used_up s has.sound fits spent)
-  learnt_ends end.Refuted h = absurd h
-  learnt_ends (end.Sat solution) h = absurd h
-  learnt_ends (end.Pivots trace) h = absurd h
-  learnt_ends (end.Wide wide) h = absurd h
-
--- a conflict whose literals negate atoms that are true in the model is one under it
-pub under_model : (f : FormulaParts) (model : List Bool) (conflict : Conflict) → IsPossible f conflict → AreNegated model conflict.lits.items → IsConflict f model conflict
-under_model f model conflict may negated = record { fits = may.is.fits; counted = may.is.counted; unmet = negated }
 
 -- the conflict that scopes have is one of the formula
 pub possible : (f : FormulaParts) (truths : List Bool) (conflict : Conflict) (scopes : List (List ℕ × List RowParts)) → All (IsScopeOf f) scopes → Any (IsConflictIn truths conflict) scopes → IsPossible f conflict
@@ -133,17 +103,6 @@ possible f truths conflict scopes are found = record { assignment = truths; is =
 
 -- a round that begins when goals were tried
 module _ (b : Base) (old mid : SolverParts) (t : TableauParts) (ready : IsReady b old t) (on : GoesOn old mid) where
-  pub ready_goes : IsReady b mid t
-  ready_goes =
-      let e = sym on.same.formula in
-      record {
-        tableau = subst (λ f. IsTableauOf (base_in b f) t) e ready.tableau;
-        reachable = subst (λ f. IsReachable (base_in b f) (basis_of t.slots)) e ready.reachable;
-        fits = on.fits;
-      }
-
-  pub rounds_goes : (pivots : ℕ) (new : SolverParts) (t' : TableauParts) (e : End) → IsRound pivots b mid new t' (Some e) → IsRound pivots b old new t' (Some e)
-  rounds_goes pivots new t' e round = record { formula = round.formula ∙ on.same.formula; limit = round.limit ∙ on.same.limit; says = round.says }
 
 -- the search is at an end by a goal
 pub goals_end : (pivots : ℕ) (b : Base) (old new : SolverParts) (t : TableauParts) (e : End) → IsOfSame old new × ((b : Base) → IsEnd pivots b new e) → IsRound pivots b old new t (Some e)

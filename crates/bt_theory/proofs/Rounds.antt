@@ -18,8 +18,8 @@ use Rattle.bt_log.specs.Logs.{Step, Lemma, Learnt}
 use Rattle.bt_log.specs.Validity.{NegatesAtom}
 use Rattle.bt_sat.specs.Solving.{SolverParts, KeepsModel, IsLearnt, GoesOnBy, IsSoundLog, IsSpent}
 use Rattle.bt_sat.specs.Answering.{GivesNext}
-use Rattle.bt_sat.specs.declared.solver.Answer.{Answer}
-use Rattle.bt_sat.specs.declared.solver.Answer.TheVariants as answer
+use Rattle.bt_sat.specs.declared.answer.Answer.{Answer}
+use Rattle.bt_sat.specs.declared.answer.Answer.TheVariants as answer
 use Rattle.bt_pivot.specs.SolvedForms.{basis_of}
 use Rattle.bt_simplex.specs.Weights.{weighted_rows}
 use Rattle.bt_pivot.specs.Tableaus.{TableauParts}
@@ -91,20 +91,6 @@ module _ (b : Base) (old new : SolverParts) (t : TableauParts) (waiting left : L
         limit = gives.goes_on.limit;
         says = used_up new gives.sound (ready_next answer.Spent gives).fits gives.says.1;
       }
-
-  -- a round that begins with more steps is one
-  pub round_after : (pivots : ℕ) (a : Answer) (last : SolverParts) (t' : TableauParts) (said : Option End) → GivesNext old waiting new left a → IsRound pivots b new last t' said
-      → IsRound pivots b old last t' said
-  round_after pivots a last t' None gives round =
-      let more = ap length gives.goes_on.steps ∙ length-append old.steps gives.added in
-      let grows = round.says.1 in
-      record {
-        formula = round.formula ∙ gives.goes_on.formula;
-        limit = round.limit ∙ gives.goes_on.limit;
-        says = (round.says.0, (let l : length old.steps < length last.steps = omega (arith, more, grows) in l), round.says.2);
-      }
-  round_after pivots a last t' (Some e) gives round =
-      record { formula = round.formula ∙ gives.goes_on.formula; limit = round.limit ∙ gives.goes_on.limit; says = round.says }
 
 -- the row of a place is that of its atom
 row_at : (f : FormulaParts) (k : ℕ) (d : ℕ × RowParts) → k < length f.atoms → get_or (atom_rows f) k empty_row ≡ (get_or f.atoms k d).1
@@ -182,7 +168,7 @@ all_negate f atoms rows (w ∷ weighed) are h =
     ((refl, are.have w.0 (All-head (λ v. v.0 < length atoms) w weighed h)), all_negate f atoms rows weighed are (All-tail (λ v. v.0 < length atoms) w weighed h))
 
 -- a conflict among atoms of the formula is one of the formula
-pub conflict_is : (f : FormulaParts) (chosen : List Bool) (conflict : Conflict) (atoms : List ℕ) (rows : List RowParts) → AreAtoms f atoms rows → IsConflictIn chosen conflict (atoms, rows)
+conflict_is : (f : FormulaParts) (chosen : List Bool) (conflict : Conflict) (atoms : List ℕ) (rows : List RowParts) → AreAtoms f atoms rows → IsConflictIn chosen conflict (atoms, rows)
     → IsConflict f chosen conflict
 conflict_is f chosen conflict atoms rows are found =
     record {
@@ -245,7 +231,7 @@ module _ (b : Base) (s : SolverParts) (t0 t1 : TableauParts) (chosen : List Bool
 -- ---- its lemma
 
 -- a conflict under the model that the search keeps
-pub model_lemma : (s : SolverParts) (model : List Bool) (conflict : Conflict) → s.status ≡ KeepsModel model → IsConflict s.formula model conflict → MakesLemma s conflict
+model_lemma : (s : SolverParts) (model : List Bool) (conflict : Conflict) → s.status ≡ KeepsModel model → IsConflict s.formula model conflict → MakesLemma s conflict
 model_lemma s model conflict keeps is low =
     record {
       model = model;

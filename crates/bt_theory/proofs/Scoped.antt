@@ -9,15 +9,9 @@ use Rattle.std.proofs.lemmas.List.Elements.{Contains-get_or}
 use Rattle.std.proofs.lemmas.Option.{IfSome_then}
 use Rattle.bt_frac.specs.Ratio.{Ratio}
 use Rattle.bt_frac.specs.Rows.{RowParts, IsRowOf}
-use Rattle.bt_frac.specs.declared.row.Relation.{Relation}
+use Rattle.bt_frac.specs.declared.relation.Relation.{Relation}
 use Rattle.bt_lin.specs.WeightedRows.{empty_row}
 use Rattle.bt_cnf.specs.Formulas.{FormulaParts}
-use Rattle.bt_pivot.specs.Tableaus.{TableauParts}
-use Rattle.bt_simplex.specs.Pivots.{Follows}
-use Rattle.bt_simplex.specs.Checks.{IsCheck}
-use Rattle.bt_pivot.specs.declared.basis.Pivot.{Pivot}
-use Rattle.bt_simplex.specs.declared.answers.Check.{Check}
-use Rattle.bt_simplex.specs.declared.answers.Check.TheVariants as check
 use Rattle.bt_theory.specs.Reaching.{atom_rows, atom_vars}
 use Rattle.bt_theory.specs.inner.Scopes.{AreAtoms, IsPaired, IsConflictIn, parts_of}
 use Rattle.bt_theory.specs.declared.lemma.Conflict.{Conflict}
@@ -45,22 +39,6 @@ atoms_more f atoms rows v r are at =
                 (subst (λ y. Contains f.atoms (v, y)) (sym (get_or_push rows r empty_row k (sym are.paired ∙ here))) at)
           ];
     }
-
-contains_row : (f : FormulaParts) (a : ℕ × RowParts) → Contains f.atoms a → Contains (atom_rows f) a.1
-contains_row f a (k, l, at) =
-    (k, (let long = length-map f.atoms (λ (x : ℕ × RowParts). x.1) in omega (arith, l, long)), get_or-map (λ (x : ℕ × RowParts). x.1) f.atoms k a a.1 l ∙ ap (λ (x : ℕ × RowParts). x.1) at)
-
--- pivots change no row
-rows_stay : (steps : List Pivot) (t t' : TableauParts) → Follows t steps t' → t'.rows ≡ t.rows
-rows_stay [] t t' e = ap (λ (x : TableauParts). x.rows) (sym e)
-rows_stay (pivot ∷ steps) t t' (between, bland, pivoted, rest) = rows_stay steps between t' rest ∙ ap (λ (x : TableauParts). x.rows) pivoted.stays
-
--- nor does a check
-pub check_rows : (pivots : ℕ) (t t' : TableauParts) (said : Check) → IsCheck pivots t t' said → t'.rows ≡ t.rows
-check_rows pivots t t' (check.Sat values) h = rows_stay h.0.steps t t' h.0.follows
-check_rows pivots t t' (check.Unsat weights) h = rows_stay h.0.steps t t' h.0.follows
-check_rows pivots t t' (check.Pivots trace) h = ap (λ (x : TableauParts). x.rows) h.0
-check_rows pivots t t' (check.Wide wide) h = ap (λ (x : TableauParts). x.rows) h.0
 
 -- the parts of a list are the same after one of it is replaced by one of the same part
 pub map_same : {A B : Type 0} (g : A → B) (xs : List A) (i : ℕ) (old new : A) → get_or xs i old ≡ old → g new ≡ g old → map g (set xs i new) ≡ map g xs

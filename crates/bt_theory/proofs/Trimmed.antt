@@ -9,9 +9,9 @@ use Rattle.bt_cnf.specs.Formulas.{FormulaParts}
 use Rattle.bt_cnf.specs.Meeting.{MeetsClause}
 use Rattle.bt_cnf.specs.declared.literal.Lit.{Lit}
 use Rattle.bt_log.specs.Logs.{Step, Lemma, Learnt, LogParts, clause_of}
-use Rattle.bt_trim.specs.Trimming.{IsRenumbered, IsTrimmed, step_at}
-use Rattle.bt_trim.proofs.Left.{comes_before, is_short, left_at, place_of, same_clause}
-use Rattle.bt_trim.proofs.Valid.{before, trimmed_ends, trimmed_valid}
+use Rattle.bt_log.specs.Trimming.{IsRenumbered, IsTrimmed, step_at}
+use Rattle.bt_log.proofs.Left.{comes_before, is_short, left_at, place_of, same_clause}
+use Rattle.bt_log.proofs.Valid.{before, trimmed_ends, trimmed_valid}
 use Rattle.bt_watch.specs.Propagation.{begins, goes_on, MakesTrue, MeetsFalse, Reaches}
 use Rattle.bt_sat.specs.Freshness.{IsFreshLearnt, IsFreshStep, IsOpen}
 use Rattle.bt_sat.specs.Solving.{AreFresh, AreNonempty}

@@ -17,7 +17,7 @@ use Rattle.bt_log.specs.Refuting.{Refutes}
 use Rattle.bt_sat.specs.Freshness.{IsFreshStep}
 use Rattle.bt_sat.specs.Solving.{AreFresh, AreNonempty}
 use Rattle.bt_cnf.specs.declared.limits.Limits.{Limits}
-use Rattle.bt_trim.specs.Trimming.{IsTightOver}
+use Rattle.bt_log.specs.Trimming.{IsTightOver}
 use Rattle.bt_theory.specs.declared.outcome.Outcome.{Outcome}
 use Rattle.bt_theory.specs.declared.outcome.Outcome.TheVariants as outcome
 use Rattle.bt_theory.specs.declared.outcome.Solution.{Solution}

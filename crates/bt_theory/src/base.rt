@@ -1,8 +1,8 @@
 //! What stands in a formula before the definitions that extend it.
 ghost use Rattle.std.specs.Prelude.{◌≡◌, IfOk};
+ghost use Rattle.bt_theory.specs.Reaching.{atom_vars};
 ghost use Rattle.bt_theory.specs.inner.Bases.{IsWhole};
 
-use crate::binding::atoms_of;
 use bt_cnf::{Formula, Var};
 use std::alloc::{AllocError, Global};
 
@@ -26,6 +26,22 @@ impl Base {
     {
         &self.atoms
     }
+}
+
+/// The variables of the atoms, in the order of their rows.
+pub fn atoms_of(alloc: Global, formula: &Formula) -> Result<Vec<Var>, AllocError>
+    ensures { IfOk result (λ atoms. atoms.items ≡ atom_vars formula.now) }
+{
+    let mut atoms = Vec::new(alloc);
+    for place in 0..formula.vars() {
+        let Some(var) = formula.var_at(place) else {
+            unreachable!()
+        };
+        if formula.row_of(var).is_some() {
+            atoms.push(var)?;
+        }
+    }
+    Ok(atoms)
 }
 
 /// That is all of a formula, before it is extended.

@@ -1,7 +1,7 @@
 //! The tableau of a formula's rows, and which of them are bound.
 ghost use Rattle.std.specs.Prelude.{◌≡◌, length, map, IfOk};
 ghost use Rattle.bt_cnf.specs.Assignments.{truth_in};
-ghost use Rattle.bt_theory.specs.Reaching.{atom_rows, atom_vars};
+ghost use Rattle.bt_theory.specs.Reaching.{atom_rows};
 ghost use Rattle.bt_theory.specs.inner.Bases.{IsBase, base_in};
 ghost use Rattle.bt_theory.specs.inner.Rounds.{IsFirst};
 
@@ -10,22 +10,6 @@ use bt_cnf::{Formula, Var, is_true};
 use bt_frac::Row;
 use bt_simplex::Tableau;
 use std::alloc::{AllocError, Global};
-
-/// The variables of the atoms, in the order of their rows.
-pub fn atoms_of(alloc: Global, formula: &Formula) -> Result<Vec<Var>, AllocError>
-    ensures { IfOk result (λ atoms. atoms.items ≡ atom_vars formula.now) }
-{
-    let mut atoms = Vec::new(alloc);
-    for place in 0..formula.vars() {
-        let Some(var) = formula.var_at(place) else {
-            unreachable!()
-        };
-        if formula.row_of(var).is_some() {
-            atoms.push(var)?;
-        }
-    }
-    Ok(atoms)
-}
 
 /// The rows that stand before the formula's definitions.
 #[tactic(auto, using(crate::proofs::Bases::base_rows))]

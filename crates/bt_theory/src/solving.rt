@@ -7,18 +7,17 @@ ghost use Rattle.bt_theory.specs.inner.Bases.{IsBase, base_in};
 ghost use Rattle.bt_theory.specs.inner.Scopes.{IsScopeOf, parts_of};
 ghost use Rattle.bt_theory.specs.inner.Rounds.{AreTablesOf, IsReady, IsRound, IsTrimmedTo, Tells};
 
-use crate::base::{Base, base_of};
-use crate::binding::{atoms_of, tableau_of};
+use crate::base::{Base, atoms_of, base_of};
+use crate::binding::tableau_of;
 use crate::goal::try_goals;
 use crate::outcome::{GaveUp, Outcome, Solution};
 use crate::round::{End, round};
 use crate::scope::{Scope, scopes_of};
 use bt_cnf::{Chooser, Formula, Limits};
 use bt_extend::{Definition, Goal, extend_all};
-use bt_log::Log;
+use bt_log::{Log, trimmed};
 use bt_sat::Solver;
 use bt_simplex::Tableau;
-use bt_trim::trimmed;
 use std::alloc::{AllocError, Global};
 
 /// Decides a formula within limits, with the help of definitions.

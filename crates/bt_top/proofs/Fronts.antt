@@ -9,7 +9,7 @@ use Rattle.std.specs.declared.option.Option.{Option}
 use Rattle.std.specs.declared.alloc.AllocError.{AllocError}
 use Rattle.std.specs.Io.KnownBytes.{Consumes, IsAtEnd}
 use Rattle.std.proofs.KnownBytes.{Consumes-nil}
-use Rattle.bt_answers.specs.Answers.{UnlessMemory}
+use Rattle.bt_text.specs.Answers.{UnlessMemory}
 use Rattle.bt_text.specs.Blanks.{IsBlank, SkipsBlanks}
 use Rattle.bt_text.specs.Lines.{Lacks, IsFirstLine}
 use Rattle.bt_text.specs.Pieces.{CutsAt}
@@ -39,7 +39,7 @@ use Rattle.bt_designs.specs.declared.fault.DesignFault.TheVariants as design
 use Rattle.bt_designs.specs.declared.refusal.Refusal.{Refusal}
 use Rattle.bt_top.specs.declared.front.Front.{Front}
 use Rattle.bt_top.specs.declared.front.Front.TheVariants as front
-use Rattle.bt_top.specs.declared.front.Steps.{Steps}
+use Rattle.bt_top.specs.declared.front.WrittenSteps.{WrittenSteps}
 use Rattle.bt_designs.specs.declared.held.Held.{Held}
 use Rattle.bt_designs.specs.declared.held.TheConstants.{MOST_CHECKED}
 use Rattle.bt_top.specs.Certificates.{cert_told}
@@ -191,18 +191,9 @@ left_weaker P Q limit source (Err fault) more h = h
 pub nothing_left : {S : Type 0} (left : S → Option (List ℕ)) (faults : S → ℕ) (s : S) (limit : ℕ) → IsAtEnd (left s) → ReadsAll limit (passage left faults s s) (Ok [])
 nothing_left left faults s limit end = record { read = ((Consumes-nil (left s), end), omega arith); count = omega arith }
 
-pub nothing_taken : {S : Type 0} (left : S → Option (List ℕ)) (faults : S → ℕ) (s : S) (limit : ℕ) → ReadsAll limit (passage left faults s s) (Err Memory)
-nothing_taken left faults s limit = record { read = ([], Consumes-nil (left s), omega arith); count = omega arith }
-
 -- where the input goes on, anything may follow
 pub goes_on : (ended : Bool) (more : List ℕ) → ended ≡ false → MayFollow ended more
 goes_on ended more goes e = absurd (let same : true ≡ false = sym e ∙ goes in cc)
-
--- the answer to what was held, and to what may follow of which nothing is left
-pub held_left : {S : Type 0} (left : S → Option (List ℕ)) (faults : S → ℕ) (s : S) (ended : Bool) (Right : List ℕ → Reply → Type 0) (limit : ℕ) (result : Result Answer ReadAll)
-    → IsAtEnd (left s) → IfOk result (λ a. Right [] (Ok a)) → IfErr result (λ fault. fault ≡ Memory) → AnswersRest ended Right limit (passage left faults s s) result
-held_left left faults s ended Right limit (Ok a) end right memory = ([], nothing_left left faults s limit end, ((λ e. refl), right))
-held_left left faults s ended Right limit (Err fault) end right memory = subst (λ f. ReadsAll limit (passage left faults s s) (Err f)) (sym memory) (nothing_taken left faults s limit)
 
 -- the answer to all that a source has left is that to what may follow, where the input goes on
 pub rest_of : (ended : Bool) (Right : List ℕ → Reply → Type 0) (limit : ℕ) (source : Passage) (result : Result Answer ReadAll) → ended ≡ false → AnswersLeft Right limit source result → AnswersRest ended Right limit source result
@@ -217,13 +208,9 @@ text_answered Right text front back e (Err fault) h = tt
 pub rest_left : (ended : Bool) (Right : List ℕ → Reply → Type 0) (limit : ℕ) (source : Passage) (more : List ℕ) (a : Answer) → ReadsRest ended limit source (Ok more) → Right more (Ok a) → AnswersRest ended Right limit source (Ok a)
 rest_left ended Right limit source more a h right = (more, h.1, (h.0, right))
 
--- want of memory after it was read
-pub memory_left : (ended : Bool) (Right : List ℕ → Reply → Type 0) (limit : ℕ) (source : Passage) (more : List ℕ) → ReadsRest ended limit source (Ok more) → AnswersRest ended Right limit source (Err Memory)
-memory_left ended Right limit source more h = record { read = (more, h.1.read.0.0, h.1.read.1); count = h.1.count }
-
 -- ---- steps
 
-module _ (steps : Steps) where
+module _ (steps : WrittenSteps) where
   not_memory : (fault : CertFault) (lines : List ℕ) → (fault ≡ cert.Memory → ⊥) → UnlessMemory cert.Memory (IsCertRead steps.formula lines) (Err fault) → IsCertRead steps.formula lines (Err fault)
   not_memory fault lines other (inl h) = h
   not_memory fault lines other (inr e) = absurd (other e)
@@ -270,9 +257,6 @@ pub known_left : (ended : Bool) (a : Answer) (limit : ℕ) (source : Passage) (d
     → AnswersRest ended (λ more reply. reply ≡ Ok a) limit source (result_and drained (Ok a))
 known_left ended a limit source (Ok done) (more, h) = (more, h.1, (h.0, refl))
 known_left ended a limit source (Err fault) (more, h) = h
-
-pub known_unread : (ended : Bool) (a : Answer) (limit : ℕ) (source : Passage) (fault : ReadAll) → DrainsRest ended limit source (Err fault) → AnswersRest ended (λ more reply. reply ≡ Ok a) limit source (Err fault)
-known_unread ended a limit source fault (more, h) = h
 
 -- what may follow, where the input goes on
 pub drained : (ended : Bool) (limit : ℕ) (source : Passage) (result : Result (Unit {0}) ReadAll) → ended ≡ false → Drains limit source result → DrainsRest ended limit source result

@@ -1,5 +1,5 @@
 -- What is read of a source that tells its bytes.
-use Rattle.std.proofs.Common.{◌≡◌, ℕ, ◌+◌, ◌≤◌, List, length, Ok, Err, Some, sym, ◌∙◌, subst, arith}
+use Rattle.std.proofs.Common.{◌≡◌, ℕ, ◌+◌, ◌≤◌, List, length, Ok, Err, Some, sym, ◌∙◌, arith}
 use Rattle.bt_io.specs.Bytes.{ReadsAll}
 use Rattle.bt_io.specs.Passages.{Passage}
 use Rattle.bt_io.specs.declared.fault.ReadAll.TheVariants.{TooLong, Memory}
@@ -68,23 +68,3 @@ not_too_long (PlaceFormula rect tier) source bytes is r = few_in (input_limit (P
 not_too_long (Same limits) source bytes is r = few_in (input_limit (Same limits)) source bytes is.0 is.1 r
 not_too_long (Build wish inputs outputs limits text) source bytes is r = r
 not_too_long CheckSame source bytes is r = few_in (input_limit CheckSame) source bytes is.0 is.1 r
-
-within_in : (limit : ℕ) (source : Passage) (bytes : List ℕ) → ReadsAll limit source (Ok bytes) → length bytes ≤ limit
-within_in limit source bytes r = r.read.1
-
--- what was read is no more than the command reads
-pub within_limit : (command : Command) (source : Passage) (bytes : List ℕ) → ReadsInput command source (Ok bytes) → length bytes ≤ input_limit command
-within_limit (FlowCheck p) source bytes r = within_in (input_limit (FlowCheck p)) source bytes r
-within_limit Recover source bytes r = within_in (input_limit Recover) source bytes r
-within_limit (Check p) source bytes r = within_in (input_limit (Check p)) source bytes r
-within_limit (Decide p limits) source bytes r = within_in (input_limit (Decide p limits)) source bytes r
-within_limit (Make family order limits) source bytes r = subst (λ xs. length xs ≤ 0) (sym r.1) (omega arith)
-within_limit (Build wish inputs outputs limits text) source bytes r = subst (λ xs. length xs ≤ 0) (sym r.1) (omega arith)
-within_limit (Layout rect tier learnt) source bytes r = within_in (input_limit (Layout rect tier learnt)) source bytes r
-within_limit (CheckLayout rect tier) source bytes r = within_in (input_limit (CheckLayout rect tier)) source bytes r
-within_limit (Smallest first most tier learnt) source bytes r = within_in (input_limit (Smallest first most tier learnt)) source bytes r
-within_limit (FindSmall most tier sides learnt) source bytes r = within_in (input_limit (FindSmall most tier sides learnt)) source bytes r
-within_limit (FlowFormula p) source bytes r = within_in (input_limit (FlowFormula p)) source bytes r
-within_limit (PlaceFormula rect tier) source bytes r = within_in (input_limit (PlaceFormula rect tier)) source bytes r
-within_limit (Same limits) source bytes r = within_in (input_limit (Same limits)) source bytes r
-within_limit CheckSame source bytes r = within_in (input_limit CheckSame) source bytes r

@@ -1,40 +1,27 @@
 -- What the steps of a certificate that no layout lays a request are answered.
-use Rattle.std.proofs.Common.{◌≡◌, ℕ, List, [], ◌∷◌, Ok, Err, inl, inr, refl, alloc_error, arith}
+use Rattle.std.proofs.Common.{◌≡◌, ℕ, List, [], ◌∷◌, Ok, inl, inr, refl, arith}
 use Rattle.std.proofs.lemmas.List.{append_assoc}
 use Rattle.std.proofs.lemmas.List.Elements.{All-nil, All-cons}
 use Rattle.bt_text.specs.Blanks.{IsBlank, SkipsBlanks}
 use Rattle.bt_text.proofs.Lacking.{lacks}
 use Rattle.bt_log.specs.Logs.{Step}
 use Rattle.bt_log.specs.LogText.{log_text}
-use Rattle.bt_answers.specs.Answers.{UnlessMemory}
-use Rattle.bt_cert.specs.declared.fault.CertFault.{CertFault}
-use Rattle.bt_cert.specs.declared.fault.CertFault.TheVariants.{Memory}
 use Rattle.bt_cert.specs.Certificates.{IsCertRead}
 use Rattle.bt_cert.proofs.OneAnswer.{certificate_shows_unmet}
 use Rattle.bt_model.specs.Requests.{LayoutRequest, IsRequest}
 use Rattle.bt_place.specs.PlaceFormula.{place_formula}
-use Rattle.bt_layout.specs.Layouts.{HasNoLayout}
 use Rattle.bt_layout.proofs.Certified.{nowhere_is_certificate}
 use Rattle.bt_layout.proofs.Formulas.{place_is_formula}
 use Rattle.bt_layout.proofs.Refuted.{unmet_has_no_layout}
 use Rattle.bt_replies.specs.declared.answer.Answer.TheVariants as answer
 use Rattle.bt_replies.specs.declared.answer.Brief.TheVariants as brief
-use Rattle.bt_replies.specs.Replies.{Reply}
-use Rattle.bt_top.specs.Certificates.{cert_told}
 use Rattle.bt_top.specs.NoneCertificates.{IsNoneChecked, SaysNone, NoneIsAccepted}
 use Rattle.bt_replies.specs.Answers.{none_word, nowhere_text}
 use Rattle.bt_designs.specs.Steps.{went_on}
-use Rattle.bt_designs.proofs.InTurns.{stops}
 
 -- a certificate that is one shows that no parts lay the request
 pub none_told : (r : LayoutRequest) (lines : List ℕ) → IsRequest r → IsCertRead (place_formula r) lines (Ok tt) → IsNoneChecked r lines (Ok (answer.Brief brief.NoLayout))
 none_told r lines is h = went_on tt h (unmet_has_no_layout r is (certificate_shows_unmet (place_formula r) lines (place_is_formula r is) h), refl)
-
--- and else the first line for which it is none is told
-pub none_fault_told : (r : LayoutRequest) (lines : List ℕ) (fault : CertFault) (reply : Reply)
-    → UnlessMemory Memory (IsCertRead (place_formula r) lines) (Err fault) → reply ≡ cert_told fault → UnlessMemory alloc_error (IsNoneChecked r lines) reply
-none_fault_told r lines fault reply h e =
-    stops Memory alloc_error (IsCertRead (place_formula r) lines) cert_told (λ done reply. HasNoLayout r × (reply ≡ Ok (answer.Brief brief.NoLayout))) fault reply refl h e
 
 -- ---- what `layout` writes
 

@@ -1,12 +1,12 @@
 -- A command has one answer to the bytes of its input.
 use Rattle.std.proofs.Common.{◌≡◌, ◌≢◌, ℕ, List, Option, drop, inl, inr, ap, sym, subst, ◌∙◌, Result, Ok, Err, arith}
-use Rattle.bt_answers.specs.Answers.{HasOneAnswer}
+use Rattle.bt_text.specs.Answers.{HasOneAnswer}
 use Rattle.bt_text.proofs.FirstLines.{IsFirstLine-unique}
 use Rattle.bt_net.specs.Network.{Network, IsNetwork}
 use Rattle.bt_fenc.specs.FlowFormula.{flow_formula}
 use Rattle.bt_fenc.proofs.Formulas.{is_formula}
 use Rattle.std.specs.Global.{Vec}
-use Rattle.bt_hands.specs.declared.hand.Priority.{Priority}
+use Rattle.bt_parts.specs.declared.hand.Priority.{Priority}
 use Rattle.bt_cert.specs.Certificates.{IsCertRead}
 use Rattle.bt_parts.specs.declared.part.Rect.{Rect}
 use Rattle.bt_parts.specs.declared.part.Tier.{Tier}

@@ -6,7 +6,7 @@ use Rattle.std.specs.declared.option.Option.{Option}
 use Rattle.std.proofs.lemmas.List.{append_assoc, append-nil}
 use Rattle.std.proofs.lemmas.List.Elements.{All-nil, All-cons, All-head, All-tail}
 use Rattle.std.specs.Global.{Vec}
-use Rattle.bt_hands.specs.declared.hand.Priority.{Priority}
+use Rattle.bt_parts.specs.declared.hand.Priority.{Priority}
 use Rattle.bt_net.specs.declared.network.Admitted.TheVariants.{Sides}
 use Rattle.bt_parts.specs.declared.part.Rect.{Rect}
 use Rattle.bt_parts.specs.declared.part.Tier.{Tier}
@@ -20,7 +20,7 @@ use Rattle.bt_grids.specs.Asked.{NamesNoCells, request_on}
 use Rattle.bt_layout.specs.Smallest.{IsRuledOut, IsSmallest, grids_of}
 use Rattle.bt_grids.specs.SmallestText.{nowhere_text, earlier_text, from_line, grid_line, spent_on_text}
 use Rattle.bt_layout.proofs.Passing.{asked_on}
-use Rattle.bt_write.specs.Written.{blueprint_text}
+use Rattle.bt_entities.specs.Written.{blueprint_text}
 use Rattle.bt_replies.specs.declared.answer.Answer.TheVariants as answer
 use Rattle.bt_designs.specs.Alone.{IsAlone}
 use Rattle.bt_replies.specs.Answers.{text_of}

@@ -1,16 +1,14 @@
 -- What `check-same` answers is one answer, and what its steps are answered.
-use Rattle.std.proofs.Common.{◌≡◌, ℕ, List, Ok, Err, drop, inl, inr, refl, ap, sym, subst, ◌∙◌, alloc_error}
-use Rattle.bt_answers.specs.Answers.{UnlessMemory, HasOneAnswer}
+use Rattle.std.proofs.Common.{ℕ, List, Ok, drop, inl, inr, refl, ap, sym, subst, ◌∙◌}
+use Rattle.bt_text.specs.Answers.{HasOneAnswer}
 use Rattle.bt_text.proofs.FirstLines.{IsFirstLine-unique}
 use Rattle.bt_net.specs.Network.{Network, IsNetwork}
-use Rattle.bt_cert.specs.declared.fault.CertFault.{CertFault}
-use Rattle.bt_cert.specs.declared.fault.CertFault.TheVariants.{Memory}
 use Rattle.bt_cert.specs.Certificates.{IsCertRead}
 use Rattle.bt_cert.proofs.OneAnswer.{certificate_shows_unmet, one_answer}
 use Rattle.bt_same.specs.declared.pair.Pair.{Pair}
 use Rattle.bt_same.specs.PairReading.{IsPairRead}
 use Rattle.bt_same.specs.SameFormula.{same_formula}
-use Rattle.bt_same.specs.Sameness.{HaveEqualEnds, AreSame}
+use Rattle.bt_same.specs.Sameness.{HaveEqualEnds}
 use Rattle.bt_same.proofs.Formed.{formed}
 use Rattle.bt_same.proofs.Judged.{one_pair_answer}
 use Rattle.bt_same.proofs.PairTexts.{one_pair_read}
@@ -18,14 +16,14 @@ use Rattle.bt_same.proofs.Refuted.{unmet_are_same}
 use Rattle.bt_replies.specs.declared.answer.Answer.TheVariants as answer
 use Rattle.bt_replies.specs.declared.answer.Brief.TheVariants as brief
 use Rattle.bt_top.specs.Certificates.{cert_told}
-use Rattle.bt_replies.specs.Replies.{Reply, design_told}
+use Rattle.bt_replies.specs.Replies.{design_told}
 use Rattle.bt_top.specs.SameCertificates.{IsSameChecked, pair_verdict, IsPairJudged, IsPairTextJudged, IsSameTextChecked, IsSameCertificateChecked, IsSameCertified}
 use Rattle.bt_top.specs.States.{state_told}
 use Rattle.bt_designs.specs.Steps.{went_on}
 use Rattle.bt_designs.specs.TwoDesigns.{IsFrontNets}
 use Rattle.bt_designs.proofs.BareNets.{front_networks}
 use Rattle.bt_designs.proofs.Blanks.{one_rest}
-use Rattle.bt_designs.proofs.InTurns.{one_in_turn, one_in_turn_of, stops}
+use Rattle.bt_designs.proofs.InTurns.{one_in_turn, one_in_turn_of}
 use Rattle.bt_designs.proofs.OnePair.{one_front_nets}
 
 -- two networks
@@ -64,9 +62,3 @@ one_same_certified bytes =
 pub same_shown : (a b : Network) (lines : List ℕ) → IsNetwork a → IsNetwork b → HaveEqualEnds a b → IsCertRead (same_formula a b) lines (Ok tt)
     → IsSameChecked (a, b) lines (Ok (answer.Brief brief.ShownSame))
 same_shown a b lines first second ends h = went_on tt h (unmet_are_same a b first second ends (certificate_shows_unmet (same_formula a b) lines (formed a b first second) h), refl)
-
--- and else the first line for which it is none is told
-pub same_fault_told : (a b : Network) (lines : List ℕ) (fault : CertFault) (reply : Reply)
-    → UnlessMemory Memory (IsCertRead (same_formula a b) lines) (Err fault) → reply ≡ cert_told fault → UnlessMemory alloc_error (IsSameChecked (a, b) lines) reply
-same_fault_told a b lines fault reply h e =
-    stops Memory alloc_error (IsCertRead (same_formula a b) lines) cert_told (λ done reply. AreSame a b × (reply ≡ Ok (answer.Brief brief.ShownSame))) fault reply refl h e

@@ -17,7 +17,7 @@ use Rattle.bt_replies.specs.declared.answer.Answer.TheVariants as answer
 use Rattle.bt_replies.specs.declared.answer.Brief.TheVariants as brief
 use Rattle.bt_designs.specs.declared.fault.DesignFault.TheVariants.{Refused}
 use Rattle.bt_top.specs.declared.front.Front.TheVariants as front
-use Rattle.bt_top.specs.declared.front.Steps.{Steps}
+use Rattle.bt_top.specs.declared.front.WrittenSteps.{WrittenSteps}
 use Rattle.bt_top.specs.declared.front.WrittenPair.{WrittenPair}
 use Rattle.bt_designs.specs.declared.refusal.Refusal.{Refusal}
 use Rattle.bt_designs.specs.Designs.{IsBareDesign}
@@ -82,7 +82,7 @@ module _ (a b : Network) (ended : Bool) (text title lines : List ℕ) (told : Te
   steps_reply left right ends all (Ok done) h = same_shown a b all left right ends h
   steps_reply left right ends all (Err fault) h = stopped fault h refl
 
-  pub same_is_front : IsNetwork a × IsNetwork b → HaveEqualEnds a b → title ≡ codes "same" → (steps : Steps) → steps.formula ≡ same_formula a b → steps.lines.now ≡ lines → steps.accepted ≡ brief.ShownSame
+  pub same_is_front : IsNetwork a × IsNetwork b → HaveEqualEnds a b → title ≡ codes "same" → (steps : WrittenSteps) → steps.formula ≡ same_formula a b → steps.lines.now ≡ lines → steps.accepted ≡ brief.ShownSame
       → IsFrontOf (IsSameTextChecked nets) ended text (front.Steps steps)
   same_is_front are ends says_so steps formula same accepted = (tt, λ more reply may h. by more reply may h.0 h.1 h.2)
     where

@@ -1,7 +1,7 @@
 -- What `build` answers.
 use Rattle.std.specs.Prelude.{◌≡◌, ℕ, ◌⊎◌, Ok}
 use Rattle.bt_net.specs.Network.{Network}
-use Rattle.bt_wish.specs.declared.wish.Wish.{Wish}
+use Rattle.bt_gen.specs.declared.wish.Wish.{Wish}
 use Rattle.bt_decide.specs.Building.{IsBuilt}
 use Rattle.bt_words.specs.declared.command.BuiltText.{BuiltText}
 use Rattle.bt_replies.specs.declared.answer.Answer.TheVariants as answer

@@ -1,13 +1,13 @@
 -- What `smallest --found` answers.
 use Rattle.std.specs.Prelude.{◌≡◌, ℕ, ◌⊎◌, List, [], unwrap_or, Option, Some, None, Result, Ok}
 use Rattle.std.specs.Global.{Vec}
-use Rattle.bt_hands.specs.declared.hand.Priority.{Priority}
+use Rattle.bt_parts.specs.declared.hand.Priority.{Priority}
 use Rattle.bt_parts.specs.declared.part.Part.{Part}
 use Rattle.bt_parts.specs.declared.part.Rect.{Rect}
 use Rattle.bt_parts.specs.declared.part.Tier.{Tier}
 use Rattle.bt_model.specs.Laying.{LaysPreferring}
 use Rattle.bt_model.specs.Requests.{LayoutRequest}
-use Rattle.bt_write.specs.ReadBack.{IsReadBack}
+use Rattle.bt_entities.specs.ReadBack.{IsReadBack}
 use Rattle.bt_grids.specs.declared.outcome.Small.{Small}
 use Rattle.bt_grids.specs.declared.outcome.Small.TheVariants.{Found, Spent}
 use Rattle.bt_grids.specs.Spanned.{IsSpanned}
@@ -48,20 +48,20 @@ IsOwn bytes None = IsJsonText bytes → ⊥
 IsOwn bytes (Some cells) = (parts : List Part) × AreDrawn bytes parts × IsSpanned cells parts
 
 -- the blueprint that is written of the parts is read as these parts with these priorities
-abbrev pub IsFoundAgain : Small → List Priority → Type 0
-IsFoundAgain (Found grid parts) priorities = IsReadBack parts.items priorities
-IsFoundAgain (Spent steps) priorities = Unit {0}
+abbrev pub IsSmallFoundAgain : Small → List Priority → Type 0
+IsSmallFoundAgain (Found grid parts) priorities = IsReadBack parts.items priorities
+IsSmallFoundAgain (Spent steps) priorities = Unit {0}
 
 -- the parts lay the request on their grid with these priorities, and so with what its splitters prefer; where none are
 -- found there are no priorities
-abbrev pub IsPreferred : LayoutRequest → Small → List Priority → Type 0
-IsPreferred r (Found grid parts) priorities = LaysPreferring parts.items priorities (request_on r grid)
-IsPreferred r (Spent steps) priorities = priorities ≡ []
+abbrev pub IsSmallPreferred : LayoutRequest → Small → List Priority → Type 0
+IsSmallPreferred r (Found grid parts) priorities = LaysPreferring parts.items priorities (request_on r grid)
+IsSmallPreferred r (Spent steps) priorities = priorities ≡ []
 
 -- what is answered to what looking for small grids comes to: it, with priorities of the parts that are found
 abbrev pub IsSmallTold : LayoutRequest → Small → Reply → Type 0
 IsSmallTold r small reply =
-    (priorities : Vec Priority) × IsPreferred r small priorities.items × IsFoundAgain small priorities.items × (reply ≡ Ok (answer.Small small priorities))
+    (priorities : Vec Priority) × IsSmallPreferred r small priorities.items × IsSmallFoundAgain small priorities.items × (reply ≡ Ok (answer.Small small priorities))
 
 -- what is answered to a request on the greatest grid, where the number of cells of a design that is laid out is given: a
 -- grid that may be asked, which is within that one and has fewer, and parts that lay the request there, whose blueprint

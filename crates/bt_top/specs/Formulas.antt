@@ -17,12 +17,12 @@ use Rattle.bt_designs.specs.Requested.{IsLoneRequest}
 use Rattle.bt_designs.specs.Steps.{InTurn}
 
 -- the columns of a network's flow formulas
-abbrev pub columns_of : Network → Columns
-columns_of n = record { edges = length n.edges; inputs = n.inputs; outputs = n.outputs }
+abbrev pub flow_columns : Network → Columns
+flow_columns n = record { edges = length n.edges; inputs = n.inputs; outputs = n.outputs }
 
 -- what is answered to a network and a property: their flow formula
 abbrev pub flow_formula_told : Property → Network → Answer
-flow_formula_told p n = answer.FlowFormula (columns_of n) (flow_formula n p)
+flow_formula_told p n = answer.FlowFormula (flow_columns n) (flow_formula n p)
 
 -- what is answered to a request that has a formula: its placement formula, and where the blocks of its variables begin
 abbrev pub place_formula_told : LayoutRequest → Answer

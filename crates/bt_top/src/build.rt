@@ -1,11 +1,11 @@
 //! `build`: a network for a wish.
 ghost use Rattle.std.specs.Prelude.{alloc_error};
-ghost use Rattle.bt_answers.specs.Answers.{UnlessMemory};
+ghost use Rattle.bt_text.specs.Answers.{UnlessMemory};
 ghost use Rattle.bt_top.specs.Building.{IsBuiltFor};
 
 use bt_cnf::Limits;
 use bt_replies::Answer;
-use bt_wish::Wish;
+use bt_gen::Wish;
 use bt_words::BuiltText;
 use std::alloc::{AllocError, Global};
 

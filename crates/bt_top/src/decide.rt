@@ -1,6 +1,6 @@
 //! `decide`: whether the network of a design has a property, with the evidence.
 ghost use Rattle.std.specs.Prelude.{◌≡◌, alloc_error};
-ghost use Rattle.bt_answers.specs.Answers.{UnlessMemory};
+ghost use Rattle.bt_text.specs.Answers.{UnlessMemory};
 ghost use Rattle.bt_top.specs.Deciding.{IsDecided, IsDecidedFrom, verdict_told};
 
 use bt_cnf::{Chooser, Limits};

@@ -1,6 +1,6 @@
 //! `flow-check`: whether the state that is written behind a design breaks a property.
 ghost use Rattle.std.specs.Prelude.{◌≡◌, Ok, alloc_error};
-ghost use Rattle.bt_answers.specs.Answers.{UnlessMemory};
+ghost use Rattle.bt_text.specs.Answers.{UnlessMemory};
 ghost use Rattle.bt_flow.specs.States.{Fits};
 ghost use Rattle.bt_top.specs.States.{IsFlowChecked, IsStateChecked, IsStateJudged, IsJudged, state_told};
 

@@ -6,7 +6,7 @@ ghost use Rattle.bt_top.specs.Certificates.{IsCertificateChecked, IsChecked, IsT
 ghost use Rattle.bt_designs.specs.Told.{TellsLine};
 ghost use Rattle.bt_top.specs.inner.Fronts.{GivesFront, GivesHeldFront};
 
-use crate::front::{Front, Steps, WrittenState, known_refusal};
+use crate::front::{Front, WrittenState, WrittenSteps, known_refusal};
 use bt_designs::{Held, told_design, told_line};
 use bt_fenc::encode;
 use bt_flow::Property;
@@ -74,7 +74,7 @@ fn behind_title<'a>(
     if says_yes(written.property, title) {
         let formula = encode(alloc, &written.net, written.property)?;
         let accepted = Brief::Yes(written.property);
-        return Ok(Some(Front::Steps(Steps {
+        return Ok(Some(Front::Steps(WrittenSteps {
             formula,
             lines,
             accepted,

@@ -1,10 +1,10 @@
 //! `formula`: the formula that `decide` or `layout` refutes.
 ghost use Rattle.std.specs.Prelude.{◌≡◌, alloc_error, Ok};
-ghost use Rattle.bt_answers.specs.Answers.{UnlessMemory};
+ghost use Rattle.bt_text.specs.Answers.{UnlessMemory};
 ghost use Rattle.bt_model.specs.Requests.{IsGrid};
 ghost use Rattle.bt_top.specs.Formulas.{IsFlowFormulaFrom, IsPlaceFormulaFrom};
 ghost use Rattle.bt_replies.specs.Replies.{UnlessLarge};
-ghost use Rattle.bt_top.specs.Formulas.{columns_of, flow_formula_told, place_formula_told};
+ghost use Rattle.bt_top.specs.Formulas.{flow_columns, flow_formula_told, place_formula_told};
 
 use bt_designs::{DesignFault, Refusal, read_alone, read_lone_request};
 use bt_fenc::encode;
@@ -48,14 +48,14 @@ fn flow_formula_of(alloc: Global, property: Property, net: &Net) -> Result<Answe
     ensures { UnlessMemory alloc_error (λ reply. reply ≡ Ok (flow_formula_told property net.now)) result }
 {
     match encode(alloc, net, property) {
-        Ok(formula) => Ok(Answer::FlowFormula(columns_of(net), formula)),
+        Ok(formula) => Ok(Answer::FlowFormula(flow_columns(net), formula)),
         Err(_) => Err(AllocError),
     }
 }
 
 /// The columns of a network's flow formulas.
-fn columns_of(net: &Net) -> Columns
-    ensures { result ≡ columns_of net.now }
+fn flow_columns(net: &Net) -> Columns
+    ensures { result ≡ flow_columns net.now }
 {
     Columns {
         edges: net.edges().len(),

@@ -1,7 +1,7 @@
 //! The answer that a front of an input tells, where the rest of the input comes from its source.
 ghost use Rattle.std.specs.Prelude.{◌≡◌, ◌++◌, ◌<◌, ◌^◌, [], IfErr, IfOk, Ok, true, vec_items};
 ghost use Rattle.std.specs.Io.KnownBytes.{IsAtEnd};
-ghost use Rattle.bt_answers.specs.Answers.{seen};
+ghost use Rattle.bt_text.specs.Answers.{seen};
 ghost use Rattle.bt_io.specs.Passages.{passage};
 ghost use Rattle.bt_io.specs.declared.fault.ReadAll.TheVariants.{Memory};
 ghost use Rattle.bt_same.specs.Sameness.{HaveEqualEnds};
@@ -9,7 +9,7 @@ ghost use Rattle.bt_top.specs.inner.Fronts.{AnswersRest, DrainsRest, IsFit, IsPa
 ghost use Rattle.bt_top.specs.inner.Fronts.{IsStepsReply, ReadsRest, judged_answer, steps_told};
 
 use crate::flow_check::judge_text;
-use crate::front::{Front, Steps, WrittenPair, WrittenState};
+use crate::front::{Front, WrittenPair, WrittenState, WrittenSteps};
 use crate::pair_check::judge_pair_text;
 use bt_cert::{CertFault, check_log};
 use bt_io::{ReadAll, SliceSource, Source, drain, read_all};
@@ -56,7 +56,7 @@ fn known_from<S: Source>(
 /// The answer to steps whose lines go on in the source.
 fn steps_from<S: Source>(
     alloc: Global,
-    steps: Steps<'_>,
+    steps: WrittenSteps<'_>,
     ended: bool,
     source: &mut S,
     limit: usize,
@@ -75,7 +75,7 @@ fn steps_from<S: Source>(
 }
 
 /// The answer to steps whose lines were all read.
-fn steps_at_hand(alloc: Global, steps: Steps<'_>) -> Result<Answer, ReadAll>
+fn steps_at_hand(alloc: Global, steps: WrittenSteps<'_>) -> Result<Answer, ReadAll>
     ensures answer { IfOk result (λ answer. IsStepsReply steps.entry [] (Ok answer)) }
     ensures memory { IfErr result (λ fault. fault ≡ Memory) }
 {

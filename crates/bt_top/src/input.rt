@@ -1,6 +1,6 @@
 //! How much of its input a command reads.
 ghost use Rattle.std.specs.Prelude.{◌≡◌, map};
-ghost use Rattle.bt_answers.specs.Answers.{seen};
+ghost use Rattle.bt_text.specs.Answers.{seen};
 ghost use Rattle.bt_io.specs.Passages.{passage};
 ghost use Rattle.bt_top.specs.Inputs.{ReadsInput, ReadsNothing, input_limit};
 

@@ -1,6 +1,6 @@
 //! `layout`: a layout of a request, or the evidence that there is none.
 ghost use Rattle.std.specs.Prelude.{◌≤◌, ℕ, alloc_error, length};
-ghost use Rattle.bt_answers.specs.Answers.{UnlessMemory};
+ghost use Rattle.bt_text.specs.Answers.{UnlessMemory};
 ghost use Rattle.bt_model.specs.Requests.{IsGrid, IsRequest};
 ghost use Rattle.bt_entities.specs.declared.blueprint.TheConstants.{MOST_ENTITIES};
 ghost use Rattle.bt_model.specs.Laying.{Lays};

@@ -9,7 +9,7 @@ ghost use Rattle.bt_designs.specs.Told.{TellsLine};
 ghost use Rattle.bt_top.specs.inner.Fronts.{GivesFront, GivesHeldFront};
 ghost use Rattle.bt_top.specs.inner.RequestParts.{IsRequestChecked};
 
-use crate::front::{Front, Steps, known_refusal};
+use crate::front::{Front, WrittenSteps, known_refusal};
 use bt_designs::{DesignFault, Held, PinnedDesign, Refusal, request_for, told_line, told_pinned};
 use bt_model::Request;
 use bt_parts::{Rect, Tier};
@@ -107,7 +107,7 @@ fn behind_title<'a>(
     if says_none(title) {
         let formula = encode_place(alloc, request)?;
         let accepted = Brief::NoLayout;
-        return Ok(Some(Front::Steps(Steps {
+        return Ok(Some(Front::Steps(WrittenSteps {
             formula,
             lines,
             accepted,

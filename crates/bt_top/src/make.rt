@@ -1,6 +1,6 @@
 //! `make`: whether a network that is made by a rule is balanced.
 ghost use Rattle.std.specs.Prelude.{◌≡◌, alloc_error};
-ghost use Rattle.bt_answers.specs.Answers.{UnlessMemory};
+ghost use Rattle.bt_text.specs.Answers.{UnlessMemory};
 ghost use Rattle.bt_gen.specs.Butterfly.{butterfly_net};
 ghost use Rattle.bt_gen.specs.Chain.{chain_net};
 ghost use Rattle.bt_gen.specs.Orders.{IsGenerated};

@@ -1,6 +1,6 @@
 //! Whether the pair of states that is written behind two designs shows that their networks differ.
 ghost use Rattle.std.specs.Prelude.{Ok, alloc_error};
-ghost use Rattle.bt_answers.specs.Answers.{UnlessMemory};
+ghost use Rattle.bt_text.specs.Answers.{UnlessMemory};
 ghost use Rattle.bt_flow.specs.States.{Fits};
 ghost use Rattle.bt_same.specs.Sameness.{HaveEqualEnds};
 ghost use Rattle.bt_top.specs.SameCertificates.{IsPairJudged, IsPairTextJudged};

@@ -1,6 +1,6 @@
 //! The program over a source and a sink: it reads its words and its input, and writes its answer.
 ghost use Rattle.std.specs.Prelude.{◌≡◌, ℕ, List, alloc_error, map, string_bytes};
-ghost use Rattle.bt_answers.specs.Answers.{UnlessMemory};
+ghost use Rattle.bt_text.specs.Answers.{UnlessMemory};
 ghost use Rattle.bt_io.specs.Passages.{passage};
 ghost use Rattle.bt_replies.specs.Answers.{status_of};
 ghost use Rattle.bt_top.specs.Inputs.{IsUnread, ReadsNothing};

@@ -1,6 +1,6 @@
 //! `recover`: the network of a design that nothing follows.
 ghost use Rattle.std.specs.Prelude.{alloc_error};
-ghost use Rattle.bt_answers.specs.Answers.{UnlessMemory};
+ghost use Rattle.bt_text.specs.Answers.{UnlessMemory};
 ghost use Rattle.bt_top.specs.Recovering.{IsRecoveredFrom};
 
 use bt_designs::read_alone;

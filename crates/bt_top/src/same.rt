@@ -1,6 +1,6 @@
 //! `same`: whether the networks of two designs behave the same, with the evidence.
 ghost use Rattle.std.specs.Prelude.{◌≡◌, alloc_error};
-ghost use Rattle.bt_answers.specs.Answers.{UnlessMemory};
+ghost use Rattle.bt_text.specs.Answers.{UnlessMemory};
 ghost use Rattle.bt_same.specs.Sameness.{HaveEqualEnds};
 ghost use Rattle.bt_top.specs.Comparing.{IsCompared, IsComparedFrom, same_told};
 

@@ -7,7 +7,7 @@ ghost use Rattle.bt_designs.specs.Told.{TellsLine};
 ghost use Rattle.bt_top.specs.inner.Fronts.{GivesFront, GivesHeldFront};
 ghost use Rattle.bt_top.specs.inner.PairParts.{IsBehindFirstChecked, IsPairedChecked};
 
-use crate::front::{Front, Steps, WrittenPair, known_refusal};
+use crate::front::{Front, WrittenPair, WrittenSteps, known_refusal};
 use bt_designs::{Held, paired, told_bare, told_line};
 use bt_net::Net;
 use bt_replies::{Brief, says_differ, says_same};
@@ -116,7 +116,7 @@ fn behind_title<'a>(
     if says_same(title) {
         let formula = encode_same(alloc, &written.first, &written.second)?;
         let accepted = Brief::ShownSame;
-        return Ok(Some(Front::Steps(Steps {
+        return Ok(Some(Front::Steps(WrittenSteps {
             formula,
             lines,
             accepted,

@@ -1,22 +1,21 @@
 //! `smallest --found`: small grids on which parts that show a design's network are found.
 ghost use Rattle.std.specs.Prelude.{ℕ, IfOk, IfSome, Option, alloc_error};
-ghost use Rattle.bt_answers.specs.Answers.{UnlessMemory, seen};
+ghost use Rattle.bt_text.specs.Answers.{UnlessMemory, seen};
 ghost use Rattle.bt_designs.specs.Designs.{IsJsonText};
-ghost use Rattle.bt_designs.specs.Found.{request_in};
+ghost use Rattle.bt_designs.specs.Found.{blueprint_request_of};
 ghost use Rattle.bt_designs.specs.Kept.{AreDrawn};
 ghost use Rattle.bt_model.specs.Requests.{IsGrid, IsRequest};
 ghost use Rattle.bt_grids.specs.Asked.{NamesNoCells};
 ghost use Rattle.bt_layout.specs.Small.{IsSmall};
-ghost use Rattle.bt_top.specs.Finding.{IsDesignRequest, IsDrawnRequest, IsFoundAgain, IsFoundFrom, IsPreferred, IsSmallFound, IsSmallTold};
+ghost use Rattle.bt_top.specs.Finding.{IsDesignRequest, IsDrawnRequest, IsSmallFoundAgain, IsFoundFrom, IsSmallPreferred, IsSmallFound, IsSmallTold};
 ghost use Rattle.bt_top.specs.inner.Asking.{IsDrawnAs, IsFoundBeside, asked_request};
 
 use bt_designs::{
     BlueprintRequest, DesignFault, is_json, read_blueprint_request, read_kept_request,
     read_sided_request,
 };
-use bt_grid::Grid;
+use bt_recover::Grid;
 use bt_grids::spanned;
-use bt_hands::Priority;
 use bt_layout::{Small, find_small, priorities_on};
 use bt_model::{MOST_ACROSS, Request};
 use bt_parts::{Part, Rect, Tier};
@@ -103,7 +102,7 @@ fn read_drawn(
     requires grid { IsGrid rect }
     requires json { IsJsonText bytes.now }
     ensures request { UnlessMemory DesignFault.Memory (IsDrawnRequest sides rect tier bytes.now)
-        (seen request_in result) }
+        (seen blueprint_request_of result) }
     ensures drawn { IfOk result (λ found. AreDrawn bytes.now found.grid) }
 {
     match sides {
@@ -154,12 +153,12 @@ fn small_told(alloc: Global, request: &Request, small: Small) -> Result<Answer, 
     requires small { (own : Option ℕ) × (learnt : ℕ) × IsSmall request.now own learnt small }
     ensures { UnlessMemory alloc_error (IsSmallTold request.now small) result }
 {
-    let priorities = priorities_in(alloc, request, &small)?;
+    let priorities = priorities_of_small(alloc, request, &small)?;
     Ok(Answer::Small(small, priorities))
 }
 
 /// The priorities of the parts that looking for small grids found.
-fn priorities_in(
+fn priorities_of_small(
     alloc: Global,
     request: &Request,
     small: &Small,
@@ -167,8 +166,8 @@ fn priorities_in(
     requires request { IsRequest request.now }
     requires cells { NamesNoCells request.now }
     requires small { (own : Option ℕ) × (learnt : ℕ) × IsSmall request.now own learnt small.now }
-    ensures { IfOk result (λ priorities. IsPreferred request.now small.now priorities.items
-        × IsFoundAgain small.now priorities.items) }
+    ensures { IfOk result (λ priorities. IsSmallPreferred request.now small.now priorities.items
+        × IsSmallFoundAgain small.now priorities.items) }
 {
     match small {
         Small::Found { grid, parts } => priorities_on(alloc, request, *grid, parts),

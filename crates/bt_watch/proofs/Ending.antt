@@ -115,7 +115,7 @@ propagated_next old new head x s propagates below is =
     }
 
 -- all is at rest by the whole trail
-pub propagated_end : (s : Search) (head : ℕ) → IsPropagatedTo head s → length s.assignment.trail.items ≤ head → IsPropagatedTo (length s.assignment.trail.items) s
+propagated_end : (s : Search) (head : ℕ) → IsPropagatedTo head s → length s.assignment.trail.items ≤ head → IsPropagatedTo (length s.assignment.trail.items) s
 propagated_end s head is all = record {
   whole = is.whole;
   part = is.part;
@@ -189,7 +189,7 @@ module _ (s : Search) (is : IsPropagatedTo (length s.assignment.trail.items) s) 
       ]
 
 -- what is kept is kept still
-pub kept_goes : (old new : Search) (clause : List Lit) → GoesOn old new → IsKept old clause → IsKept new clause
+kept_goes : (old new : Search) (clause : List Lit) → GoesOn old new → IsKept old clause → IsKept new clause
 kept_goes old new clause goes (among_watched id small same) =
     among_watched id (subst (λ n. id < n) (sym goes.count) small) (λ l. (
       (λ among. Contains-permutation (kept_at old.clauses id) (kept_at new.clauses id) l (goes.clauses id) ((same l).0 among)),

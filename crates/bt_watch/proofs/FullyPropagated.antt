@@ -10,13 +10,13 @@ use Rattle.bt_watch.specs.inner.Watching.{HasTrue, IsWatched}
 use Rattle.bt_cnf.proofs.Lists.{all_more}
 
 -- of a clause that is watched well, not all literals are false
-pub watched_not_false : (falses clause : List Lit) → HasNoBothSigns falses → IsWatched falses clause → IsFalseClause falses clause → ⊥
+watched_not_false : (falses clause : List Lit) → HasNoBothSigns falses → IsWatched falses clause → IsFalseClause falses clause → ⊥
 watched_not_false falses clause signs w all =
     let is = w.if_first (All-contains (Contains falses) clause w.first all w.first_in) in
     signs is.lit (All-contains (Contains falses) clause is.lit all is.among) is.holds
 
 -- nor is it a unit
-pub watched_not_unit : (falses clause : List Lit) → HasNoBothSigns falses → IsWatched falses clause → (l : Lit) → IsUnit falses clause l → ⊥
+watched_not_unit : (falses clause : List Lit) → HasNoBothSigns falses → IsWatched falses clause → (l : Lit) → IsUnit falses clause l → ⊥
 watched_not_unit falses clause signs w l unit =
     let P : Lit → Type 0 = λ m. (m ≡ l) ⊎ Contains falses m in
     let not_true : HasTrue falses clause → ⊥ = λ is. elim (All-contains P clause is.lit unit.others is.among) [

@@ -37,7 +37,7 @@ watchable_left vars values false_lit old new l is left now = record {
   differ = λ e. now.differs (sym now.stands ∙ sym e);
 }
 
-pub listed_kept : (w : WatchersParts) (id : ℕ) (old new : List Lit) → IsListed w id old → KeepsPair old new → IsListed w id new
+listed_kept : (w : WatchersParts) (id : ℕ) (old new : List Lit) → IsListed w id old → KeepsPair old new → IsListed w id new
 listed_kept w id old new is kept = elim kept.pair [
   | inl pair ↦ record {
     by_first = subst (λ l. Contains (watchers w l) id) (sym pair.0) is.by_first;
@@ -52,7 +52,7 @@ listed_kept w id old new is kept = elim kept.pair [
 pub satisfied_kept : (trail old new : List Lit) → IsPermutation old new → IsSatisfied trail old → IsSatisfied trail new
 satisfied_kept trail old new permuted is = record { lit = is.lit; among = Contains-permutation old new is.lit permuted is.among; holds = is.holds }
 
-pub followed_kept : (base : List Lit) (w : WatchersParts) (id : ℕ) (old new : List Lit) → IsFollowed base w id old → KeepsPair old new → IsFollowed base w id new
+followed_kept : (base : List Lit) (w : WatchersParts) (id : ℕ) (old new : List Lit) → IsFollowed base w id old → KeepsPair old new → IsFollowed base w id new
 followed_kept base w id old new is kept = elim is [
   | inl listed ↦ inl (listed_kept w id old new listed kept)
   | inr satisfied ↦ inr (satisfied_kept base old new kept.permuted satisfied)

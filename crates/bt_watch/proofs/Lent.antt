@@ -52,7 +52,7 @@ changes w l one two = record {
 }
 
 -- one more clause is on a literal's list
-pub watches_list : (w w' : WatchersParts) (l : Lit) (watch : Watch) → code_of l < length w.lists → w' ≡ with_list w l (watches_of w l ++ watch ∷ []) → Watches w w' l watch
+watches_list : (w w' : WatchersParts) (l : Lit) (watch : Watch) → code_of l < length w.lists → w' ≡ with_list w l (watches_of w l ++ watch ∷ []) → Watches w w' l watch
 watches_list w w' l watch below is =
     let list = watches_of w l ++ watch ∷ [] in
     subst (λ v. Watches w v l watch) (sym is) (record {

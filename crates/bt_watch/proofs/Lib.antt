@@ -17,3 +17,4 @@ pub mod FullyPropagated
 pub mod Unset
 pub mod Visiting
 pub mod Watches
+pub mod Marks

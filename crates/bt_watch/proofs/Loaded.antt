@@ -1,5 +1,5 @@
 -- Loading the clauses of a formula.
-use Rattle.std.proofs.Common.{◌≡◌, ℕ, ◌≤◌, ◌<◌, ◌+◌, ◌*◌, ◌⊎◌, inl, inr, arith, Bool, List, [], ◌∷◌, length, get_or, sym, subst, refl, ap, ◌∙◌, None, Some, length-append}
+use Rattle.std.proofs.Common.{◌≡◌, ℕ, ◌≤◌, ◌<◌, ◌+◌, ◌⊎◌, inl, inr, arith, List, [], ◌∷◌, length, get_or, sym, subst, refl, ap, ◌∙◌, None, Some, length-append}
 use Rattle.std.specs.Prelude.{Contains}
 use Rattle.std.specs.List.{All, swap}
 use Rattle.std.specs.Global.{Vec}
@@ -13,26 +13,16 @@ use Rattle.bt_cnf.specs.Truths.{IsTrueIn, IsFalseIn}
 use Rattle.bt_cnf.specs.Units.{opposite, clause_at}
 use Rattle.bt_watch.specs.declared.assignment.Assignment.{Assignment}
 use Rattle.bt_watch.specs.declared.search.Search.{Search}
-use Rattle.bt_cnf.specs.Codes.{code_of}
 use Rattle.bt_watch.specs.Assigning.{Assigns}
 use Rattle.bt_watch.specs.Watched.{no_lit, first, second}
-use Rattle.bt_watch.specs.Keeping.{kept_at, IsBlocked, AreTrue, IsAtRest, IsWatchable}
+use Rattle.bt_watch.specs.Keeping.{kept_at, AreTrue, IsAtRest, IsWatchable}
 use Rattle.bt_watch.specs.Levels.{start_of, front_of, AreLevels, IsHeld, among_watched, alone, IsReady}
-use Rattle.bt_watch.specs.inner.Loads.{AreUnwatched, IsEmptySearch, IsOther, ArePaired, HasLoaded}
-use Rattle.bt_watch.specs.Propagating.{IsWhole, Keeps}
+use Rattle.bt_watch.specs.inner.Loads.{IsOther, ArePaired, HasLoaded}
+use Rattle.bt_watch.specs.Propagating.{Keeps}
 use Rattle.bt_watch.specs.Reasons.{AreSame, lit_at, IsReason, AreReasons}
-use Rattle.bt_watch.specs.Watchers.{watches_of}
-use Rattle.bt_watch.specs.WatchersParts.{WatchersParts}
-use Rattle.bt_cnf.proofs.Lists.{past, lt_or, none_in, lt_or_eq, all_of}
+use Rattle.bt_cnf.proofs.Lists.{past, none_in, lt_or_eq, all_of}
 use Rattle.bt_watch.proofs.Longer.{with_assignment, held_longer, held_more, numbered_kept, ordered_longer}
 use Rattle.bt_watch.proofs.Backjumped.{take_all_of}
-
--- where each item is the same, so is what stands at any place
-at_same : {X : Type 0} (d : X) (xs : List X) (k : ℕ) → All (λ x. x ≡ d) xs → get_or xs k d ≡ d
-at_same d xs k same = elim (lt_or k (length xs)) [ inl small ↦ same k d small | inr none ↦ past xs k d none ]
-
-none_watch : (vars : ℕ) (w : WatchersParts) (l : Lit) → AreUnwatched vars w → watches_of w l ≡ []
-none_watch vars w l are = at_same [] w.lists (code_of l) are.empty
 
 nothing : {X : Type 0} (P : X → Type 0) (xs : List X) → xs ≡ [] → All P xs
 nothing P xs none k d small = absurd (omega (arith, small, ap length none))
@@ -50,26 +40,6 @@ no_levels s none =
 root_is : (s : Search) → s.starts.items ≡ [] → front_of s 0 ≡ s.assignment.trail.items
 root_is s none =
     take_all_of (start_of s 0) s.assignment.trail.items (omega (arith, past s.starts.items 0 (length s.assignment.trail.items) (omega (arith, ap length none))))
-
-empty_whole : (vars : ℕ) (s : Search) → IsEmptySearch vars s → IsWhole s
-empty_whole vars s is =
-    let clauses : length s.clauses ≡ 0 = ap length is.clauses in
-    record {
-      watched = record {
-        lists = is.watchers.size ∙ ap (λ n. 2 * n) (sym is.assignment.values.size);
-        watchable = nothing (IsWatchable (length s.assignment.values)) s.clauses is.clauses;
-        listed = λ id small. absurd (omega (arith, small, clauses));
-        blocked = λ l. nothing (IsBlocked s.clauses) (watches_of s.watchers l) (none_watch vars s.watchers l is.watchers);
-      };
-      truths = record {
-        below = nothing (λ (l : Lit). l.var < length s.assignment.values) s.assignment.trail.items is.assignment.trail;
-        true_in = λ l among. absurd (none_in l (subst (λ ts. Contains ts l) is.assignment.trail among));
-        in_trail = λ l true_l. absurd (none_some l.positive (sym (at_same None s.assignment.values l.var is.assignment.values.unset) ∙ true_l));
-      };
-    }
-  where
-    none_some : (b : Bool) → None ≡ Some b → ⊥
-    none_some b e = cc
 
 -- all clauses are kept, and nothing is said to be propagated
 pub all_loaded : (all : List (List Lit)) (count : ℕ) (s : Search) → HasLoaded all count s → length all ≤ count → IsReady all 0 s

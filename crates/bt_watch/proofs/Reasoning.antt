@@ -17,7 +17,7 @@ use Rattle.bt_watch.specs.Reasons.{AreSame, lit_at, IsReason, AreNumbered, AreRe
 use Rattle.bt_cnf.proofs.Lists.{got_at, all_of, lt_or_eq}
 
 -- a variable that is set makes each of its literals true or false
-pub set_or : (values : List (Option Bool)) (m l : Lit) → IsTrueIn values m → m.var ≡ l.var → IsTrueIn values l ⊎ IsFalseIn values l
+set_or : (values : List (Option Bool)) (m l : Lit) → IsTrueIn values m → m.var ≡ l.var → IsTrueIn values l ⊎ IsFalseIn values l
 set_or values m l true_m same =
     let here : get_or values l.var None ≡ Some m.positive = ap (λ n. get_or values n None) (sym same) ∙ true_m in
     elim (inner m.positive l.positive) [

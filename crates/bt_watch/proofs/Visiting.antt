@@ -47,7 +47,7 @@ unwatched w w' false_lit m place id x un inside is apart among =
     ]
 
 -- all is kept where the clause watches another literal now
-pub watched_moved : (base : List Lit) (vars : ℕ) (values : List (Option Bool)) (clauses : List (List Lit)) (w w₁ w₂ : WatchersParts) (id : ℕ) (new : List Lit) (l other false_lit : Lit) (place : ℕ)
+watched_moved : (base : List Lit) (vars : ℕ) (values : List (Option Bool)) (clauses : List (List Lit)) (w w₁ w₂ : WatchersParts) (id : ℕ) (new : List Lit) (l other false_lit : Lit) (place : ℕ)
     → AreWatched base vars clauses w → id < length clauses → LeavesOne false_lit (kept_at clauses id) new → first new ≡ other → WatchesNow values new l → IsFalseIn values false_lit
     → Watches w w₁ l (record { id = id; blocker = other }) → Unwatches w₁ w₂ false_lit place → place < length (watchers w false_lit) → get_or (watchers w false_lit) place 0 ≡ id
     → AreWatched base vars (slice_set clauses id new) w₂
@@ -102,7 +102,7 @@ watched_moved base vars values clauses w w₁ w₂ id new l other false_lit plac
     }
 
 -- all is kept where a clause leaves a list that it watches no longer
-pub watched_strayed : (base : List Lit) (vars : ℕ) (clauses : List (List Lit)) (w w' : WatchersParts) (false_lit : Lit) (place id : ℕ) → AreWatched base vars clauses w → Unwatches w w' false_lit place
+watched_strayed : (base : List Lit) (vars : ℕ) (clauses : List (List Lit)) (w w' : WatchersParts) (false_lit : Lit) (place id : ℕ) → AreWatched base vars clauses w → Unwatches w w' false_lit place
     → place < length (watchers w false_lit) → get_or (watchers w false_lit) place 0 ≡ id → first (kept_at clauses id) ≢ false_lit → second (kept_at clauses id) ≢ false_lit → AreWatched base vars clauses w'
 watched_strayed base vars clauses w w' false_lit place id are un inside is not_first not_second =
     let here : (other : ℕ) (m : Lit) → m ≡ first (kept_at clauses other) → m ≡ false_lit → id ≢ other = λ other m e at same. not_first (ap (λ n. first (kept_at clauses n)) same ∙ sym e ∙ at) in

@@ -1,3 +1,4 @@
+pub mod Agendas
 pub mod Assigning
 pub mod Keeping
 pub mod Levels

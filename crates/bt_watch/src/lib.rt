@@ -1,6 +1,7 @@
 //! Clauses that watch two literals each: what follows from what is true, and the levels of what is true.
 #![tactic(auto)]
 
+mod agenda;
 mod assignment;
 mod clause_pool;
 mod levels;
@@ -10,6 +11,7 @@ mod search;
 mod watched;
 mod watchers;
 
+pub use agenda::Agenda;
 pub use assignment::{Assignment, assign};
 pub use clause_pool::PackedId;
 pub use levels::{backjump, begin_level, level_of, start};

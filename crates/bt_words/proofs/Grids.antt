@@ -14,7 +14,7 @@ no_x : (n : ℕ) → n < 10 ^ 64 → Lacks 120 (decimal n)
 no_x n small = decimal-lacks n 120 small (λ r. omega (arith, r.1))
 
 -- how the word of a grid splits at its `x`
-pub grid_splits : (grid : Rect) (word : List ℕ) → IsGridWord grid word → SplitsAt 120 word (decimal grid.width) (decimal grid.height)
+grid_splits : (grid : Rect) (word : List ℕ) → IsGridWord grid word → SplitsAt 120 word (decimal grid.width) (decimal grid.height)
 grid_splits grid word (is, e) = record { first = no_x grid.width (omega (arith, is.few_across)); text_is = e }
 
 -- the sides of a word that splits at an `x` are those of the grid that it is

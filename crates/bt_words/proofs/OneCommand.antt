@@ -10,9 +10,9 @@ use Rattle.bt_parts.specs.declared.part.Tier.{Tier}
 use Rattle.bt_words.specs.declared.argument.Argument.{Argument}
 use Rattle.bt_words.specs.declared.argument.Argument.TheVariants.{Wished, Number, Chain, Learnt, Pivots, Grid, OfTier, Most, From, Found, Sides, Request}
 use Rattle.bt_flow.specs.declared.property.Property.{Property}
-use Rattle.bt_wish.specs.declared.wish.Wish.{Wish}
-use Rattle.bt_wish.specs.Wishes.{only}
-use Rattle.bt_wish.proofs.OneWish.{same_only}
+use Rattle.bt_gen.specs.declared.wish.Wish.{Wish}
+use Rattle.bt_gen.specs.Wishes.{only}
+use Rattle.bt_gen.proofs.OneWish.{same_only}
 use Rattle.bt_words.specs.declared.given.Given.{Given}
 use Rattle.bt_words.specs.declared.given.Places.{Places}
 use Rattle.bt_words.specs.declared.given.Places.TheVariants as places
@@ -98,7 +98,7 @@ listed (places.Number k) = refl
 listed (places.WishAndNumber w k) = refl
 listed (places.Whole w i o) = refl
 
-pub same_places : (p q : Places) → places_list p ≡ places_list q → p ≡ q
+same_places : (p q : Places) → places_list p ≡ places_list q → p ≡ q
 same_places p q e = sym (listed p) ∙ ap places_of e ∙ listed q
 
 -- words give one thing

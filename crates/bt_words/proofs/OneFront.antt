@@ -7,9 +7,9 @@ use Rattle.std.proofs.lemmas.List.Elements.{All-head}
 use Rattle.bt_frac.proofs.Numerals.{decimal-lacks, decimal_apart}
 use Rattle.bt_text.specs.Lines.{Lacks, SplitsAt}
 use Rattle.bt_text.proofs.FirstLines.{split_apart, SplitsAt-lacks}
-use Rattle.bt_wish.specs.declared.wish.Wish.{Wish}
-use Rattle.bt_wish.specs.Wishes.{IsWishWord}
-use Rattle.bt_wish.proofs.OneWish.{same_wish, begins_with_letter}
+use Rattle.bt_gen.specs.declared.wish.Wish.{Wish}
+use Rattle.bt_gen.specs.Wishes.{IsWishWord}
+use Rattle.bt_gen.proofs.OneWish.{same_wish, begins_with_letter}
 use Rattle.bt_words.specs.declared.argument.Argument.{Argument}
 use Rattle.bt_words.specs.declared.argument.Argument.TheVariants.{Wished, Number, Chain, Learnt, Pivots, Grid, OfTier, Most, From, Found, Sides, Request}
 use Rattle.bt_words.specs.Arguments.{IsPlain, IsValued}

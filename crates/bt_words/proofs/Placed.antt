@@ -1,13 +1,13 @@
 -- Properties and numbers behind what is given.
-use Rattle.std.proofs.Common.{◌≡◌, ◌≤◌, ℕ, arith, List, [], ◌∷◌, ◌++◌, Some, None, refl, sym, subst, ◌∙◌, ap}
+use Rattle.std.proofs.Common.{◌≡◌, ◌≤◌, ℕ, arith, List, [], ◌∷◌, Some, None, sym, subst, ◌∙◌, ap}
 use Rattle.std.specs.Prelude.{MatchOption, decimal}
 use Rattle.std.specs.declared.option.Option.{Option}
 use Rattle.std.specs.Option.{option_to_list}
 use Rattle.std.specs.List.{filter_map}
 use Rattle.std.proofs.lemmas.List.{append-nil}
 use Rattle.bt_flow.specs.declared.property.Property.{Property}
-use Rattle.bt_wish.specs.declared.wish.Wish.{Wish}
-use Rattle.bt_wish.specs.Wishes.{only, IsWishWord}
+use Rattle.bt_gen.specs.declared.wish.Wish.{Wish}
+use Rattle.bt_gen.specs.Wishes.{only, IsWishWord}
 use Rattle.bt_words.specs.declared.argument.TheConstants.{MOST_ORDER}
 use Rattle.bt_words.specs.declared.argument.Argument.{Argument}
 use Rattle.bt_words.specs.declared.argument.Argument.TheVariants.{Wished, Number, Chain, Learnt, Pivots, Grid, OfTier, Most, From, Found, Sides, Request}
@@ -15,7 +15,7 @@ use Rattle.bt_words.specs.declared.given.Given.{Given}
 use Rattle.bt_words.specs.declared.given.Places.{Places}
 use Rattle.bt_words.specs.declared.given.Places.TheVariants as places
 use Rattle.bt_words.specs.Arguments.{IsPlain}
-use Rattle.bt_words.specs.Commands.{IsToDecide, mark, nothing, one_property, place_in, places_list}
+use Rattle.bt_words.specs.Commands.{mark, nothing, one_property, place_in}
 use Rattle.bt_words.specs.inner.Reading.{Adds, IsFollowed, IsMark, IsPlaced}
 
 -- a word that is an option without a value, or properties, or a number, is an argument for itself
@@ -82,45 +82,6 @@ no_placed word most e wishes numbers (OfTier k) h = h
 no_placed word most e wishes numbers (Most k) h = h
 no_placed word most e wishes numbers (From k) h = h
 
--- behind what is given no properties stand
-pub no_wish_behind : (s : Places) (w : Wish) → (s ≡ places.Nothing → ⊥) → (more : List Argument) (p : Places) → IsFollowed s (Wished w ∷ more) p → ⊥
-no_wish_behind places.Nothing w not more p e = not refl
-no_wish_behind (places.Wish v) w not more places.Nothing e = cc
-no_wish_behind (places.Wish v) w not more (places.Wish x) e = cc
-no_wish_behind (places.Wish v) w not more (places.Number j) e = cc
-no_wish_behind (places.Wish v) w not more (places.WishAndNumber x j) e = cc
-no_wish_behind (places.Wish v) w not more (places.Whole x m n) e = cc
-no_wish_behind (places.Number k) w not more places.Nothing e = cc
-no_wish_behind (places.Number k) w not more (places.Wish x) e = cc
-no_wish_behind (places.Number k) w not more (places.Number j) e = cc
-no_wish_behind (places.Number k) w not more (places.WishAndNumber x j) e = cc
-no_wish_behind (places.Number k) w not more (places.Whole x m n) e = cc
-no_wish_behind (places.WishAndNumber v k) w not more places.Nothing e = cc
-no_wish_behind (places.WishAndNumber v k) w not more (places.Wish x) e = cc
-no_wish_behind (places.WishAndNumber v k) w not more (places.Number j) e = cc
-no_wish_behind (places.WishAndNumber v k) w not more (places.WishAndNumber x j) e = cc
-no_wish_behind (places.WishAndNumber v k) w not more (places.Whole x m n) e = cc
-no_wish_behind (places.Whole v i o) w not more places.Nothing e = cc
-no_wish_behind (places.Whole v i o) w not more (places.Wish x) e = cc
-no_wish_behind (places.Whole v i o) w not more (places.Number j) e = cc
-no_wish_behind (places.Whole v i o) w not more (places.WishAndNumber x j) e = cc
-no_wish_behind (places.Whole v i o) w not more (places.Whole x m n) e = cc
-
--- nor does a number behind a number alone, or behind two
-pub no_number_behind : (k n : ℕ) (more : List Argument) (p : Places) → IsFollowed (places.Number k) (Number n ∷ more) p → ⊥
-no_number_behind k n more places.Nothing e = cc
-no_number_behind k n more (places.Wish x) e = cc
-no_number_behind k n more (places.Number j) e = cc
-no_number_behind k n more (places.WishAndNumber x j) e = cc
-no_number_behind k n more (places.Whole x m l) e = cc
-
-pub no_third_number : (v : Wish) (i o n : ℕ) (more : List Argument) (p : Places) → IsFollowed (places.Whole v i o) (Number n ∷ more) p → ⊥
-no_third_number v i o n more places.Nothing e = cc
-no_third_number v i o n more (places.Wish x) e = cc
-no_third_number v i o n more (places.Number j) e = cc
-no_third_number v i o n more (places.WishAndNumber x j) e = cc
-no_third_number v i o n more (places.Whole x m l) e = cc
-
 -- what is given with properties more
 pub wish_placed : (s : Given) (w : Wish) (o : Option Places) (r : Option Given) → MatchOption r (o ≡ None) (λ g. (p : Places) × (o ≡ Some p) × (g ≡ record s { places = p }))
     → MatchOption o ((more : List Argument) (p : Places) → IsFollowed s.places (Wished w ∷ more) p → ⊥) (λ p. IsFollowed s.places (Wished w ∷ []) p)
@@ -172,9 +133,3 @@ pub one_told : (g : Given) (w : Wish) (o : Option Property) → g ≡ record not
     → MatchOption o ((p : Property) → g ≡ record nothing { places = one_property p } → ⊥) (λ p. g ≡ record nothing { places = one_property p })
 one_told g w (Some p) e is = e ∙ ap (λ x. record nothing { places = places.Wish x }) is
 one_told g w None e none = λ p h. none p (let same : places.Wish w ≡ places.Wish (only p) = ap (λ x. x.places) (sym e ∙ h) in cc)
-
--- and where limits may be given too
-pub one_with_limits : (g : Given) (w : Wish) (o : Option Property) → g ≡ record nothing { places = places.Wish w; learnt = g.learnt; pivots = g.pivots }
-    → MatchOption o ((p : Property) → w ≡ only p → ⊥) (λ p. w ≡ only p) → MatchOption o ((p : Property) → IsToDecide p g → ⊥) (λ p. IsToDecide p g)
-one_with_limits g w (Some p) e is = e ∙ ap (λ x. record nothing { places = places.Wish x; learnt = g.learnt; pivots = g.pivots }) is
-one_with_limits g w None e none = λ p h. none p (let same : places.Wish w ≡ places.Wish (only p) = ap (λ x. x.places) (sym e ∙ h) in cc)

@@ -9,8 +9,8 @@ use Rattle.bt_parts.specs.declared.part.Rect.{Rect}
 use Rattle.bt_parts.specs.declared.part.Tier.{Tier}
 use Rattle.bt_words.specs.declared.argument.Argument.{Argument}
 use Rattle.bt_words.specs.declared.argument.Argument.TheVariants.{Wished, Number, Chain, Learnt, Pivots, Grid, OfTier, Most, From, Found, Sides, Request}
-use Rattle.bt_wish.specs.declared.wish.Wish.{Wish}
-use Rattle.bt_wish.specs.Wishes.{only}
+use Rattle.bt_gen.specs.declared.wish.Wish.{Wish}
+use Rattle.bt_gen.specs.Wishes.{only}
 use Rattle.bt_words.specs.declared.given.Given.{Given}
 use Rattle.bt_words.specs.declared.given.Places.{Places}
 use Rattle.bt_words.specs.declared.given.Places.TheVariants as places

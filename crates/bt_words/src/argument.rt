@@ -6,9 +6,9 @@ ghost use Rattle.bt_words.specs.declared.argument.Argument.{Argument as AnArgume
 
 use crate::grid::{grid_of, tier_named};
 use crate::number::number_up_to;
+use bt_gen::Wish;
 use bt_parts::{Rect, Tier};
 use bt_text::{after_word, split_once};
-use bt_wish::Wish;
 
 /// The most that a number for itself may be: nine digits.
 pub const MOST_ORDER: u32 = 999_999_999;

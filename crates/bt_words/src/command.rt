@@ -1,8 +1,8 @@
 //! The commands of the program, what each is given, and what it takes where the words don't say.
 use bt_cnf::Limits;
 use bt_flow::Property;
+use bt_gen::Wish;
 use bt_parts::{Rect, Tier};
-use bt_wish::Wish;
 
 /// The most steps of a log, where the words don't say.
 pub const USUAL_LEARNT: u64 = 100_000;

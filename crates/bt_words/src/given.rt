@@ -10,7 +10,7 @@ ghost use Rattle.bt_words.specs.declared.argument.Argument.{Argument as AnArgume
 ghost use Rattle.bt_words.specs.declared.argument.Argument.TheVariants.{Wished, Number};
 ghost use Rattle.bt_words.specs.declared.given.Given.{Given as AGiven};
 ghost use Rattle.bt_words.specs.declared.given.Places.{Places as APlaces};
-ghost use Rattle.bt_wish.specs.declared.wish.Wish.{Wish as AWish};
+ghost use Rattle.bt_gen.specs.declared.wish.Wish.{Wish as AWish};
 
 use crate::argument::{Argument, next_argument};
 use crate::command::{
@@ -18,9 +18,9 @@ use crate::command::{
 };
 use bt_cnf::Limits;
 use bt_flow::Property;
+use bt_gen::Wish;
 use bt_model::MOST_CELLS;
 use bt_parts::{Rect, Tier};
-use bt_wish::Wish;
 
 /// What is given behind a command's word.
 #[derive(Clone, Copy)]

@@ -8,8 +8,8 @@ use crate::reading::{net_of, net_preferring_ends};
 use crate::stages::{benes, butterfly};
 use crate::tabled::{MOST_TABLED, push_tabled, tabled};
 use crate::universal::{MOST_UNIVERSAL, universal};
+use bt_gen::Wish;
 use bt_net::Net;
-use bt_wish::Wish;
 use std::alloc::{AllocError, Global};
 
 /// The numbers of lines of networks in stages.

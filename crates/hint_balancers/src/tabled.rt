@@ -4,9 +4,9 @@ use crate::block::Block;
 use crate::known::KNOWN;
 use crate::reading::{block_of, push_header, read_net};
 use bt_flow::Property;
+use bt_gen::Wish;
 use bt_net::Net;
 use bt_text::{after_word, first_line, line_feeds};
-use bt_wish::Wish;
 use std::alloc::{AllocError, Global};
 
 /// The most inputs and outputs of a network of the table.

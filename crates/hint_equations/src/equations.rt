@@ -11,7 +11,7 @@ use std::mem::replace;
 const LENGTHS: usize = 32;
 
 /// The most equations that are taken from those that wait.
-const MOST_TURNS: u32 = 65_536;
+const MOST_PIVOTS: u32 = 65_536;
 
 /// The most terms that are walked over where columns are put in.
 const MOST_TERMS: usize = 100_000;
@@ -105,11 +105,11 @@ impl Equations {
 
     /// Solves equations for columns until none is left. False where a number doesn't fit, or the work is too much.
     fn eliminate(&mut self, alloc: Global) -> Result<bool, AllocError> {
-        for _ in 0..MOST_TURNS {
+        for _ in 0..MOST_PIVOTS {
             let Some((class, number)) = shortest(&mut self.waiting) else {
                 return Ok(true);
             };
-            let fits = self.turn(alloc, class, number)?;
+            let fits = self.pivot(alloc, class, number)?;
             if !fits || self.walked > MOST_TERMS {
                 return Ok(false);
             }
@@ -119,7 +119,7 @@ impl Equations {
 
     /// Solves the equation with a number for a column, where it is still of this class, and puts that in all others.
     /// False where a number doesn't fit.
-    fn turn(&mut self, alloc: Global, class: usize, number: usize) -> Result<bool, AllocError> {
+    fn pivot(&mut self, alloc: Global, class: usize, number: usize) -> Result<bool, AllocError> {
         match self.taken(class, number) {
             Some(line) => self.solve_line(alloc, &line),
             None => Ok(true),

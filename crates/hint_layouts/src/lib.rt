@@ -1,4 +1,4 @@
-//! Proposals of layouts: parts with names that may lay a request.
+//! Proposals of layouts: parts with names that may lay a request, and names for the parts of a layout.
 //!
 //! Nothing is claimed of a proposal: whoever takes one tests it (`bt_lays`). Strategies for more requests are asked in
 //! `propose`, one after another.
@@ -6,9 +6,13 @@
 
 mod ends;
 mod framed;
+mod graph;
+mod matching;
 mod naming;
+mod part_names;
 mod proposing;
 
 pub use naming::{Proposal, name_sketch};
+pub use part_names::name_parts;
 pub use proposing::{propose, propose_stages};
 pub use std::alloc::AllocError as Memory;

@@ -4,11 +4,10 @@ ghost use Rattle.bt_parts.specs.Cells.{IsInRange};
 ghost use Rattle.bt_parts.specs.Layouts.{AreInRange};
 
 use crate::ends::name_ends;
-use bt_grid::{Grid, GridFault};
 use bt_lays::Names;
 use bt_model::Request;
 use bt_parts::{MOST_COORDINATE, Part};
-use bt_recover::{RecoverFault, recover};
+use bt_recover::{Grid, GridFault, RecoverFault, recover};
 use hint_placement::Sketch;
 use std::alloc::{AllocError, Global};
 

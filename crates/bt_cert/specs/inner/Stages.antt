@@ -1,7 +1,7 @@
 -- How far a certificate was read.
 use Rattle.std.specs.Prelude.{◌≡◌, ℕ, ◌+◌, ⊤, List, ◌++◌, All, Bool, true, false, map, IsTrue, ◌↔◌, Result, Ok, Err}
 use Rattle.std.specs.List.{flat_map}
-use Rattle.bt_answers.specs.Answers.{UnlessMemory}
+use Rattle.bt_text.specs.Answers.{UnlessMemory}
 use Rattle.bt_cnf.specs.Formulas.{FormulaParts}
 use Rattle.bt_text.specs.Blanks.{IsBlank}
 use Rattle.bt_text.specs.Lines.{Lacks, line, line_feeds}

@@ -1,6 +1,6 @@
 -- A blueprint's layout, of parts that are placed.
 use Rattle.std.specs.Prelude.{◌≡◌, List, Option, Result, Ok, Err}
-use Rattle.bt_hands.specs.declared.hand.Priority.{Priority}
+use Rattle.bt_parts.specs.declared.hand.Priority.{Priority}
 use Rattle.bt_parts.specs.declared.part.Part.{Part}
 use Rattle.bt_parts.specs.declared.part.Tier.{Tier}
 use Rattle.bt_designs.specs.declared.design.Laid.{Laid}

@@ -2,13 +2,13 @@
 use Rattle.std.specs.Prelude.{◌≡◌, ℕ, ◌≤◌, List, length, AllPairs}
 use Rattle.bt_model.specs.Requests.{LayoutRequest}
 use Rattle.bt_log.specs.Logs.{LogParts, Step}
-use Rattle.bt_sat.specs.declared.solver.Answer.{Answer}
-use Rattle.bt_sat.specs.declared.solver.Answer.TheVariants.{Model, Refuted, Spent}
+use Rattle.bt_sat.specs.declared.answer.Answer.{Answer}
+use Rattle.bt_sat.specs.declared.answer.Answer.TheVariants.{Model, Refuted, Spent}
 use Rattle.bt_place.specs.PlaceFormula.{place_formula}
 use Rattle.bt_model.specs.Laying.{Lays}
 use Rattle.bt_place.specs.Solutions.{ComesAbove, IsSolution}
 use Rattle.bt_theory.specs.Outcomes.{IsRefutation, IsUsedUp}
-use Rattle.bt_trim.specs.Trimming.{IsTightOver, IsTrimmed}
+use Rattle.bt_log.specs.Trimming.{IsTightOver, IsTrimmed}
 use Rattle.bt_layout.specs.Layouts.{HasNoLayout}
 use Rattle.bt_grids.specs.declared.outcome.Layout.{Layout}
 use Rattle.bt_grids.specs.declared.outcome.Layout.TheVariants as layout

@@ -8,8 +8,8 @@ use Rattle.bt_place.specs.Narrowed.{IsNarrowed}
 use Rattle.bt_place.specs.PlaceFormula.{place_formula}
 use Rattle.bt_place.specs.Solutions.{ComesAbove, IsSolution}
 use Rattle.bt_sat.specs.Solving.{SolverParts, begun}
-use Rattle.bt_sat.specs.declared.solver.Answer.{Answer}
-use Rattle.bt_sat.specs.declared.solver.Answer.TheVariants as answer
+use Rattle.bt_sat.specs.declared.answer.Answer.{Answer}
+use Rattle.bt_sat.specs.declared.answer.Answer.TheVariants as answer
 use Rattle.bt_layout.specs.declared.likely.Tried.{Tried}
 use Rattle.bt_layout.specs.declared.likely.Trial.{Trial}
 use Rattle.bt_layout.specs.declared.likely.Trial.TheVariants.{Found, Refuted, Spent}

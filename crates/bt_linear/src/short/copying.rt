@@ -2,8 +2,7 @@
 ghost use Rattle.std.specs.Prelude.{◌≡◌, ◌∷◌, [], ◌<◌, ◌-◌, ◌^◌, IfOk, IfSome};
 ghost use Rattle.bt_linear.specs.Lines.{one};
 
-use crate::line::Room;
-use crate::short::{Entry, Short};
+use crate::short::{Entry, Room, Short};
 use std::alloc::AllocError;
 
 impl Short {

@@ -4,7 +4,7 @@ ghost use Rattle.bt_linear.specs.Shorts.{IsSmall};
 
 use std::marker::Model;
 
-/// A position with its number, in eight bytes, since each turn walks over those of all lines.
+/// A position with its number, in eight bytes, since each pivot walks over those of all lines.
 #[derive(Clone, Copy)]
 pub struct Entry {
     position: u32,
@@ -65,3 +65,6 @@ impl Entry {
         i64::from(self.number)
     }
 }
+
+/// A list whose entries are dropped, so that a line can be formed in its memory.
+pub type Room = Vec<Entry>;

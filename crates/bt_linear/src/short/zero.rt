@@ -1,4 +1,4 @@
-//! The lines that a turn adds to the others and puts in for what enters, formed of short lines.
+//! The lines that a pivot adds to the others and puts in for what enters, formed of short lines.
 ghost use Rattle.std.specs.Prelude.{◌≡◌, ◌≢◌, ◌<◌, ◌^◌, ◌-◌, ◌*◌, ◌/◌, ◌*ℤ◌, ◌∷◌, [], pos, IfOk, IfSome, Some, unsigned_abs};
 ghost use Rattle.std.specs.List.{All};
 ghost use Prim.Native.Nat.{◌∣◌};
@@ -16,7 +16,7 @@ use std::alloc::AllocError;
 /// enters, times the position less the line. None where the line has no such number.
 ///
 /// Its numbers and its denominator are divided by what all of them have in common: without this they grow
-/// with each turn. It is formed in the room of a list whose terms are dropped.
+/// with each pivot. It is formed in the room of a list whose terms are dropped.
 pub fn zero_line(
     room: Vec<Entry>,
     position: usize,

@@ -5,8 +5,8 @@ ghost use Rattle.bt_parts.specs.Cells.{IsInRange};
 ghost use Rattle.bt_parts.specs.Layouts.{AreInRange};
 
 use super::{fields, number_of};
-use bt_grid::{Grid, GridFault, Memory, PairFault, pairs};
 use bt_parts::{Cell, Dir, Kind, Part, Tier};
+use bt_recover::{Grid, GridFault, Memory, PairFault, pairs};
 use std::alloc::Global;
 use std::test::Fail;
 

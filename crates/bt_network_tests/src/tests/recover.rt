@@ -4,10 +4,9 @@ ghost use Rattle.bt_parts.specs.Cells.{IsInRange};
 ghost use Rattle.bt_parts.specs.Layouts.{AreInRange};
 
 use super::{fields, is_printed, number_of};
-use bt_grid::Grid;
 use bt_model::{hands, pair, ring};
 use bt_parts::{Cell, Dir, Kind, Part, Tier};
-use bt_recover::{Memory, RecoverFault, Traced, recover};
+use bt_recover::{Grid, Memory, RecoverFault, Traced, recover};
 use std::alloc::Global;
 use std::process::Abort;
 use std::test::Fail;

@@ -3,8 +3,8 @@ use Rattle.std.specs.Prelude.{◌≡◌, ◌⊎◌, ◌↔◌, ◌+ℤ◌, ◌*�
 use Rattle.bt_frac.specs.Ratio.{Ratio, IsLess}
 use Rattle.bt_frac.specs.Rows.{RowParts}
 use Rattle.bt_frac.specs.declared.delta.Delta.{Delta}
-use Rattle.bt_frac.specs.declared.row.Relation.{Relation}
-use Rattle.bt_frac.specs.declared.row.Relation.TheVariants.{Equal}
+use Rattle.bt_frac.specs.declared.relation.Relation.{Relation}
+use Rattle.bt_frac.specs.declared.relation.Relation.TheVariants.{Equal}
 use Rattle.bt_pivot.specs.Points.{tiny_of, bound_value, Breaks, IsSamePoint, signed_point}
 use Rattle.bt_pivot.specs.declared.short_points.Sums.{Sums}
 

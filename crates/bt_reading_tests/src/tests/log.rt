@@ -1,8 +1,7 @@
 use bt_cnf::{Formula, Lit};
 use bt_frac::Frac;
 use bt_io::MemSink;
-use bt_log::{Log, StepView};
-use bt_trim::trimmed;
+use bt_log::{Log, StepView, trimmed};
 use std::alloc::{AllocError, Global};
 use std::test::Fail;
 

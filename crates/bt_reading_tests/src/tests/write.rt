@@ -1,9 +1,8 @@
 //! Blueprints of no part and of one, byte by byte, and of a few, which are read back.
 use super::{fields, part_of};
-use bt_entities::parts_of;
+use bt_entities::{parts_of, text_of};
 use bt_json::{Tree, read};
 use bt_parts::Part;
-use bt_write::text_of;
 use std::alloc::{AllocError, Global};
 use std::test::Fail;
 

@@ -1,9 +1,9 @@
 -- Refusals on the way to the network of a layout.
 use Rattle.std.specs.Prelude.{◌≡◌, List, Result, Ok, Err}
-use Rattle.bt_answers.specs.Answers.{UnlessMemory}
+use Rattle.bt_text.specs.Answers.{UnlessMemory}
 use Rattle.bt_parts.specs.declared.part.Part.{Part}
-use Rattle.bt_grid.specs.declared.pairing.PairFault.{PairFault}
-use Rattle.bt_grid.specs.declared.pairing.PairFault.TheVariants as pair
+use Rattle.bt_recover.specs.declared.pairing.PairFault.{PairFault}
+use Rattle.bt_recover.specs.declared.pairing.PairFault.TheVariants as pair
 use Rattle.bt_net.specs.declared.fault.NetFault.{NetFault}
 use Rattle.bt_net.specs.declared.fault.NetFault.TheVariants as net
 use Rattle.bt_net.specs.Network.{Network, IsNetwork, IsLarge, LacksEnds}

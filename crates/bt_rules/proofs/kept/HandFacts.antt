@@ -93,7 +93,7 @@ half_of (shape.Half half) e = (half, refl)
 
 -- ---- steps in a line
 
-pub steps_more : (dir : Dir) (n m : ℕ) (c : Cell) → m ≡ n + 1 → step dir (steps n dir c) ≡ steps m dir c
+steps_more : (dir : Dir) (n m : ℕ) (c : Cell) → m ≡ n + 1 → step dir (steps n dir c) ≡ steps m dir c
 steps_more North n m c e = ap (λ y. record { x = c.x; y = y }) (omega (arith, ints))
 steps_more East n m c e = ap (λ x. record { x = x; y = c.y }) (omega (arith, ints))
 steps_more South n m c e = ap (λ y. record { x = c.x; y = y }) (omega (arith, ints))

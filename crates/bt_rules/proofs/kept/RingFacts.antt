@@ -28,7 +28,7 @@ use Rattle.bt_rules.proofs.kept.PartFacts.{part_there, standing, part_at, at_the
 use Rattle.bt_rules.proofs.kept.HandFacts.{feeds_going, one_near, pair_there, one_entrance, pieces_paired, none_side_loaded, none_blocked}
 
 -- each part of a path is its first, or one of the path hands to it
-pub path_before : (parts : List Part) (i last : ℕ) (links : List ℕ) → Path parts i last links → (j : ℕ) → In links j
+path_before : (parts : List Part) (i last : ℕ) (links : List ℕ) → Path parts i last links → (j : ℕ) → In links j
     → IsLink parts j × ((j ≡ i) ⊎ ((k : ℕ) × In links k × Hands parts k j))
 path_before parts i last links (one a link) j (inl e) = (subst (IsLink parts) (sym e) link, inl e)
 path_before parts i last links (one a link) j (inr none) = absurd none
@@ -43,12 +43,12 @@ pub path_last : (parts : List Part) (i last : ℕ) (links : List ℕ) → Path p
 path_last parts i last links (one a link) = inl refl
 path_last parts i last links (more a b l rest link hands path) = inr (path_last parts b l rest path)
 
-pub path_first : (parts : List Part) (i last : ℕ) (links : List ℕ) → Path parts i last links → In links i
+path_first : (parts : List Part) (i last : ℕ) (links : List ℕ) → Path parts i last links → In links i
 path_first parts i last links (one a link) = inl refl
 path_first parts i last links (more a b l rest link hands path) = inl refl
 
 -- each of the list is a link to which one of the list hands
-abbrev pub IsClosed : List Part → List ℕ → Type 0
+abbrev IsClosed : List Part → List ℕ → Type 0
 IsClosed parts links = (j : ℕ) → In links j → IsLink parts j × ((k : ℕ) × In links k × Hands parts k j)
 
 ring_closed : (parts : List Part) (i : ℕ) (ring : IsOnRing parts i) → IsClosed parts ring.links

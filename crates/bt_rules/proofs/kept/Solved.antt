@@ -40,7 +40,7 @@ pub record Solved : Type 0 where
 abbrev pub Says : Solved → Fact → Type 0
 Says w fact = w.reading fact ≡ true
 
-abbrev pub Denies : Solved → Fact → Type 0
+abbrev Denies : Solved → Fact → Type 0
 Denies w fact = w.reading fact ≡ false
 
 pub said : (w : Solved) (fact : Fact) → Says w fact ⊎ Denies w fact

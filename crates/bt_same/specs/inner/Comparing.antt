@@ -3,7 +3,7 @@ use Rattle.std.specs.Prelude.{◌≡◌, ℕ, ◌<◌, slice_index_or}
 use Rattle.bt_frac.specs.Values.{nothing}
 use Rattle.bt_net.specs.Network.{Network}
 use Rattle.bt_flow.specs.States.{Fractions}
-use Rattle.bt_fenc.specs.Columns.{output_edge}
+use Rattle.bt_flow.specs.EndEdges.{output_edge}
 
 -- the flow of an output is equal in both
 abbrev pub IsAlikeAt : Network → Network → Fractions → Fractions → ℕ → Type 0

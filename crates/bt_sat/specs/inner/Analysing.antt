@@ -8,7 +8,7 @@ use Rattle.bt_watch.specs.declared.search.Search.{Search}
 use Rattle.bt_watch.specs.Levels.{start_of}
 use Rattle.bt_watch.specs.Reasons.{lit_at}
 use Rattle.bt_sat.specs.declared.analysis.ConflictLevel.{ConflictLevel}
-use Rattle.bt_sat.specs.inner.Agendas.{Takes, Reaches}
+use Rattle.bt_watch.specs.Agendas.{Takes, Reaches}
 
 -- the literal that is false at a place of the trail
 abbrev pub false_at : List Lit → ℕ → Lit

@@ -5,16 +5,16 @@ use Rattle.bt_cnf.specs.declared.literal.Lit.{Lit}
 use Rattle.bt_log.specs.Logs.{Lemma}
 use Rattle.bt_sat.specs.Solving.{SolverParts, Status, Searches, KeepsModel, EndsRefuted, EndsSpent, LacksMemory}
 use Rattle.bt_sat.specs.declared.progress.Progress.{Progress}
-use Rattle.bt_sat.specs.declared.solver.Answer.{Answer}
-use Rattle.bt_sat.specs.declared.solver.Assumed.{Assumed}
+use Rattle.bt_sat.specs.declared.answer.Answer.{Answer}
+use Rattle.bt_sat.specs.declared.answer.Assumed.{Assumed}
 use Rattle.bt_sat.specs.declared.kernel.Stage.{Stage}
 use Rattle.bt_sat.specs.declared.kernel.Stage.TheVariants.{Running, Complete, Refuted, Spent, Lost}
 use Rattle.bt_sat.specs.inner.Choices.{IsComplete}
 use Rattle.bt_sat.specs.inner.Searching.{SearchesOn, HasSpent, IsRefuted}
 use Rattle.bt_sat.specs.inner.Progressing.{IsRunning, LogsStep}
 use Rattle.bt_sat.specs.inner.Telling.{TellsOne}
-use Rattle.bt_sat.specs.declared.solver.Answer.TheVariants as answer
-use Rattle.bt_sat.specs.declared.solver.Assumed.TheVariants as assumed
+use Rattle.bt_sat.specs.declared.answer.Answer.TheVariants as answer
+use Rattle.bt_sat.specs.declared.answer.Assumed.TheVariants as assumed
 
 -- the value of a variable, which is false where it has none
 abbrev pub value_of : Option Bool → Bool

@@ -2,7 +2,7 @@
 use Rattle.std.specs.Prelude.{◌≡◌, ◌⊎◌, ◌+◌, ◌*◌, ◌<◌, ◌≤◌, ℕ, List, [], ◌∷◌, length, slice_get, Option, Some}
 use Rattle.bt_cnf.specs.Choosing.{Gains}
 use Rattle.bt_cnf.specs.declared.literal.Lit.{Lit}
-use Rattle.bt_sat.specs.declared.solver.TheConstants.{EPOCH_STEPS}
+use Rattle.bt_sat.specs.declared.serving.TheConstants.{EPOCH_STEPS}
 
 -- the next step is in the epoch of the chooser at a place
 pub record IsServing (choosers steps place : ℕ) : Type 0 where

@@ -14,7 +14,7 @@ use Rattle.bt_theory.specs.declared.base.Base.{Base}
 use Rattle.bt_theory.specs.declared.lemma.Conflict.{Conflict}
 use Rattle.bt_theory.specs.declared.outcome.Outcome.{Outcome}
 use Rattle.bt_theory.specs.declared.outcome.Outcome.TheVariants as outcome
-use Rattle.bt_trim.specs.Trimming.{IsTrimmed}
+use Rattle.bt_log.specs.Trimming.{IsTrimmed}
 use Rattle.bt_theory.specs.inner.Bases.{base_in}
 use Rattle.bt_theory.specs.inner.Choosing.{IsChosen}
 use Rattle.bt_theory.specs.inner.Scopes.{IsScopeOf, parts_of}

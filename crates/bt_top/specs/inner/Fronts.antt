@@ -1,7 +1,7 @@
 -- Fronts of an input: what they tell of the answer to it, whatever may follow.
 use Rattle.std.specs.Prelude.{◌≡◌, ℕ, Bool, false, List, ◌++◌, All, Option, Result, Ok, Err, IfOk, MatchOption, length}
 use Rattle.std.specs.declared.alloc.AllocError.{AllocError}
-use Rattle.bt_answers.specs.Answers.{seen}
+use Rattle.bt_text.specs.Answers.{seen}
 use Rattle.bt_text.specs.Blanks.{IsBlank}
 use Rattle.bt_io.specs.Bytes.{ReadsAll}
 use Rattle.bt_io.specs.Passages.{Passage}
@@ -19,7 +19,7 @@ use Rattle.bt_designs.specs.declared.fault.DesignFault.{DesignFault}
 use Rattle.bt_designs.specs.declared.fault.DesignFault.TheVariants as design
 use Rattle.bt_top.specs.declared.front.Front.{Front}
 use Rattle.bt_top.specs.declared.front.Front.TheVariants as front
-use Rattle.bt_top.specs.declared.front.Steps.{Steps}
+use Rattle.bt_top.specs.declared.front.WrittenSteps.{WrittenSteps}
 use Rattle.bt_top.specs.declared.front.WrittenPair.{WrittenPair}
 use Rattle.bt_top.specs.declared.front.WrittenState.{WrittenState}
 use Rattle.bt_designs.specs.declared.held.Held.{Held}
@@ -43,7 +43,7 @@ steps_answer accepted (Ok done) = Ok (answer.Brief accepted)
 steps_answer accepted (Err fault) = cert_told fault
 
 -- what is answered to steps of which these lines were read, and more
-abbrev pub IsStepsReply : Steps → List ℕ → Reply → Type 0
+abbrev pub IsStepsReply : WrittenSteps → List ℕ → Reply → Type 0
 IsStepsReply steps more reply =
     (told : Result (Unit {0}) CertFault) × IsCertRead steps.formula (steps.lines.now ++ more) told × (reply ≡ steps_answer steps.accepted told)
 

@@ -5,7 +5,7 @@ use Rattle.std.specs.List.{filter_map}
 use Rattle.bt_words.specs.declared.argument.Argument.{Argument}
 use Rattle.bt_words.specs.declared.argument.Argument.TheVariants.{Wished, Number, Chain, Found, Sides, Request}
 use Rattle.bt_words.specs.declared.argument.TheConstants.{MOST_ORDER}
-use Rattle.bt_wish.specs.Wishes.{IsWishWord}
+use Rattle.bt_gen.specs.Wishes.{IsWishWord}
 use Rattle.bt_words.specs.declared.given.Given.{Given}
 use Rattle.bt_words.specs.declared.given.Places.{Places}
 use Rattle.bt_words.specs.Arguments.{IsArgument, AreArguments}

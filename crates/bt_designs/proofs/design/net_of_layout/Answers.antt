@@ -1,6 +1,6 @@
 use Rattle.std.proofs.Common.{refl, ap, Err}
-use Rattle.bt_grid.specs.declared.grid.GridFault.TheVariants as grid
-use Rattle.bt_grid.specs.Placing.{IsPlaced}
+use Rattle.bt_recover.specs.declared.grid.GridFault.TheVariants as grid
+use Rattle.bt_recover.specs.Placing.{IsPlaced}
 use Rattle.bt_designs.specs.declared.fault.DesignFault.TheVariants.{Memory}
 use Rattle.bt_designs.specs.Refusals.{grid_told}
 use Rattle.bt_designs.specs.Designs.{IsPlacedNet}

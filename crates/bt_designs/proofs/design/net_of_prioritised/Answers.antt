@@ -1,7 +1,7 @@
 use Rattle.std.proofs.Common.{refl, ap, subst, Err}
-use Rattle.bt_answers.specs.Answers.{UnlessMemory}
-use Rattle.bt_grid.specs.declared.grid.GridFault.TheVariants as grid
-use Rattle.bt_grid.specs.Placing.{IsPlaced}
+use Rattle.bt_text.specs.Answers.{UnlessMemory}
+use Rattle.bt_recover.specs.declared.grid.GridFault.TheVariants as grid
+use Rattle.bt_recover.specs.Placing.{IsPlaced}
 use Rattle.bt_designs.specs.declared.fault.DesignFault.TheVariants.{Memory}
 use Rattle.bt_designs.specs.Refusals.{grid_told}
 use Rattle.bt_designs.specs.Designs.{IsPlacedWith}

@@ -1,5 +1,5 @@
 use Rattle.std.proofs.Common.{◌≡◌, refl, ap, Ok, Err, Result}
-use Rattle.bt_answers.specs.Answers.{seen}
+use Rattle.bt_text.specs.Answers.{seen}
 use Rattle.bt_json.specs.declared.fault.JsonFault.TheVariants as json
 use Rattle.bt_json.specs.Answers.{IsRead}
 use Rattle.bt_designs.specs.declared.design.Laid.{Laid}

@@ -1,9 +1,9 @@
 use Rattle.std.proofs.Common.{◌≡◌, List, Result, refl, ap, subst, sym, Ok, Err}
 use Rattle.std.specs.Prelude.{IfOk}
 use Rattle.std.proofs.lemmas.Result.{IfOk-weaker}
-use Rattle.bt_answers.specs.Answers.{seen}
+use Rattle.bt_text.specs.Answers.{seen}
 use Rattle.bt_json.specs.Stands.{json_of}
-use Rattle.bt_hands.specs.declared.hand.Priority.{Priority}
+use Rattle.bt_parts.specs.declared.hand.Priority.{Priority}
 use Rattle.bt_entities.specs.Answers.{IsPrioritisedOf}
 use Rattle.bt_entities.specs.declared.fault.EntityFault.TheVariants as entity
 use Rattle.bt_designs.specs.declared.fault.DesignFault.TheVariants.{Memory}

@@ -1,9 +1,9 @@
 use Rattle.std.proofs.Common.{refl, ap, subst, sym, Err}
 use Rattle.std.proofs.lemmas.Result.{IfOk-weaker}
-use Rattle.bt_answers.specs.Answers.{UnlessMemory, seen}
+use Rattle.bt_text.specs.Answers.{UnlessMemory, seen}
 use Rattle.bt_entities.specs.Answers.{parts_and_priorities_in}
-use Rattle.bt_grid.specs.declared.grid.GridFault.TheVariants as grid
-use Rattle.bt_grid.specs.Placing.{IsPlaced}
+use Rattle.bt_recover.specs.declared.grid.GridFault.TheVariants as grid
+use Rattle.bt_recover.specs.Placing.{IsPlaced}
 use Rattle.bt_designs.specs.declared.fault.DesignFault.TheVariants.{Memory}
 use Rattle.bt_designs.specs.Designs.{IsLayoutWith, IsPlacedWith, IsTierOf}
 use Rattle.bt_designs.specs.Found.{laid_of}

@@ -1,10 +1,10 @@
 use Rattle.std.proofs.Common.{refl, subst, sym, Err}
 use Rattle.std.proofs.lemmas.Result.{IfOk-weaker}
-use Rattle.bt_answers.specs.Answers.{seen}
+use Rattle.bt_text.specs.Answers.{seen}
 use Rattle.bt_designs.specs.declared.fault.DesignFault.TheVariants.{Memory}
 use Rattle.bt_designs.specs.Alone.{IsAlone}
 use Rattle.bt_designs.specs.Designs.{IsJsonPreferring}
-use Rattle.bt_designs.specs.Found.{laid_of, request_in}
+use Rattle.bt_designs.specs.Found.{laid_of, blueprint_request_of}
 use Rattle.bt_designs.specs.Kept.{AreDrawn}
 use Rattle.bt_designs.specs.Requested.{IsRequestFor, pinned_laid}
 use Rattle.bt_designs.proofs.InTurns.{stops, went}

@@ -1,4 +1,4 @@
-use Rattle.bt_answers.specs.Answers.{seen}
+use Rattle.bt_text.specs.Answers.{seen}
 use Rattle.bt_json.specs.Stands.{json_of}
 use Rattle.bt_entities.specs.Answers.{parts_and_priorities_in}
 use Rattle.bt_entities.proofs.OneAnswer.{priorities_answer}

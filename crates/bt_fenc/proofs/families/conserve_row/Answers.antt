@@ -3,7 +3,7 @@ use Rattle.bt_frac.specs.Rows.{HaveColumns}
 use Rattle.bt_net.specs.declared.network.TheConstants.{MOST_OF_EACH}
 use Rattle.bt_net.specs.Network.{enters, leaves}
 use Rattle.bt_flow.specs.Ports.{numbers_where}
-use Rattle.bt_frac.specs.declared.row.Relation.TheVariants.{Equal}
+use Rattle.bt_frac.specs.declared.relation.Relation.TheVariants.{Equal}
 use Rattle.bt_fenc.specs.Columns.{in_less_out}
 use Rattle.bt_fenc.specs.inner.Merging.{merged}
 use Rattle.bt_fenc.proofs.Merges.{merged_edges}

@@ -4,7 +4,7 @@ use Rattle.std.proofs.lemmas.List.{take_all, map_push}
 use Rattle.bt_frac.specs.Rows.{HaveColumns}
 use Rattle.bt_flow.specs.Ports.{numbers_where}
 use Rattle.bt_flow.specs.Properties.{is_last}
-use Rattle.bt_frac.specs.declared.row.Relation.TheVariants.{Above}
+use Rattle.bt_frac.specs.declared.relation.Relation.TheVariants.{Above}
 use Rattle.bt_fenc.specs.Columns.{plus, minus}
 use Rattle.bt_arena.proofs.Loops.{mapped_more, range_more}
 use Rattle.bt_fenc.proofs.Columns.{output_columns}

@@ -4,7 +4,8 @@ use Rattle.bt_frac.specs.Rows.{RowParts}
 use Rattle.bt_cnf.specs.Formulas.{FormulaParts}
 use Rattle.bt_fenc.specs.declared.state_literal.StateLiteral.{StateLiteral}
 use Rattle.bt_fenc.specs.declared.state_literal.StateLiteral.TheVariants.{Says}
-use Rattle.bt_fenc.specs.Columns.{at_least, load_column, cap_at, input_edge}
+use Rattle.bt_flow.specs.EndEdges.{load_column, cap_at, input_edge}
+use Rattle.bt_fenc.specs.Columns.{at_least}
 use Rattle.bt_fenc.specs.inner.Adding.{with_clauses}
 use Rattle.bt_arena.proofs.Loops.{item_more}
 use Rattle.bt_fenc.specs.inner.Variables.{at_in}

@@ -1,7 +1,8 @@
 use Rattle.std.proofs.Common.{◌≡◌, ◌∷◌, [], map}
 use Rattle.std.specs.List.{range_with_len}
 use Rattle.bt_fenc.specs.declared.state_literal.StateLiteral.TheVariants.{Says}
-use Rattle.bt_fenc.specs.Columns.{at_least, room_column, cap_at, output_edge}
+use Rattle.bt_flow.specs.EndEdges.{room_column, cap_at, output_edge}
+use Rattle.bt_fenc.specs.Columns.{at_least}
 use Rattle.bt_fenc.specs.inner.Adding.{with_clauses}
 use Rattle.bt_fenc.specs.inner.Variables.{at_in}
 use Rattle.bt_fenc.proofs.properties.add_open.Given as goal

@@ -1,6 +1,6 @@
 use Rattle.std.proofs.Common.{◌≡◌, ◌<◌, ◌-◌, ◌^◌, map}
 use Rattle.std.specs.List.{range_with_len, All}
-use Rattle.bt_fenc.specs.Columns.{output_edge}
+use Rattle.bt_flow.specs.EndEdges.{output_edge}
 use Rattle.bt_fenc.proofs.properties.output_edges.Given as goal
 
 abbrev pub invariant-loop-output : goal.invariant-loop-output

@@ -1,5 +1,5 @@
 use Rattle.std.proofs.Common.{sym, subst}
-use Rattle.bt_answers.proofs.OneAnswer.{answers_always_of}
+use Rattle.bt_text.proofs.OneAnswer.{answers_always_of}
 use Rattle.bt_flow.specs.States.{Flows, StandsFor}
 use Rattle.bt_flow.specs.Judging.{IsStateAnswer}
 use Rattle.bt_flow.specs.inner.Trials.{IsJudged}

@@ -1,6 +1,6 @@
 use Rattle.std.proofs.Common.{◌≡◌, ◌≢◌, ℕ, length, replicate, ◌∙◌, ap, ⊎_elim}
 use Rattle.std.proofs.lemmas.Result.{IfOk-weaker}
-use Rattle.bt_hands.specs.Hands.{no_priority, priority_of}
+use Rattle.bt_parts.specs.Hands.{no_priority, priority_of}
 use Rattle.bt_parts.specs.declared.part.Kind.TheVariants.{Splitter}
 use Rattle.bt_parts.specs.declared.part.Part.{Part}
 use Rattle.bt_parts.specs.Layouts.{HasPart}

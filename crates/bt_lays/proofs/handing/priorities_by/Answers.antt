@@ -1,9 +1,9 @@
 use Rattle.std.proofs.Common.{sym, subst, ⊎_elim}
 use Rattle.std.specs.Prelude.{Err}
 use Rattle.bt_parts.specs.Layouts.{AreInRange}
-use Rattle.bt_answers.specs.Answers.{UnlessMemory}
-use Rattle.bt_grid.specs.declared.grid.GridFault.TheVariants.{Memory}
-use Rattle.bt_grid.specs.Placing.{IsFirstOverlap, IsPlaced}
+use Rattle.bt_text.specs.Answers.{UnlessMemory}
+use Rattle.bt_recover.specs.declared.grid.GridFault.TheVariants.{Memory}
+use Rattle.bt_recover.specs.Placing.{IsFirstOverlap, IsPlaced}
 use Rattle.bt_lays.specs.Laid.{naming_of}
 use Rattle.bt_lays.proofs.Within.{overlap_no_memory, overlapping_lays_not, suits_in_range, suits_of}
 use Rattle.bt_lays.proofs.handing.priorities_by.Goals as goal

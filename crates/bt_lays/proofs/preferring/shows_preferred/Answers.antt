@@ -1,9 +1,9 @@
 use Rattle.std.proofs.Common.{subst, ⊎_elim}
 use Rattle.std.specs.Prelude.{Err}
 use Rattle.std.proofs.lemmas.Bool.{false≢true}
-use Rattle.bt_answers.specs.Answers.{UnlessMemory}
-use Rattle.bt_grid.specs.declared.grid.GridFault.TheVariants.{Memory}
-use Rattle.bt_grid.specs.Placing.{IsFirstOverlap, IsPlaced}
+use Rattle.bt_text.specs.Answers.{UnlessMemory}
+use Rattle.bt_recover.specs.declared.grid.GridFault.TheVariants.{Memory}
+use Rattle.bt_recover.specs.Placing.{IsFirstOverlap, IsPlaced}
 use Rattle.bt_lays.proofs.Within.{overlap_no_memory}
 use Rattle.bt_lays.proofs.preferring.shows_preferred.Goals as goal
 

@@ -3,9 +3,9 @@ use Rattle.std.specs.Prelude.{Err}
 use Rattle.std.specs.List.{All}
 use Rattle.std.proofs.lemmas.Bool.{false≢true}
 use Rattle.bt_parts.specs.Layouts.{AreInRange}
-use Rattle.bt_answers.specs.Answers.{UnlessMemory}
-use Rattle.bt_grid.specs.declared.grid.GridFault.TheVariants.{Memory}
-use Rattle.bt_grid.specs.Placing.{IsFirstOverlap, IsPlaced}
+use Rattle.bt_text.specs.Answers.{UnlessMemory}
+use Rattle.bt_recover.specs.declared.grid.GridFault.TheVariants.{Memory}
+use Rattle.bt_recover.specs.Placing.{IsFirstOverlap, IsPlaced}
 use Rattle.bt_model.specs.Requests.{IsGrid}
 use Rattle.bt_lays.specs.Laid.{naming_of}
 use Rattle.bt_lays.specs.inner.Fitting.{SuitsAlone}

@@ -1,7 +1,7 @@
 use Rattle.std.proofs.Common.{◌≡◌, ◌≢◌, ◌↔◌, false, IsTrue, sym, ◌∙◌, subst, ⊎_elim}
 use Rattle.std.proofs.lemmas.Bool.{false≢true}
 use Rattle.std.proofs.lemmas.Result.{IfOk-weaker}
-use Rattle.bt_answers.specs.Answers.{UnlessMemory, seen}
+use Rattle.bt_text.specs.Answers.{UnlessMemory, seen}
 use Rattle.bt_recover.specs.declared.fault.RecoverFault.TheVariants.{Memory}
 use Rattle.bt_recover.specs.Recovered.{IsRecovered, network_and_naming}
 use Rattle.bt_lays.specs.Laid.{LaysBy, naming_of}

@@ -1,6 +1,6 @@
 use Rattle.std.proofs.Common.{◌≡◌, ◌<◌, ◌≤◌, ◌↔◌, IsTrue, Ok, Err, length, get_or, subst, refl}
 use Rattle.std.proofs.lemmas.List.{take_all}
-use Rattle.bt_answers.proofs.OneAnswer.{answers_always_of}
+use Rattle.bt_text.proofs.OneAnswer.{answers_always_of}
 use Rattle.bt_frac.specs.Values.{nothing, value_in, valued, Stands}
 use Rattle.bt_lin.specs.Evaluation.{IsEvaluation}
 use Rattle.bt_lin.specs.RunningSums.{RunsTo}

@@ -1,5 +1,5 @@
 use Rattle.std.proofs.Common.{refl}
-use Rattle.bt_answers.proofs.OneAnswer.{answers_always_of}
+use Rattle.bt_text.proofs.OneAnswer.{answers_always_of}
 use Rattle.bt_lin.specs.Farkas.{IsFarkas}
 use Rattle.bt_lin.specs.WeightedRows.{weighted}
 use Rattle.bt_lin.proofs.FarkasLemmas.{one_farkas}

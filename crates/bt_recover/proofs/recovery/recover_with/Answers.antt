@@ -1,5 +1,5 @@
 use Rattle.std.specs.Prelude.{Err}
-use Rattle.bt_answers.specs.Answers.{seen}
+use Rattle.bt_text.specs.Answers.{seen}
 use Rattle.bt_recover.specs.Recovered.{network_and_naming}
 use Rattle.bt_recover.proofs.PreferLemmas.{recovery_with_answers}
 use Rattle.bt_recover.proofs.recovery.recover_with.Goals as goal

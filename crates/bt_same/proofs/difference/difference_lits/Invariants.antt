@@ -1,6 +1,6 @@
 use Rattle.std.proofs.Common.{◌≡◌, ◌+◌, length}
 use Rattle.std.specs.List.{flat_map, range_with_len}
-use Rattle.bt_fenc.specs.Columns.{output_edge}
+use Rattle.bt_flow.specs.EndEdges.{output_edge}
 use Rattle.bt_same.specs.inner.Joining.{with_rows, hold_from, differing_rows}
 use Rattle.bt_same.proofs.difference.difference_lits.Given as goal
 

@@ -1,6 +1,6 @@
 use Rattle.std.proofs.Common.{Ok, Err}
 use Rattle.std.proofs.lemmas.Result.{err_from_is_err_and}
-use Rattle.bt_answers.proofs.OneAnswer.{answers_always_of}
+use Rattle.bt_text.proofs.OneAnswer.{answers_always_of}
 use Rattle.bt_flow.specs.declared.judgement.Test.TheVariants.{Conclusion}
 use Rattle.bt_flow.specs.declared.judgement.Judgement.TheVariants as of_state
 use Rattle.bt_same.specs.declared.pair.Which.TheVariants.{First, Second, Kept}

@@ -1,6 +1,6 @@
 use Rattle.std.proofs.Common.{Ok, sym, subst}
 use Rattle.std.proofs.lemmas.Result.{err_from_is_err_and}
-use Rattle.bt_answers.specs.Answers.{Answers}
+use Rattle.bt_text.specs.Answers.{Answers}
 use Rattle.bt_flow.specs.declared.fault.StateFault.TheVariants.{Memory}
 use Rattle.bt_same.specs.PairReading.{IsPairRead}
 use Rattle.bt_same.proofs.PairAnswers.{no_memory, refused_title, refused_ends, refused_first, refused_second, refused_end, read_answer}

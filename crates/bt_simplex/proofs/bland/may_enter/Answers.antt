@@ -1,5 +1,5 @@
 use Rattle.std.proofs.Common.{◌≢◌, rules, sym, ◌∙◌}
-use Rattle.bt_frac.specs.declared.row.Relation.TheVariants.{Equal}
+use Rattle.bt_frac.specs.declared.relation.Relation.TheVariants.{Equal}
 use Rattle.bt_simplex.proofs.Enters.{may_by}
 use Rattle.bt_simplex.proofs.bland.may_enter.Goals as goal
 

@@ -1,5 +1,5 @@
 use Rattle.std.proofs.Common.{refl, drop, subst, alloc_error}
-use Rattle.bt_answers.specs.Answers.{UnlessMemory}
+use Rattle.bt_text.specs.Answers.{UnlessMemory}
 use Rattle.bt_designs.specs.declared.fault.DesignFault.TheVariants.{Memory}
 use Rattle.bt_designs.specs.Designs.{IsDesign}
 use Rattle.bt_replies.specs.Replies.{design_told}

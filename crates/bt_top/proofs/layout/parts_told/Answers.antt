@@ -1,6 +1,6 @@
 use Rattle.std.proofs.Common.{refl, sym, subst}
 use Rattle.bt_model.specs.Laying.{Lays, LaysPreferring}
-use Rattle.bt_write.specs.ReadBack.{SplittersPrefer}
+use Rattle.bt_entities.specs.ReadBack.{SplittersPrefer}
 use Rattle.bt_layout.proofs.Written.{laid_is_read_back}
 use Rattle.bt_top.proofs.layout.parts_told.Goals as goal
 

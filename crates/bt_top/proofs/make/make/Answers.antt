@@ -1,5 +1,5 @@
 use Rattle.std.proofs.Common.{sym, subst, alloc_error}
-use Rattle.bt_answers.specs.Answers.{UnlessMemory}
+use Rattle.bt_text.specs.Answers.{UnlessMemory}
 use Rattle.bt_top.specs.Making.{IsMade}
 use Rattle.bt_top.proofs.make.make.Goals as goal
 

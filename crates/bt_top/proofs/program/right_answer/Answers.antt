@@ -1,5 +1,5 @@
 use Rattle.std.proofs.Common.{alloc_error, subst, sym}
-use Rattle.bt_answers.specs.Answers.{UnlessMemory}
+use Rattle.bt_text.specs.Answers.{UnlessMemory}
 use Rattle.bt_top.specs.Answering.{IsRightTo}
 use Rattle.bt_top.specs.inner.Grids.{HasGrid}
 use Rattle.bt_top.proofs.program.right_answer.Goals as goal

@@ -1,5 +1,5 @@
 use Rattle.std.proofs.Common.{Err, refl, subst}
-use Rattle.bt_answers.specs.Answers.{UnlessMemory}
+use Rattle.bt_text.specs.Answers.{UnlessMemory}
 use Rattle.bt_designs.specs.declared.fault.DesignFault.TheVariants.{Memory, Refused}
 use Rattle.bt_top.specs.SameCertificates.{IsSameCertificateChecked}
 use Rattle.bt_designs.specs.Steps.{stopped, went_on}

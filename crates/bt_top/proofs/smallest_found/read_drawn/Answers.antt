@@ -1,6 +1,6 @@
-use Rattle.bt_answers.specs.Answers.{seen}
+use Rattle.bt_text.specs.Answers.{seen}
 use Rattle.bt_designs.specs.declared.fault.DesignFault.TheVariants.{Memory}
-use Rattle.bt_designs.specs.Found.{request_in}
+use Rattle.bt_designs.specs.Found.{blueprint_request_of}
 use Rattle.bt_designs.specs.Kept.{IsBlueprintRequest}
 use Rattle.bt_designs.specs.Requested.{IsLoneRequest}
 use Rattle.bt_designs.proofs.Drawings.{blueprint_is_lone}
@@ -9,5 +9,5 @@ use Rattle.bt_top.proofs.smallest_found.read_drawn.Goals as goal
 
 pub returns-in-Any-clause-request : goal.returns-in-Any-clause-request
 returns-in-Any-clause-request c =
-    weaker Memory (IsBlueprintRequest c.args.rect c.args.tier c.args.bytes.now) (IsLoneRequest c.args.rect c.args.tier c.args.bytes.now) (seen request_in c.read_blueprint_request.result)
+    weaker Memory (IsBlueprintRequest c.args.rect c.args.tier c.args.bytes.now) (IsLoneRequest c.args.rect c.args.tier c.args.bytes.now) (seen blueprint_request_of c.read_blueprint_request.result)
     (blueprint_is_lone c.args.bytes.now c.requires.json c.args.rect c.args.tier) c.read_blueprint_request.ensures.request

@@ -2,7 +2,7 @@ use Rattle.std.proofs.Common.{◌≡◌, ℕ, subst, refl, List}
 use Rattle.std.specs.List.{All}
 use Rattle.bt_frac.specs.Ratio.{Ratio, IsLowest}
 use Rattle.bt_frac.specs.Rows.{HaveColumns, IsRow}
-use Rattle.bt_frac.specs.declared.row.Relation.{Relation}
+use Rattle.bt_frac.specs.declared.relation.Relation.{Relation}
 use Rattle.bt_frac.proofs.row.Row.from_vec.Goals as goal
 
 made : (terms seen : List (ℕ × Ratio)) (relation : Relation) (bound : Ratio) → seen ≡ terms → HaveColumns seen → All (λ t. IsLowest t.1) seen → IsLowest bound

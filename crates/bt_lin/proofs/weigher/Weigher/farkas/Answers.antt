@@ -1,7 +1,7 @@
 use Rattle.std.proofs.Common.{◌<◌, Ok, Err, length, ap, subst, sym, ◌∙◌, inl, slice_index_or}
 use Rattle.std.specs.List.{All}
 use Rattle.std.proofs.lemmas.List.{length-map}
-use Rattle.bt_answers.proofs.OneAnswer.{answers_of}
+use Rattle.bt_text.proofs.OneAnswer.{answers_of}
 use Rattle.bt_frac.specs.Rows.{columns_in}
 use Rattle.bt_lin.specs.Farkas.{IsSumJudged}
 use Rattle.bt_lin.specs.WeightedRows.{empty_row, picked, weighted}

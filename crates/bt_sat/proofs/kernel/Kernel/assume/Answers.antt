@@ -1,6 +1,6 @@
 use Rattle.std.proofs.Common.{map, subst}
 use Rattle.bt_sat.specs.Answering.{Assumes}
-use Rattle.bt_sat.specs.declared.solver.Assumed.TheVariants as assumed
+use Rattle.bt_sat.specs.declared.answer.Assumed.TheVariants as assumed
 use Rattle.bt_sat.proofs.Ended
 use Rattle.bt_sat.proofs.kernel.Kernel.assume.Goals as goal
 

@@ -1,6 +1,6 @@
 use Rattle.std.proofs.Common.{map, subst}
 use Rattle.bt_sat.specs.Answering.{GivesNext}
-use Rattle.bt_sat.specs.declared.solver.Answer.TheVariants as answer
+use Rattle.bt_sat.specs.declared.answer.Answer.TheVariants as answer
 use Rattle.bt_sat.proofs.Ended
 use Rattle.bt_sat.proofs.kernel.Kernel.next_model.Goals as goal
 

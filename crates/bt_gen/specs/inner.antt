@@ -1,0 +1,2 @@
+-- What private functions tell of their results: definitions that no public clause cites.
+pub mod WishReading

@@ -1,0 +1,6 @@
+//! The terms of lines.
+
+use bt_frac::Frac;
+
+/// A position with its number.
+pub type Term = (usize, Frac);

@@ -1,5 +1,0 @@
-use Rattle.bt_loops.proofs.Kept.{balanced_kept}
-use Rattle.bt_loops.proofs.law.balanced_led_back.Goals as goal
-
-pub returns : goal.returns
-returns c = balanced_kept

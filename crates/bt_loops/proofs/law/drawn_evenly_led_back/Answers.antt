@@ -1,5 +1,0 @@
-use Rattle.bt_loops.proofs.Kept.{drawn_evenly_kept}
-use Rattle.bt_loops.proofs.law.drawn_evenly_led_back.Goals as goal
-
-pub returns : goal.returns
-returns c = drawn_evenly_kept

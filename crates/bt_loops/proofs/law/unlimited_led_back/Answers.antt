@@ -1,5 +1,0 @@
-use Rattle.bt_loops.proofs.Kept.{unlimited_kept}
-use Rattle.bt_loops.proofs.law.unlimited_led_back.Goals as goal
-
-pub returns : goal.returns
-returns c = unlimited_kept

@@ -1,8 +1,0 @@
-use Rattle.bt_sat.specs.inner.Agendas.{AreBefore}
-use Rattle.bt_sat.proofs.agenda.last_marked.Given as goal
-
-abbrev pub invariant-loop-place : goal.invariant-loop-place
-invariant-loop-place l = AreBefore l.marks l.place
-
-abbrev pub decreases-loop-place : goal.decreases-loop-place
-decreases-loop-place l = l.place

@@ -1,5 +1,0 @@
-pub mod Choosing
-pub mod Left
-pub mod Marked
-pub mod Numbers
-pub mod Valid

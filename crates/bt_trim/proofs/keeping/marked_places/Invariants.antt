@@ -1,6 +1,0 @@
-use Rattle.std.proofs.Common.{take}
-use Rattle.bt_trim.specs.inner.Keeping.{AreThose}
-use Rattle.bt_trim.proofs.keeping.marked_places.Given as goal
-
-abbrev pub invariant-loop-place : goal.invariant-loop-place
-invariant-loop-place l = AreThose (take l.place l.marks) l.places.items

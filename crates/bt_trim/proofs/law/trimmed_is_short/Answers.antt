@@ -1,5 +1,0 @@
-use Rattle.bt_trim.proofs.Valid.{trimmed_is_short as shown}
-use Rattle.bt_trim.proofs.law.trimmed_is_short.Goals as goal
-
-pub returns : goal.returns
-returns c = shown

@@ -1,5 +1,0 @@
-use Rattle.bt_trim.proofs.Valid.{trimmed_refutes as shown}
-use Rattle.bt_trim.proofs.law.trimmed_refutes.Goals as goal
-
-pub returns : goal.returns
-returns c = shown

@@ -1,3 +1,0 @@
--- How the steps that are left are found, which no public clause cites.
-pub mod Keeping
-pub mod Marking

@@ -1,2 +1,0 @@
--- What private functions tell of their results: definitions that no public clause cites.
-pub mod Reading

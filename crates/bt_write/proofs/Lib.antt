@@ -1,4 +1,0 @@
-pub mod Behind
-pub mod Joining
-pub mod CompactJson
-pub mod ReadBack
