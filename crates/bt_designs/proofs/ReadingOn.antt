@@ -20,9 +20,6 @@ all_blank bytes (b ∷ text) s none = absurd (omega (arith, none))
 -- ---- one read
 
 module _ (old : Gathered) (source : Passage) (few : old.skipped + length old.bytes.items ≤ MOST_CHECKED) where
-
-  }
-
   -- it could not be read on
   pub none_gathered : (after : List ℕ) (fault : ReadAll) → ReadsOn (MOST_CHECKED - old.skipped) source old.bytes.items after (Err fault) → ReadsAll (MOST_CHECKED - (old.skipped + length old.bytes.items)) source (Err fault)
   none_gathered after ReadFault r = record { read = (r.read.0, ([], r.read.1, omega arith)); count = r.count }

@@ -39,7 +39,6 @@ other_text bytes [] none skips some = absurd (omega (arith, some))
 other_text bytes (byte ∷ text) none skips some = (byte, text, skips, λ same. none (text, subst (λ b. SkipsBlanks bytes (b ∷ text)) same skips))
 
 module _ (held : Held) where
-
   -- and all is told where the input has ended
   ended_part : held.ended ≡ true → (IsJsonText held.bytes.now ⊎ (held.skipped ≡ 0)) → IsToldPart held held.bytes.now
   ended_part e behind = record { rest = []; bytes_are = sym (append-nil held.bytes.now); kind = inl (e, refl); behind = behind }

@@ -15,9 +15,9 @@ use crate::alone::refused_behind;
 use crate::design::{Laid, net_of_grid_with, tier_of};
 use crate::fault::DesignFault;
 use bt_entities::{Prioritised, parts_and_priorities};
-use bt_recover::Grid;
-use bt_parts::{Priority, Tier};
 use bt_json::Tree;
+use bt_parts::{Priority, Tier};
+use bt_recover::Grid;
 use std::alloc::Global;
 
 /// A blueprint: the network and the tier of its layout, and its parts on their cells.

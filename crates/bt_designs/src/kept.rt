@@ -10,10 +10,10 @@ use crate::design::Laid;
 use crate::drawing::{Drawing, read_lone_drawing};
 use crate::fault::DesignFault;
 use crate::request::tier_for;
-use bt_recover::{Grid, end_sides};
 use bt_model::Request;
 use bt_net::Demand;
 use bt_parts::{Rect, Tier};
+use bt_recover::{Grid, end_sides};
 use std::alloc::Global;
 
 /// The request for a blueprint, and the blueprint's own parts on their cells.

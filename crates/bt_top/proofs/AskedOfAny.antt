@@ -16,7 +16,7 @@ use Rattle.bt_words.specs.declared.command.AskedSides.{AskedSides}
 use Rattle.bt_words.specs.declared.command.AskedSides.TheVariants.{Any, Kept}
 use Rattle.bt_designs.specs.Alone.{IsAlone}
 use Rattle.bt_words.specs.Commands.{usual_grid}
-use Rattle.bt_replies.specs.Replies.{Reply}
+use Rattle.bt_print.specs.Replies.{Reply}
 use Rattle.bt_top.specs.Finding.{IsDesignRequest, IsDrawnRequest, IsFound, greatest_grid}
 use Rattle.bt_top.specs.inner.Asking.{IsDrawnAs, IsFoundBeside}
 use Rattle.bt_designs.specs.Kept.{IsKeptRequest}

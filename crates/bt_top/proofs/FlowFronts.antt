@@ -10,13 +10,13 @@ use Rattle.bt_flow.proofs.WrongLines.{stop_first}
 use Rattle.bt_fenc.specs.FlowFormula.{flow_formula}
 use Rattle.bt_cert.specs.Certificates.{IsCertRead}
 use Rattle.bt_cert.specs.declared.fault.CertFault.{CertFault}
-use Rattle.bt_replies.specs.declared.answer.Brief.TheVariants as brief
+use Rattle.bt_print.specs.declared.answer.Brief.TheVariants as brief
 use Rattle.bt_flow.specs.declared.fault.StateFault.TheVariants as state
 use Rattle.bt_top.specs.declared.front.Front.TheVariants as front
 use Rattle.bt_top.specs.declared.front.WrittenSteps.{WrittenSteps}
 use Rattle.bt_top.specs.declared.front.WrittenState.{WrittenState}
 use Rattle.bt_top.specs.Certificates.{IsTextChecked, IsYesChecked, SaysYes}
-use Rattle.bt_replies.specs.Replies.{Reply}
+use Rattle.bt_print.specs.Replies.{Reply}
 use Rattle.bt_top.specs.States.{IsStateJudged}
 use Rattle.bt_designs.specs.Steps.{stopped}
 use Rattle.bt_designs.specs.Told.{MayFollow, TellsLine}

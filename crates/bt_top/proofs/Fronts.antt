@@ -29,10 +29,10 @@ use Rattle.bt_words.specs.declared.command.Command.TheVariants.{Check, CheckLayo
 use Rattle.bt_parts.specs.declared.part.Rect.{Rect}
 use Rattle.bt_parts.specs.declared.part.Tier.{Tier}
 use Rattle.bt_flow.specs.declared.property.Property.{Property}
-use Rattle.bt_replies.specs.declared.answer.Answer.{Answer}
-use Rattle.bt_replies.specs.declared.answer.Answer.TheVariants as answer
-use Rattle.bt_replies.specs.declared.answer.Brief.{Brief}
-use Rattle.bt_replies.specs.declared.answer.Brief.TheVariants as brief
+use Rattle.bt_print.specs.declared.answer.Answer.{Answer}
+use Rattle.bt_print.specs.declared.answer.Answer.TheVariants as answer
+use Rattle.bt_print.specs.declared.answer.Brief.{Brief}
+use Rattle.bt_print.specs.declared.answer.Brief.TheVariants as brief
 use Rattle.bt_top.specs.declared.claim.CertificateClaim.TheVariants as claim
 use Rattle.bt_designs.specs.declared.fault.DesignFault.{DesignFault}
 use Rattle.bt_designs.specs.declared.fault.DesignFault.TheVariants as design
@@ -43,7 +43,7 @@ use Rattle.bt_top.specs.declared.front.WrittenSteps.{WrittenSteps}
 use Rattle.bt_designs.specs.declared.held.Held.{Held}
 use Rattle.bt_designs.specs.declared.held.TheConstants.{MOST_CHECKED}
 use Rattle.bt_top.specs.Certificates.{cert_told}
-use Rattle.bt_replies.specs.Replies.{Reply}
+use Rattle.bt_print.specs.Replies.{Reply}
 use Rattle.bt_top.specs.inner.Claims.{IsClaimed}
 use Rattle.bt_designs.specs.Told.{MayFollow, LastsBehind, IsAtHand, TellsFront, TellsLine}
 use Rattle.bt_top.specs.inner.Fronts.{TellsRefusal, IsFrontOf, GivesFront, GivesHeldFront, IsStepsReply, AnswersLeft, AnswersRest, ReadsRest, DrainsRest, judged_answer}

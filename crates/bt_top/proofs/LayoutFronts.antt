@@ -8,15 +8,15 @@ use Rattle.bt_model.specs.Requests.{LayoutRequest, IsRequest}
 use Rattle.bt_place.specs.PlaceFormula.{place_formula}
 use Rattle.bt_cert.specs.Certificates.{IsCertRead}
 use Rattle.bt_cert.specs.declared.fault.CertFault.{CertFault}
-use Rattle.bt_replies.specs.declared.answer.Answer.TheVariants as answer
-use Rattle.bt_replies.specs.declared.answer.Brief.TheVariants as brief
+use Rattle.bt_print.specs.declared.answer.Answer.TheVariants as answer
+use Rattle.bt_print.specs.declared.answer.Brief.TheVariants as brief
 use Rattle.bt_designs.specs.declared.fault.DesignFault.TheVariants.{Refused}
 use Rattle.bt_top.specs.declared.front.Front.TheVariants as front
 use Rattle.bt_top.specs.declared.front.WrittenSteps.{WrittenSteps}
 use Rattle.bt_designs.specs.declared.refusal.Refusal.{Refusal}
-use Rattle.bt_replies.specs.Answers.{none_word}
+use Rattle.bt_print.specs.Answers.{none_word}
 use Rattle.bt_top.specs.NoneCertificates.{IsLayoutChecked, IsNoneTextChecked, IsNoneChecked, SaysNone}
-use Rattle.bt_replies.specs.Replies.{Reply}
+use Rattle.bt_print.specs.Replies.{Reply}
 use Rattle.bt_designs.specs.Requested.{PinnedNet, IsPinned}
 use Rattle.bt_designs.specs.Steps.{stopped, went_on}
 use Rattle.bt_designs.specs.Told.{MayFollow, TellsLine}

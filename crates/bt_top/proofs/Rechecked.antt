@@ -31,15 +31,15 @@ use Rattle.bt_decide.specs.declared.verdict.Verdict.{Verdict}
 use Rattle.bt_decide.specs.declared.verdict.Verdict.TheVariants as verdict
 use Rattle.bt_decide.specs.Verdicts.{IsVerdict}
 use Rattle.bt_decide.proofs.Certified.{yes_is_certificate}
-use Rattle.bt_replies.specs.declared.answer.Answer.TheVariants as answer
-use Rattle.bt_replies.specs.declared.answer.Brief.TheVariants as brief
+use Rattle.bt_print.specs.declared.answer.Answer.TheVariants as answer
+use Rattle.bt_print.specs.declared.answer.Brief.TheVariants as brief
 use Rattle.bt_designs.specs.Alone.{IsLoneNet}
-use Rattle.bt_replies.specs.Answers.{proved_text, extended_log_text}
+use Rattle.bt_print.specs.Answers.{proved_text, extended_log_text}
 use Rattle.bt_top.specs.Certificates.{SaysYes, IsTextChecked, IsCertificateChecked, IsChecked}
 use Rattle.bt_top.specs.Deciding.{verdict_told}
 use Rattle.bt_designs.specs.Designs.{IsDesign}
 use Rattle.bt_top.specs.Rechecking.{ProofIsChecked, StateIsChecked}
-use Rattle.bt_replies.specs.Replies.{Reply}
+use Rattle.bt_print.specs.Replies.{Reply}
 use Rattle.bt_top.specs.States.{verdict as state_verdict, IsStateJudged}
 use Rattle.bt_designs.specs.Steps.{stopped, went_on}
 use Rattle.bt_designs.proofs.Blanks.{one_rest}

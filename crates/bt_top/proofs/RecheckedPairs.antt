@@ -27,12 +27,12 @@ use Rattle.bt_decide.specs.declared.verdict.SameVerdict.{SameVerdict}
 use Rattle.bt_decide.specs.declared.verdict.SameVerdict.TheVariants as of_same
 use Rattle.bt_decide.specs.Verdicts.{IsSameVerdict}
 use Rattle.bt_decide.proofs.Certified.{same_is_certificate}
-use Rattle.bt_replies.specs.declared.answer.Answer.TheVariants as answer
-use Rattle.bt_replies.specs.declared.answer.Brief.TheVariants as brief
-use Rattle.bt_replies.specs.Answers.{same_text, extended_log_text}
+use Rattle.bt_print.specs.declared.answer.Answer.TheVariants as answer
+use Rattle.bt_print.specs.declared.answer.Brief.TheVariants as brief
+use Rattle.bt_print.specs.Answers.{same_text, extended_log_text}
 use Rattle.bt_top.specs.Comparing.{same_told}
 use Rattle.bt_top.specs.RecheckingPairs.{SameIsChecked, DifferenceIsChecked}
-use Rattle.bt_replies.specs.Replies.{Reply}
+use Rattle.bt_print.specs.Replies.{Reply}
 use Rattle.bt_top.specs.SameCertificates.{SaysSame, pair_verdict, IsPairTextJudged, IsSameTextChecked, IsSameCertificateChecked, IsSameCertified}
 use Rattle.bt_designs.specs.Steps.{stopped, went_on}
 use Rattle.bt_designs.proofs.Blanks.{one_rest}

@@ -13,15 +13,15 @@ use Rattle.bt_cert.specs.declared.fault.CertFault.{CertFault}
 use Rattle.bt_same.specs.PairReading.{pair_forms}
 use Rattle.bt_same.specs.SameFormula.{same_formula}
 use Rattle.bt_same.specs.Sameness.{HaveEqualEnds}
-use Rattle.bt_replies.specs.declared.answer.Answer.TheVariants as answer
-use Rattle.bt_replies.specs.declared.answer.Brief.TheVariants as brief
+use Rattle.bt_print.specs.declared.answer.Answer.TheVariants as answer
+use Rattle.bt_print.specs.declared.answer.Brief.TheVariants as brief
 use Rattle.bt_designs.specs.declared.fault.DesignFault.TheVariants.{Refused}
 use Rattle.bt_top.specs.declared.front.Front.TheVariants as front
 use Rattle.bt_top.specs.declared.front.WrittenSteps.{WrittenSteps}
 use Rattle.bt_top.specs.declared.front.WrittenPair.{WrittenPair}
 use Rattle.bt_designs.specs.declared.refusal.Refusal.{Refusal}
 use Rattle.bt_designs.specs.Designs.{IsBareDesign}
-use Rattle.bt_replies.specs.Replies.{Reply}
+use Rattle.bt_print.specs.Replies.{Reply}
 use Rattle.bt_top.specs.SameCertificates.{IsSameCertified, IsSameCertificateChecked, IsSameTextChecked, IsSameChecked, IsPairTextJudged, SaysSame}
 use Rattle.bt_designs.specs.Steps.{stopped, went_on}
 use Rattle.bt_designs.specs.Told.{MayFollow, TellsLine}

@@ -17,10 +17,10 @@ use Rattle.bt_model.specs.declared.request.TheConstants.{MOST_ACROSS}
 use Rattle.bt_words.specs.Commands.{usual_grid}
 use Rattle.bt_words.specs.declared.command.AskedSides.{AskedSides}
 use Rattle.bt_words.specs.declared.command.AskedSides.TheVariants.{Any, Kept}
-use Rattle.bt_replies.specs.declared.answer.Answer.TheVariants as answer
+use Rattle.bt_print.specs.declared.answer.Answer.TheVariants as answer
 use Rattle.bt_designs.specs.declared.fault.DesignFault.{DesignFault}
 use Rattle.bt_designs.specs.Designs.{IsJsonText}
-use Rattle.bt_replies.specs.Replies.{Reply, design_told}
+use Rattle.bt_print.specs.Replies.{Reply, design_told}
 use Rattle.bt_designs.specs.Kept.{AreDrawn, IsKeptRequest}
 use Rattle.bt_designs.specs.Requested.{IsLoneRequest, IsSidedRequest}
 use Rattle.bt_designs.specs.Steps.{InTurn}

@@ -9,10 +9,10 @@ use Rattle.bt_model.specs.Requests.{LayoutRequest}
 use Rattle.bt_place.specs.Blocks.{starts_of}
 use Rattle.bt_place.specs.PlaceFormula.{place_formula, sizes_of}
 use Rattle.bt_print.specs.declared.columns.Columns.{Columns}
-use Rattle.bt_replies.specs.declared.answer.Answer.{Answer}
-use Rattle.bt_replies.specs.declared.answer.Answer.TheVariants as answer
+use Rattle.bt_print.specs.declared.answer.Answer.{Answer}
+use Rattle.bt_print.specs.declared.answer.Answer.TheVariants as answer
 use Rattle.bt_designs.specs.Alone.{IsLoneNet}
-use Rattle.bt_replies.specs.Replies.{Reply, UnlessLarge, design_told}
+use Rattle.bt_print.specs.Replies.{Reply, UnlessLarge, design_told}
 use Rattle.bt_designs.specs.Requested.{IsLoneRequest}
 use Rattle.bt_designs.specs.Steps.{InTurn}
 

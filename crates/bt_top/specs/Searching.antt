@@ -11,8 +11,8 @@ use Rattle.bt_grids.specs.declared.outcome.Smallest.{Smallest}
 use Rattle.bt_grids.specs.declared.outcome.Smallest.TheVariants.{Found, Nowhere, Spent}
 use Rattle.bt_grids.specs.Asked.{request_on}
 use Rattle.bt_layout.specs.Smallest.{IsSmallest}
-use Rattle.bt_replies.specs.declared.answer.Answer.TheVariants as answer
-use Rattle.bt_replies.specs.Replies.{Reply, UnlessLarge, design_told}
+use Rattle.bt_print.specs.declared.answer.Answer.TheVariants as answer
+use Rattle.bt_print.specs.Replies.{Reply, UnlessLarge, design_told}
 use Rattle.bt_designs.specs.Requested.{IsSidedRequest}
 use Rattle.bt_designs.specs.Steps.{InTurn}
 

@@ -14,7 +14,7 @@ use crate::layout_front::layout_front;
 use crate::same_front::same_front;
 use bt_designs::{Gathered, Held, MOST_CHECKED, gather_on};
 use bt_io::{ReadAll, Source};
-use bt_replies::Answer;
+use bt_print::Answer;
 use std::alloc::{AllocError, Global};
 
 /// The answer to all that a source has left, of which the certificate is to show the claim. It is read block by block:

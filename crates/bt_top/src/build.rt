@@ -4,8 +4,8 @@ ghost use Rattle.bt_text.specs.Answers.{UnlessMemory};
 ghost use Rattle.bt_top.specs.Building.{IsBuiltFor};
 
 use bt_cnf::Limits;
-use bt_replies::Answer;
 use bt_gen::Wish;
+use bt_print::Answer;
 use bt_words::BuiltText;
 use std::alloc::{AllocError, Global};
 

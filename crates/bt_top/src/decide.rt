@@ -8,7 +8,7 @@ use bt_decide::Verdict;
 use bt_designs::read_alone;
 use bt_flow::Property;
 use bt_net::Net;
-use bt_replies::{Answer, refused};
+use bt_print::{Answer, refused};
 use std::alloc::{AllocError, Global};
 
 /// The answer of `decide` to the bytes of its input.

@@ -11,7 +11,7 @@ use bt_designs::{Held, told_design, told_line};
 use bt_fenc::encode;
 use bt_flow::Property;
 use bt_net::Net;
-use bt_replies::{Brief, says_no, says_yes};
+use bt_print::{Brief, says_no, says_yes};
 use bt_text::skip_blanks;
 use std::alloc::{AllocError, Global};
 

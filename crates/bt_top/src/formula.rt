@@ -3,7 +3,7 @@ ghost use Rattle.std.specs.Prelude.{◌≡◌, alloc_error, Ok};
 ghost use Rattle.bt_text.specs.Answers.{UnlessMemory};
 ghost use Rattle.bt_model.specs.Requests.{IsGrid};
 ghost use Rattle.bt_top.specs.Formulas.{IsFlowFormulaFrom, IsPlaceFormulaFrom};
-ghost use Rattle.bt_replies.specs.Replies.{UnlessLarge};
+ghost use Rattle.bt_print.specs.Replies.{UnlessLarge};
 ghost use Rattle.bt_top.specs.Formulas.{flow_columns, flow_formula_told, place_formula_told};
 
 use bt_designs::{DesignFault, Refusal, read_alone, read_lone_request};
@@ -13,8 +13,7 @@ use bt_model::Request;
 use bt_net::Net;
 use bt_parts::{Rect, Tier};
 use bt_place::{Numbers, encode_place, has_formula};
-use bt_print::Columns;
-use bt_replies::{Answer, refused};
+use bt_print::{Answer, Columns, refused};
 use std::alloc::{AllocError, Global};
 
 /// The answer of `formula` to the bytes of its input, about a property.

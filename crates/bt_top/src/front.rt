@@ -6,7 +6,7 @@ use bt_cnf::Formula;
 use bt_designs::DesignFault;
 use bt_flow::Property;
 use bt_net::Net;
-use bt_replies::Brief;
+use bt_print::Brief;
 use std::alloc::AllocError;
 
 /// Steps of a certificate of which some lines were read.

@@ -13,7 +13,7 @@ use bt_designs::read_lone_request;
 use bt_layout::{Layout, priorities_of};
 use bt_model::Request;
 use bt_parts::{Part, Rect, Tier};
-use bt_replies::{Answer, refused};
+use bt_print::{Answer, refused};
 use bt_theory::GaveUp;
 use std::alloc::{AllocError, Global};
 

@@ -2,7 +2,7 @@
 ghost use Rattle.std.specs.Prelude.{◌+◌, ◌≤◌, ℕ, Bool, List, length};
 ghost use Rattle.bt_model.specs.Requests.{IsGrid, IsRequest};
 ghost use Rattle.bt_designs.specs.declared.held.TheConstants.{MOST_CHECKED};
-ghost use Rattle.bt_replies.specs.Replies.{UnlessLarge};
+ghost use Rattle.bt_print.specs.Replies.{UnlessLarge};
 ghost use Rattle.bt_top.specs.NoneCertificates.{IsLayoutChecked, IsNoneCertificateChecked, IsNoneTextChecked};
 ghost use Rattle.bt_designs.specs.Found.{pinned_of};
 ghost use Rattle.bt_designs.specs.Told.{TellsLine};
@@ -14,7 +14,7 @@ use bt_designs::{DesignFault, Held, PinnedDesign, Refusal, request_for, told_lin
 use bt_model::Request;
 use bt_parts::{Rect, Tier};
 use bt_place::{encode_place, has_formula};
-use bt_replies::{Brief, says_none};
+use bt_print::{Brief, says_none};
 use bt_text::skip_blanks;
 use std::alloc::{AllocError, Global};
 

@@ -4,7 +4,7 @@
 //! `layout`, `smallest`, `smallest_found`, `formula` and `same` find the answer to an input that is read whole. `blocks` finds that of
 //! `check`, `check-layout` and `check-same` as the input is gathered: by what is told of a design at its front,
 //! `flow_front`, `layout_front` and `same_front` give a `front`, and `front_answer` the answer that it tells, with
-//! `pair_check` of a pair of states. `bt_replies` has the answers, and writes them.
+//! `pair_check` of a pair of states. `bt_print` has the answers, and writes them.
 #![tactic(auto)]
 
 mod blocks;

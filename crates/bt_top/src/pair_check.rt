@@ -5,9 +5,8 @@ ghost use Rattle.bt_flow.specs.States.{Fits};
 ghost use Rattle.bt_same.specs.Sameness.{HaveEqualEnds};
 ghost use Rattle.bt_top.specs.SameCertificates.{IsPairJudged, IsPairTextJudged};
 
-use crate::flow_check::unwritten;
 use bt_net::Net;
-use bt_replies::{Answer, Brief};
+use bt_print::{Answer, Brief, unwritten};
 use bt_same::{Pair, PairJudgement, PairWide, differs, read_pair};
 use std::alloc::{AllocError, Global};
 

@@ -2,7 +2,7 @@
 ghost use Rattle.std.specs.Prelude.{◌≡◌, ℕ, List, alloc_error, map, string_bytes};
 ghost use Rattle.bt_text.specs.Answers.{UnlessMemory};
 ghost use Rattle.bt_io.specs.Passages.{passage};
-ghost use Rattle.bt_replies.specs.Answers.{status_of};
+ghost use Rattle.bt_print.specs.Answers.{status_of};
 ghost use Rattle.bt_top.specs.Inputs.{IsUnread, ReadsNothing};
 ghost use Rattle.bt_top.specs.Answering.{IsRightTo};
 ghost use Rattle.bt_top.specs.Endings.{Ends, status_after};
@@ -25,7 +25,7 @@ use crate::same::same;
 use crate::smallest::smallest;
 use crate::smallest_found::smallest_found;
 use bt_io::{ReadAll, Sink, Source, WriteFault};
-use bt_replies::{Answer, formed_of, print_answer};
+use bt_print::{Answer, formed_of, print_answer};
 use bt_words::{Command, command_of};
 use std::alloc::{AllocError, Global};
 

@@ -4,7 +4,7 @@ ghost use Rattle.bt_text.specs.Answers.{UnlessMemory};
 ghost use Rattle.bt_top.specs.Recovering.{IsRecoveredFrom};
 
 use bt_designs::read_alone;
-use bt_replies::{Answer, refused};
+use bt_print::{Answer, refused};
 use std::alloc::{AllocError, Global};
 
 /// The answer of `recover` to the bytes of its input.

@@ -8,7 +8,7 @@ use bt_cnf::{Chooser, Limits};
 use bt_decide::{SameVerdict, decide_same};
 use bt_designs::read_two;
 use bt_net::Net;
-use bt_replies::{Answer, refused};
+use bt_print::{Answer, refused};
 use std::alloc::{AllocError, Global};
 
 /// The answer of `same` to the bytes of its input.

@@ -10,7 +10,7 @@ ghost use Rattle.bt_top.specs.inner.PairParts.{IsBehindFirstChecked, IsPairedChe
 use crate::front::{Front, WrittenPair, WrittenSteps, known_refusal};
 use bt_designs::{Held, paired, told_bare, told_line};
 use bt_net::Net;
-use bt_replies::{Brief, says_differ, says_same};
+use bt_print::{Brief, says_differ, says_same};
 use bt_same::encode_same;
 use bt_text::skip_blanks;
 use std::alloc::{AllocError, Global};

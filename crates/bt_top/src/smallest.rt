@@ -8,7 +8,7 @@ ghost use Rattle.bt_grids.specs.Grids.{area_of};
 ghost use Rattle.bt_grids.specs.Asked.{NamesNoCells};
 ghost use Rattle.bt_layout.specs.Smallest.{IsSmallest};
 ghost use Rattle.bt_words.specs.Commands.{HasFewCells};
-ghost use Rattle.bt_replies.specs.Replies.{UnlessLarge};
+ghost use Rattle.bt_print.specs.Replies.{UnlessLarge};
 ghost use Rattle.bt_top.specs.Searching.{IsLeastFoundAgain, IsLeastPreferred, IsSearched, IsSearchedFrom};
 
 use bt_designs::{DesignFault, Refusal, read_sided_request};
@@ -16,7 +16,7 @@ use bt_layout::{Smallest, priorities_on};
 use bt_model::Request;
 use bt_parts::{Priority, Rect, Tier};
 use bt_place::has_formula;
-use bt_replies::{Answer, refused};
+use bt_print::{Answer, refused};
 use std::alloc::{AllocError, Global};
 
 /// The answer of `smallest` to the bytes of its input.

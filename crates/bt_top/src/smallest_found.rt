@@ -14,12 +14,12 @@ use bt_designs::{
     BlueprintRequest, DesignFault, is_json, read_blueprint_request, read_kept_request,
     read_sided_request,
 };
-use bt_recover::Grid;
 use bt_grids::spanned;
 use bt_layout::{Small, find_small, priorities_on};
 use bt_model::{MOST_ACROSS, Request};
 use bt_parts::{Part, Rect, Tier};
-use bt_replies::{Answer, refused};
+use bt_print::{Answer, refused};
+use bt_recover::Grid;
 use bt_words::{AskedSides, USUAL_ACROSS};
 use std::alloc::{AllocError, Global};
 

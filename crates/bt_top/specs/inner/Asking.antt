@@ -5,7 +5,7 @@ use Rattle.bt_model.specs.Requests.{LayoutRequest}
 use Rattle.bt_grids.specs.Spanned.{IsSpanned}
 use Rattle.bt_designs.specs.Designs.{IsJsonText}
 use Rattle.bt_designs.specs.Kept.{AreDrawn}
-use Rattle.bt_replies.specs.Replies.{Reply}
+use Rattle.bt_print.specs.Replies.{Reply}
 use Rattle.bt_top.specs.Finding.{IsSmallFound}
 use Rattle.bt_top.specs.declared.smallest_found.Asked.{Asked}
 

@@ -1,9 +1,10 @@
 use Rattle.std.proofs.Common.{refl, alloc_error}
 use Rattle.bt_flow.specs.StateReading.{IsStateRead}
 use Rattle.bt_flow.specs.declared.fault.StateFault.TheVariants as state
-use Rattle.bt_top.specs.States.{IsJudged, state_told}
+use Rattle.bt_top.specs.States.{IsJudged}
 use Rattle.bt_designs.specs.Steps.{went_on}
 use Rattle.bt_designs.proofs.InTurns.{stops}
+use Rattle.bt_print.specs.Replies.{state_told}
 use Rattle.bt_top.proofs.flow_check.judge_text.Goals as goal
 
 pub returns-in-Ok : goal.returns-in-Ok

@@ -2,9 +2,9 @@ use Rattle.std.proofs.Common.{refl, alloc_error}
 use Rattle.bt_flow.specs.declared.fault.StateFault.TheVariants as state
 use Rattle.bt_same.specs.PairReading.{IsPairRead}
 use Rattle.bt_top.specs.SameCertificates.{IsPairJudged}
-use Rattle.bt_top.specs.States.{state_told}
 use Rattle.bt_designs.specs.Steps.{went_on}
 use Rattle.bt_designs.proofs.InTurns.{stops}
+use Rattle.bt_print.specs.Replies.{state_told}
 use Rattle.bt_top.proofs.pair_check.judge_pair_text.Goals as goal
 
 pub returns-in-Ok : goal.returns-in-Ok

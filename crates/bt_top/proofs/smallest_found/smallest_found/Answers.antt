@@ -1,6 +1,6 @@
 use Rattle.std.proofs.Common.{refl, alloc_error}
 use Rattle.bt_designs.specs.declared.fault.DesignFault.TheVariants.{Memory}
-use Rattle.bt_replies.specs.Replies.{design_told}
+use Rattle.bt_print.specs.Replies.{design_told}
 use Rattle.bt_top.specs.Finding.{IsDesignRequest, IsFound}
 use Rattle.bt_top.specs.inner.Asking.{IsFoundBeside}
 use Rattle.bt_designs.proofs.InTurns.{stops, went, weaker}

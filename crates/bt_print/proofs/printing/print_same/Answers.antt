@@ -3,8 +3,8 @@ use Rattle.std.proofs.lemmas.Result.{err_from_is_err_and}
 use Rattle.bt_text.specs.Lines.{line}
 use Rattle.bt_io.specs.Passages.{passage}
 use Rattle.bt_io.proofs.Written.{writes_both, writes_no_more}
-use Rattle.bt_replies.specs.Answers.{extended_log_text}
-use Rattle.bt_replies.proofs.printing.print_same.Goals as goal
+use Rattle.bt_print.specs.Answers.{extended_log_text}
+use Rattle.bt_print.proofs.printing.print_same.Goals as goal
 
 pub returns-in_err-write_all_of : goal.returns-in_err-write_all_of
 returns-in_err-write_all_of g c =

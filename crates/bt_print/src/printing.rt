@@ -2,20 +2,20 @@
 ghost use Rattle.bt_io.specs.Bytes.{WritesText};
 ghost use Rattle.bt_io.specs.Passages.{passage};
 ghost use Rattle.std.specs.Prelude.{◌≡◌};
-ghost use Rattle.bt_replies.specs.Answers.{balance_word, built_text, family_name, gave_up_text, made_text, proved_text, same_text, spent_text, extended_log_text, text_of};
-ghost use Rattle.bt_replies.specs.Lines.{formed_text};
+ghost use Rattle.bt_print.specs.Answers.{balance_word, built_text, family_name, gave_up_text, made_text, proved_text, same_text, spent_text, extended_log_text, text_of};
+ghost use Rattle.bt_print.specs.Lines.{formed_text};
 
 use crate::answer::Answer;
+use crate::formulas::{print_flow_formula, print_place_formula};
 use crate::made::Made;
+use crate::networks::{print, print_with};
+use crate::traces::{print_pivots, print_wide};
 use bt_extend::{Definition, print_definitions};
 use bt_flow::{Property, print_state};
 use bt_grids::{print_none, print_small, print_smallest};
 use bt_io::{Sink, WriteFault, write_all_of, write_pieces};
 use bt_log::Log;
 use bt_net::Net;
-use bt_print::{
-    print, print_flow_formula, print_pivots, print_place_formula, print_wide, print_with,
-};
 use bt_same::print_pair;
 use bt_theory::GaveUp;
 use bt_words::{BuiltText, NetworkFamily};

@@ -1,12 +1,12 @@
 //! The answers of the program. Each has a status and a text.
 ghost use Rattle.std.specs.Prelude.{◌≡◌};
-ghost use Rattle.bt_replies.specs.Answers.{brief_status, gave_up_status, least_status, small_status, status_of};
-ghost use Rattle.bt_replies.specs.Replies.{design_told};
+ghost use Rattle.bt_print.specs.Answers.{brief_status, gave_up_status, least_status, small_status, status_of};
 
+use crate::columns::Columns;
 use crate::made::Made;
 use bt_cert::Cause;
 use bt_cnf::Formula;
-use bt_designs::{DesignFault, Refusal};
+use bt_designs::Refusal;
 use bt_extend::Definition;
 use bt_flow::{Property, State, Test};
 use bt_grids::{Small, Smallest};
@@ -14,11 +14,9 @@ use bt_log::Log;
 use bt_net::Net;
 use bt_parts::{Part, Priority, Rect};
 use bt_place::Starts;
-use bt_print::Columns;
 use bt_same::{Pair, Which};
 use bt_theory::GaveUp;
 use bt_words::BuiltText;
-use std::alloc::AllocError;
 
 /// An answer whose text is one line that has to be formed: words, and numbers and names that are said with them.
 #[derive(Clone, Copy)]
@@ -175,15 +173,5 @@ fn gave_up_status(cause: &GaveUp) -> u8
         GaveUp::Spent(_) => 4,
         GaveUp::Wide(_) => 5,
         GaveUp::Pivots(_) => 10,
-    }
-}
-
-/// The answer where there is no design.
-pub fn refused(fault: DesignFault) -> Result<Answer, AllocError>
-    ensures { result ≡ design_told fault }
-{
-    match fault {
-        DesignFault::Refused(refusal) => Ok(Answer::Brief(Brief::Refused(refusal))),
-        DesignFault::Memory => Err(AllocError),
     }
 }

@@ -10,7 +10,7 @@ use Rattle.bt_net.specs.Priorities.{priorities_of}
 use Rattle.bt_words.specs.declared.command.BuiltText.TheVariants as built
 use Rattle.bt_designs.specs.Alone.{IsAlone}
 use Rattle.bt_designs.specs.Requested.{IsPinned, pinned_net}
-use Rattle.bt_replies.specs.Answers.{built_text}
+use Rattle.bt_print.specs.Answers.{built_text}
 
 -- that all inputs stand side by side at the south, and all outputs at the north, as four lines say it of which the first
 -- has this number

@@ -21,8 +21,8 @@ use Rattle.bt_designs.specs.Designs.{IsJsonText}
 use Rattle.bt_designs.specs.Requested.{IsPinned, pinned_net}
 use Rattle.bt_designs.specs.Steps.{went_on}
 use Rattle.bt_designs.proofs.LongerDesigns.{not_json}
-use Rattle.bt_replies.specs.Answers.{built_text}
-use Rattle.bt_replies.specs.BuiltTexts.{BuiltIsRead, facing_rows}
+use Rattle.bt_print.specs.Answers.{built_text}
+use Rattle.bt_print.specs.BuiltTexts.{BuiltIsRead, facing_rows}
 
 -- where all may stand, lines of priorities stand
 lines_here : (n : Network) (number : ℕ) (lines : List (List ℕ)) (ps : List Priority) → AreLinesFrom (IsPriorityLine n) number lines ps → AreLinesFrom (IsPriorityHere All n) number lines ps

@@ -3,7 +3,7 @@ use Rattle.bt_io.specs.Passages.{passage}
 use Rattle.bt_io.proofs.Written.{writes_both, writes_no_more}
 use Rattle.bt_log.specs.LogText.{log_text}
 use Rattle.bt_extend.specs.Texts.{definitions_text}
-use Rattle.bt_replies.proofs.printing.print_extended_log.Goals as goal
+use Rattle.bt_print.proofs.printing.print_extended_log.Goals as goal
 
 pub returns-in_err-print_definitions : goal.returns-in_err-print_definitions
 returns-in_err-print_definitions g c =

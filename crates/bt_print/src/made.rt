@@ -1,6 +1,6 @@
 //! What is said of a network that was made by a rule.
 ghost use Rattle.std.specs.Prelude.{◌≡◌};
-ghost use Rattle.bt_replies.specs.Answers.{made_status};
+ghost use Rattle.bt_print.specs.Answers.{made_status};
 
 use bt_words::NetworkFamily;
 

@@ -2,13 +2,13 @@
 use Rattle.std.specs.Prelude.{ℕ, List, [], ◌++◌, codes, decimal}
 use Rattle.bt_net.specs.NetText.{line}
 use Rattle.bt_grids.specs.SmallestText.{blueprint_of, blueprint_of_small}
-use Rattle.bt_replies.specs.declared.answer.Answer.{Answer}
-use Rattle.bt_replies.specs.declared.answer.Answer.TheVariants.{Brief, LaidOut, Least, Small}
+use Rattle.bt_print.specs.declared.answer.Answer.{Answer}
+use Rattle.bt_print.specs.declared.answer.Answer.TheVariants.{Brief, LaidOut, Least, Small}
 use Rattle.bt_entities.specs.Written.{blueprint_text}
-use Rattle.bt_replies.specs.Answers.{brief_text}
-use Rattle.bt_replies.specs.declared.text.Detail.{Detail}
-use Rattle.bt_replies.specs.declared.text.Detail.TheVariants.{Nothing, Name, Number, Numbers, ThreeNumbers, NameAndNumber, NamesAndNumber, NumberAndName}
-use Rattle.bt_replies.specs.declared.text.Line.{Line}
+use Rattle.bt_print.specs.Answers.{brief_text}
+use Rattle.bt_print.specs.declared.text.Detail.{Detail}
+use Rattle.bt_print.specs.declared.text.Detail.TheVariants.{Nothing, Name, Number, Numbers, ThreeNumbers, NameAndNumber, NamesAndNumber, NumberAndName}
+use Rattle.bt_print.specs.declared.text.Line.{Line}
 
 -- each detail after a space
 abbrev pub detail_text : Detail → List ℕ

@@ -1,10 +1,10 @@
 use Rattle.std.proofs.Common.{sym, ◌∙◌, ap, refl, subst}
 use Rattle.bt_io.specs.Bytes.{WritesText}
 use Rattle.bt_io.specs.Passages.{passage}
-use Rattle.bt_replies.specs.Answers.{gave_up_text, text_of}
-use Rattle.bt_replies.specs.Lines.{formed_text}
-use Rattle.bt_replies.proofs.Formed.{formed_whole}
-use Rattle.bt_replies.proofs.printing.print_answer.Goals as goal
+use Rattle.bt_print.specs.Answers.{gave_up_text, text_of}
+use Rattle.bt_print.specs.Lines.{formed_text}
+use Rattle.bt_print.proofs.Formed.{formed_whole}
+use Rattle.bt_print.proofs.printing.print_answer.Goals as goal
 
 pub returns-in-Brief : goal.returns-in-Brief
 returns-in-Brief g c =

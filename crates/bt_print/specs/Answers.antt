@@ -28,13 +28,13 @@ use Rattle.bt_words.specs.declared.command.NetworkFamily.TheVariants.{Butterfly,
 use Rattle.bt_words.specs.declared.command.BuiltText.{BuiltText}
 use Rattle.bt_words.specs.declared.command.BuiltText.TheVariants as built
 use Rattle.bt_print.specs.NetTexts.{text_with}
-use Rattle.bt_replies.specs.declared.made.Made as making
+use Rattle.bt_print.specs.declared.made.Made as making
 use Rattle.bt_extend.specs.Texts.{definitions_text}
 use Rattle.bt_extend.specs.declared.definition.Definition.{Definition}
-use Rattle.bt_replies.specs.declared.answer.Answer.{Answer}
-use Rattle.bt_replies.specs.declared.answer.Answer.TheVariants.{Brief, Usage, TooLong, Recovered, Proved, Broken, GaveUp, Undecided, Made, LaidOut, Nowhere, NotFound, Least, Small, FlowFormula, PlaceFormula, Same, Differ, Built}
-use Rattle.bt_replies.specs.declared.answer.Brief as short
-use Rattle.bt_replies.specs.declared.answer.Brief.TheVariants.{Breaks, Yes, No, NoLayout, ShownSame, ShownDiffer, Refused, WideState, WidePair, CertLine, BadStep, NoVerdict, CertWide, NotBreaking, NotDiffering}
+use Rattle.bt_print.specs.declared.answer.Answer.{Answer}
+use Rattle.bt_print.specs.declared.answer.Answer.TheVariants.{Brief, Usage, TooLong, Recovered, Proved, Broken, GaveUp, Undecided, Made, LaidOut, Nowhere, NotFound, Least, Small, FlowFormula, PlaceFormula, Same, Differ, Built}
+use Rattle.bt_print.specs.declared.answer.Brief as short
+use Rattle.bt_print.specs.declared.answer.Brief.TheVariants.{Breaks, Yes, No, NoLayout, ShownSame, ShownDiffer, Refused, WideState, WidePair, CertLine, BadStep, NoVerdict, CertWide, NotBreaking, NotDiffering}
 use Rattle.bt_designs.specs.Refusals.{refusal_text}
 
 -- the status of a network that was made: 0 where it is balanced, and 1 where it isn't

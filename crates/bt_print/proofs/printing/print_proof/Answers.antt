@@ -5,8 +5,8 @@ use Rattle.bt_text.specs.Lines.{line}
 use Rattle.bt_flow.specs.Names.{property_name}
 use Rattle.bt_io.specs.Passages.{passage}
 use Rattle.bt_io.proofs.Written.{writes_both, writes_no_more}
-use Rattle.bt_replies.specs.Answers.{extended_log_text}
-use Rattle.bt_replies.proofs.printing.print_proof.Goals as goal
+use Rattle.bt_print.specs.Answers.{extended_log_text}
+use Rattle.bt_print.proofs.printing.print_proof.Goals as goal
 
 pub returns-in_err-write_pieces : goal.returns-in_err-write_pieces
 returns-in_err-write_pieces g c =

@@ -1,5 +1,5 @@
 //! A law of what is written, as the contract of a function that does nothing.
-ghost use Rattle.bt_replies.specs.BuiltTexts.{BuiltIsRead};
+ghost use Rattle.bt_print.specs.BuiltTexts.{BuiltIsRead};
 
 /// What `build --request` writes is read as a request for the network that is built, whose inputs stand side by side at
 /// the south and its outputs at the north.

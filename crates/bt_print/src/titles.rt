@@ -1,7 +1,7 @@
 //! The first lines of certificates, as they are read again.
 ghost use Rattle.std.specs.Prelude.{◌≡◌, ◌++◌, ◌↔◌, IsTrue, codes};
 ghost use Rattle.bt_flow.specs.Names.{property_name};
-ghost use Rattle.bt_replies.specs.Answers.{none_word};
+ghost use Rattle.bt_print.specs.Answers.{none_word};
 
 use bt_flow::Property;
 use bt_text::after_word;

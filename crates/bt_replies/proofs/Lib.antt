@@ -1,2 +1,0 @@
-mod Formed
-mod BuiltTexts

@@ -1,4 +1,0 @@
-pub mod Answers
-pub mod BuiltTexts
-pub mod Replies
-pub mod Lines
