@@ -17,7 +17,7 @@ use bt_designs::{
 use bt_grids::spanned;
 use bt_layout::{Small, find_small, priorities_on};
 use bt_model::{MOST_ACROSS, Request};
-use bt_parts::{Part, Rect, Tier};
+use bt_parts::{Part, Priority, Rect, Tier};
 use bt_print::{Answer, refused};
 use bt_recover::Grid;
 use bt_words::{AskedSides, USUAL_ACROSS};

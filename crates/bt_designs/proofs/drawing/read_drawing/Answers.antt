@@ -16,7 +16,7 @@ pub returns-in-Ok-drawing_of-clause-layout : goal.returns-in-Ok-drawing_of-claus
 returns-in-Ok-drawing_of-clause-layout c = went_on _ c.in-Ok.ensures.answer.right (Ok c.in-Ok-drawing_of.drawing.laid, c.in-Ok-drawing_of.ensures.layout, refl)
 
 pub returns-in-Ok-drawing_of-clause-drawn : goal.returns-in-Ok-drawing_of-clause-drawn
-returns-in-Ok-drawing_of-clause-drawn c = (_, c.in-Ok.ensures.answer.right, c.in-Ok-drawing_of.ensures.drawn)
+returns-in-Ok-drawing_of-clause-drawn c = (_, c.in-Ok.ensures.answer.right, c.in-Ok-drawing_of.ensures.drawn.0, c.in-Ok-drawing_of.ensures.drawn.1)
 
 pub returns-in-Err-drawing_of-clause-layout : goal.returns-in-Err-drawing_of-clause-layout
 returns-in-Err-drawing_of-clause-layout c = refused IsTieredPreferring c.args.bytes.now _ c.in-Err-drawing_of.fault c.in-Ok.ensures.answer.right c.in-Err-drawing_of.ensures.layout
