@@ -80,6 +80,8 @@ fn side_of(demands: &[Demand], end: End) -> Option<Dir>
 }
 
 /// The class of an edge.
+/// Any layout serves with two edges of one class exchanged, so a search needn't tell them apart: edges of one class
+/// come from one splitter, or go from inputs of which the request says the same into one.
 pub fn class_of(demands: &[Demand], edge: Edge) -> Class
     ensures { result ≡ classes.class_of demands.now edge }
 {

@@ -100,6 +100,8 @@ fn add_input_side(
 }
 
 /// Adds that where the output stops on the cell, the cell has each of these classes.
+/// Outputs of one splitter have one class: without a fact of where each of them stops one belt could serve two of
+/// them.
 fn add_stop_classes(
     draft: &mut Draft,
     stops: Fact,

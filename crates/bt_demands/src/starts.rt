@@ -1,4 +1,6 @@
 //! Rules of inputs that lead to outputs.
+//! Such an input has a fact of where it starts, since it must begin exactly once, and no splitter counts what comes
+//! of it, as of other inputs.
 ghost use Rattle.std.specs.Prelude.{◌≡◌, ◌++◌, ◌∷◌, [], map, flat_map, OnOk};
 ghost use Rattle.std.specs.List.{range_with_len};
 ghost use Rattle.bt_facts.specs.Spots.{border_of};

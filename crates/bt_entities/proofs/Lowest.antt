@@ -11,7 +11,7 @@ use Rattle.bt_entities.specs.declared.fault.Member.TheVariants.{Entity, Name, Po
 use Rattle.bt_entities.specs.declared.name.EntityFamily.{EntityFamily}
 use Rattle.bt_entities.specs.Members.{HasText}
 use Rattle.bt_entities.specs.Names.{name_of}
-use Rattle.bt_entities.specs.Entities.{HasDirection, HasPosition, IsSpecial, IsFirst, IsFirstSpecial, IsPlain}
+use Rattle.bt_entities.specs.Entities.{HasDirection, HasPosition, IsFirst, IsFirstSpecial, IsPlain}
 use Rattle.bt_entities.specs.Refusals.{IsFault, IsLowest, IsUnsupported, IsWrong, IsBadMember, IsOffGrid, tested_members, number_of_fault}
 use Rattle.bt_entities.specs.inner.Pieces.{IsWrongPriority}
 use Rattle.bt_entities.proofs.Unique.{object_of, same_text}

@@ -19,9 +19,8 @@ use Rattle.bt_entities.specs.declared.blueprint.TheConstants.{MOST_ENTITIES}
 use Rattle.bt_entities.specs.declared.fault.EntityFault.{EntityFault}
 use Rattle.bt_entities.specs.declared.fault.EntityFault.TheVariants.{NotBlueprint, Book, TooMany, Unsupported, BadMember, OffGrid, Special, Memory}
 use Rattle.bt_entities.specs.declared.fault.Member.{Member}
-use Rattle.bt_entities.specs.declared.name.EntityFamily.TheVariants.{Splitters}
 use Rattle.bt_entities.specs.Members.{HasText}
-use Rattle.bt_entities.specs.Entities.{HasFamily, IsInCell, IsEven, hand_text, IsSided, Prefers, HasPriority, IsSpecial, IsFirst, IsEntity, special_in_designs, special_in_layouts}
+use Rattle.bt_entities.specs.Entities.{IsInCell, hand_text, Prefers, HasPriority, IsSpecial, IsFirst, IsEntity, special_in_designs, special_in_layouts}
 use Rattle.bt_entities.specs.Blueprints.{IsVersion, HasMajor, HasEntities, IsBlueprint, AreParts, ArePriorities, IsBlueprintOf, HavePriorities}
 use Rattle.bt_entities.specs.Refusals.{HasWrong, IsList, IsNotBlueprint, IsBook, HasTooMany, IsWrong, tested_members, IsFault, number_of_fault, IsLowest, IsFirstOf, IsFirstFault, IsRefused}
 use Rattle.bt_entities.specs.Answers.{IsPartsOf, IsReadOf, IsPrioritisedOf}

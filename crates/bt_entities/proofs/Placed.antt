@@ -1,5 +1,5 @@
 -- Pieces and the cells that they have.
-use Rattle.std.proofs.Common.{◌≡◌, ◌≢◌, ℕ, ◌<◌, ◌≤◌, ℤ, List, length, get_or, Option, Some, None, refl, ap, ◌∙◌, subst, arith, inl, inr}
+use Rattle.std.proofs.Common.{◌≡◌, ◌≢◌, ℕ, ◌<◌, ◌≤◌, ℤ, List, length, get_or, Option, Some, None, ap, ◌∙◌, subst, arith, inl, inr}
 use Rattle.std.specs.Prelude.{codes}
 use Rattle.bt_json.specs.Json.{Json, Number}
 use Rattle.bt_parts.specs.declared.part.Cell.{Cell}
@@ -13,7 +13,7 @@ use Rattle.bt_parts.specs.Cells.{IsInRange}
 use Rattle.bt_entities.specs.declared.fault.EntityFault.{EntityFault}
 use Rattle.bt_entities.specs.declared.fault.EntityFault.TheVariants.{NotBlueprint, OffGrid, Special}
 use Rattle.bt_entities.specs.declared.fault.Member.{Member}
-use Rattle.bt_entities.specs.declared.fault.Member.TheVariants.{Entity, Name, Position, Direction, PieceType, InputPriority, OutputPriority, ControlBehavior, Filter}
+use Rattle.bt_entities.specs.declared.fault.Member.TheVariants.{Entity, Name, Position, Direction, PieceType, InputPriority, OutputPriority}
 use Rattle.bt_entities.specs.declared.name.EntityFamily.TheVariants.{Belts, Undergrounds, Splitters}
 use Rattle.bt_entities.specs.declared.piece.Piece.{Piece}
 use Rattle.bt_parts.specs.declared.hand.Hand.{Hand}
@@ -23,7 +23,7 @@ use Rattle.bt_entities.specs.declared.shift.Shift.{Shift}
 use Rattle.bt_entities.specs.Members.{Lacks, HasMember, HasText}
 use Rattle.bt_entities.specs.Names.{name_of}
 use Rattle.bt_entities.specs.Places.{width_of, height_of, IsMiddle}
-use Rattle.bt_entities.specs.Entities.{HasFamily, HasTier, HasKind, IsHalves, IsPlaced, SetsShift, IsInCell, IsEven, hand_text, IsSided, Prefers, HasPriority, IsSpecial, IsFirstSpecial, IsPlain, IsEntity, special_in_designs, special_in_layouts}
+use Rattle.bt_entities.specs.Entities.{HasFamily, HasTier, HasKind, IsHalves, IsPlaced, SetsShift, IsInCell, IsEven, hand_text, IsSided, Prefers, HasPriority, IsFirstSpecial, IsPlain, IsEntity, special_in_layouts}
 use Rattle.bt_entities.specs.Refusals.{IsFault, IsWrong, IsOffGrid, IsLowest, number_of_fault}
 use Rattle.bt_entities.specs.inner.Pieces.{AreHalves, IsPiece, IsOn, HasShift, IsFirstShift}
 use Rattle.bt_entities.proofs.Unique.{object_of, same_text, same_kind, same_dir, same_family, same_position, same_times, lacks_or_has}

@@ -1,4 +1,7 @@
 //! Rules that count: a sequential counter over cells, each of which holds a half or none.
+//! That splitters have no room a search would else find out place by place: a refutation of the balancer of 12
+//! splitters in 7x7 took 515,899 conflicts, and 23,705 with the counter. Other counters saved nothing on top, and the
+//! direction from the cells to the count would help no refutation.
 ghost use Rattle.std.specs.Prelude.{◌≡◌, ◌++◌, ◌∷◌, [], ◌<◌, ◌≤◌, ◌+◌, length, OnOk, IfOk};
 ghost use Rattle.std.specs.List.{flat_map, range_with_len};
 ghost use Rattle.bt_facts.specs.Counters as counters;

@@ -145,8 +145,6 @@ module _ (n : Network) (is : IsNetwork n) (s : Flows) (state : IsStateOf n s) (l
       let high = r.1 in
       range_true (room_column n o) (cap_at n (output_edge n o)) (omega (arith, ints, x, low)) (omega (arith, ints, x, c, high))
 
-  )
-
   pub inputs_true : (i : ℕ) → i < n.inputs → AllTrue (clauses_at n of.Inputs i)
   inputs_true i l =
       let a = input_edge n i in

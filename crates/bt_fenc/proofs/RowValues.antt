@@ -6,7 +6,7 @@ use Rattle.std.proofs.lemmas.Bool.{ltb-false}
 use Rattle.std.proofs.Math.IntN.{*ℤ_comm, *ℤ-one}
 use Rattle.bt_frac.specs.Ratio.{Ratio, IsOver, negated}
 use Rattle.bt_frac.specs.Values as values
-use Rattle.bt_frac.specs.Values.{RowHolds, sum_of_products, valued, times, nothing}
+use Rattle.bt_frac.specs.Values.{RowHolds, sum_of_products, valued, nothing}
 use Rattle.bt_frac.specs.declared.relation.Relation.TheVariants.{Equal}
 use Rattle.bt_frac.proofs.Over.{over_sum, over_zero, over_at_most, over_less, over_same, under_positive}
 use Rattle.bt_frac.proofs.Ring.{neg_mul, mul_assoc}

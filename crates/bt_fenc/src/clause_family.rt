@@ -47,6 +47,8 @@ pub const NAMELESS: [ClauseFamily; 9] = [
 ];
 
 /// The families after these, which name pairs.
+/// The pairs themselves stand before them by kind, comparisons first, then full edges, then ends: with others before
+/// them a search took five times the steps.
 pub const LAWS: [ClauseFamily; 5] = [
     ClauseFamily::EvenOut,
     ClauseFamily::EvenIn,

@@ -1,5 +1,9 @@
 //! The numbering of claims: each mention of a row becomes a variable of its own, and the first row of a pair
 //! keeps the variable that it has.
+//!
+//! A lemma has only negative literals. With a row and its opposite as two variables, of which one is true, facts about
+//! flows are literals, and logs grow about as the number of splitters; where each row is mentioned once, each lemma
+//! carries a tree of marks.
 ghost use Rattle.std.specs.Prelude.{◌≡◌, ◌<◌, ◌∷◌, [], OnOk, IfOk};
 ghost use Rattle.std.specs.List.{AllByRecursion};
 ghost use Rattle.bt_fenc.specs.declared.state_literal.StateLiteral.TheVariants.{Says};

@@ -12,7 +12,9 @@ use crate::rows::{above, at_least, minus, plus, row_of_vec};
 use crate::state_literal::StateLiteral;
 use crate::variables::PairVars;
 use bt_cnf::{Formula, Lit};
-use bt_flow::{Ports, Property, cap_at, input_edge, last_edges, load_column, output_edge, room_column};
+use bt_flow::{
+    Ports, Property, cap_at, input_edge, last_edges, load_column, output_edge, room_column,
+};
 use bt_frac::{Frac, Relation, Row};
 use bt_net::Net;
 use std::alloc::{AllocError, Global};

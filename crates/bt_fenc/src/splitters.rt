@@ -158,6 +158,8 @@ pub fn add_pairs(
 }
 
 /// Adds the clause that a preferred edge has a mark, or is full, or the edge beside it is empty.
+/// That is all that a preference says, so such a side has one pair, that the edge beside is empty or carries
+/// something, where others compare two edges both ways.
 fn add_prior(
     net: &Net,
     pairs: &PairVars,

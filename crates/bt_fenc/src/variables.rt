@@ -12,6 +12,8 @@ use bt_net::Net;
 use std::alloc::{AllocError, Global};
 
 /// The variables of the first rows of a network's pairs.
+/// A pair's variable depends on how many splitters before it have two edges at the side, and prefer one: one pass
+/// finds it for all families.
 #[derive(Drop)]
 pub struct PairVars {
     /// For each splitter that of the first pair of its out edges, and then the variable after the last pair.

@@ -47,7 +47,6 @@ asked_on r grid is none within = record {
 }
 
 module _ (r : LayoutRequest) (learnt : ℕ) (grids : List Rect) where
-
   module _ (place : ℕ) (earlier : List RuledOut) (are : ArePassed r learnt grids place earlier) (grid : Rect) (within : place < length grids)
       (at : grid ≡ get_or grids place grid) where
     -- one grid more is ruled out

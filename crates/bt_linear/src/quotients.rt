@@ -7,7 +7,8 @@ ghost use Rattle.bt_linear.specs.Substituting.{IsZeroLine};
 ghost use Rattle.bt_linear.specs.inner.Shares.{IsNegatedShare, AreNegatedShares};
 ghost use Rattle.bt_linear.specs.Unfits.{IsUnfitShare, IsUnfitTerm, IsUnfitZero};
 
-use crate::line::{Line, Term, combined};
+use crate::line::{Line, combined};
+use crate::term::Term;
 use crate::unfit::{Operation, Unfit};
 use bt_frac::Frac;
 use std::alloc::{AllocError, Global};

@@ -20,8 +20,6 @@ marked_front marks i k within is =
 front_marked : (marks : List Bool) (i k : ℕ) → k < i → IsMarked marks k → IsMarked (take i marks) k
 front_marked marks i k small is = get_or-take i marks k false small ∙ is
 
-}
-
 pub those_passed : (marks : List Bool) (place : ℕ) (places : List ℕ) → place < length marks → get_or marks place false ≡ false → AreThose (take place marks) places
     → AreThose (take (place + 1) marks) places
 those_passed marks place places inside not are = record {

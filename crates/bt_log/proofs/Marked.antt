@@ -31,18 +31,6 @@ named_more first a b place old mid new one two = record {
   ];
 }
 
-]
-
-]
-
-}
-
-}
-
-}
-
-}
-
 -- from one place on to the one before
 pub marked_on : (log : LogParts) (place : ℕ) (old new : List Bool) → place < length log.steps → AreMarked log (place + 1) old → MarksOf log place old new → AreMarked log place new
 marked_on log place old new inside are marks =

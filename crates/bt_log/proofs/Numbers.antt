@@ -46,8 +46,6 @@ moved_hint first kept place hint low small is again e =
       moved = e ∙ ap (λ n. first + n) is.numbers;
     })
 
-}
-
 -- a step that is left names none that isn't
 pub named_left : (log : LogParts) (kept : List ℕ) (number place first : ℕ) (s : Step) → AreNeeded log kept → number < length kept → place ≡ get_or kept number place → first ≡ log.first
     → slice_get log.steps place ≡ Some s → (k : ℕ) → k < place → Contains (hints_of s) (first + k) → Contains kept k

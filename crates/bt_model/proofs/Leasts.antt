@@ -40,9 +40,6 @@ kept_least P Q None line late above p = absurd (late tt)
 kept_least P Q (Some l) line late above p = (inl p.0, λ n h. ⊎_elim (p.1 n) (λ q. let le = above n q in omega (arith, late)) h)
 
 module _ {X : Type 0} (IsBad : X → Type 0) (Clash : X → X → Type 0) (line_of : X → ℕ) (xs : List X) where
-
-  )
-
   -- one that isn't bad refuses a line only for an earlier one with which it clashes
   pub good_least : (place : ℕ) (x : X) (o : Option ℕ) → slice_get xs place ≡ Some x → (IsBad x → ⊥) → IsLeastIfAny (IsLaterHere Clash line_of xs place place) o → IsLeastIfAny (IsRefusedHere IsBad Clash line_of xs place) o
   good_least place x o is good least = same_least _ _ o (λ line later. inr later)

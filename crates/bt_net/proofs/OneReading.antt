@@ -21,12 +21,11 @@ use Rattle.bt_net.specs.NetText.{header, alone, IsEdgeLine, BeginsWithNet}
 use Rattle.bt_net.specs.PinText.{AreLinesFrom, IsDemandHere, IsBlockHere}
 use Rattle.bt_net.specs.Priorities.{preferring, IsPriorityLine, IsPriorityHere, Becomes}
 use Rattle.bt_net.specs.Refusals.{HeaderRefused, GoesOn}
-use Rattle.bt_net.specs.PinRefusals.{Behind, next_line, MayNotFollow, LineRefusedAfter, BeginsWithItems, GoesOnAfter, BodyRefused, RefusesAll}
+use Rattle.bt_net.specs.PinRefusals.{Behind, next_line, MayNotFollow, BeginsWithItems, GoesOnAfter, BodyRefused, RefusesAll}
 use Rattle.bt_net.specs.Readings.{Reading, BeginsWithAll, StandsAtFront, IsNetRead}
 use Rattle.bt_net.specs.Wiring.{HasSmallSizes}
 use Rattle.bt_net.specs.inner.Items.{ItemsStand}
 use Rattle.bt_net.specs.inner.Lines.{IsStarted, SameSizes, EdgesEnd, AreEdgesRead, ItemsEnd, IsEndRead}
-use Rattle.bt_net.specs.inner.Preferred.{PrioritiesEnd}
 use Rattle.bt_text.proofs.Lacking.{lacks}
 use Rattle.bt_net.proofs.NetLines.{back, header-same, HasSmallSizes-same, edges_fit, edges-lack, header-lacks, header_stands, SameSizes-header, partly_of_wired}
 use Rattle.bt_net.proofs.Refusing.{header_same}

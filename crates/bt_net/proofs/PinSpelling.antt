@@ -143,8 +143,6 @@ pin_space n number bytes words pin small is cut none =
     record { first = end_lacks_space pin.end (end_fits n pin.end small is.has_end); text_is = ap (drop 4) (sym cut ∙ pin_words bytes pin is.text) } in
     SplitsAt-lacks splits none
 
-}
-
 -- a line is that of one pin
 pub pin_apart : (n : Network) → HasSmallSizes n → (number : ℕ) (bytes : List ℕ) (p q : Pin) → IsPinLine n number bytes p → IsPinLine n number bytes q → p ≡ q
 pin_apart n small number bytes p q a b =

@@ -87,8 +87,6 @@ side_space n number bytes words side small is cut none =
     record { first = ends_lack_space side.ends (ends_fit n side.ends small is.has_ends); text_is = ap (drop 5) (sym cut ∙ side_words bytes side is.text) } in
     SplitsAt-lacks splits none
 
-}
-
 -- a line is that of one side
 side_apart : (n : Network) → HasSmallSizes n → (number : ℕ) (bytes : List ℕ) (p q : Side) → IsSideLine n number bytes p → IsSideLine n number bytes q → p ≡ q
 side_apart n small number bytes p q a b =

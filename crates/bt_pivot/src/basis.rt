@@ -181,7 +181,7 @@ impl Basis {
     }
 
     /// One more position of the line of these terms, in this class, where the class's terms are the same up
-    /// to the sign, and else in a class of its own.
+    /// to the sign, and else in a class of its own. The terms ascend and have no zeros.
     pub(crate) fn with_line(
         self,
         alloc: Global,

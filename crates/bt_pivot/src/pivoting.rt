@@ -294,7 +294,8 @@ fn at_first(firsts: &[usize], cause: Cause) -> Cause
 }
 
 /// A pivot of the basis: one position leaves it, and one that its line names enters. Or the operation
-/// whose result doesn't fit; the same positions are then in the basis, but not with its lines.
+/// whose result doesn't fit; the same positions are then in the basis, but not with its lines. Both positions are below the
+/// basis's length and differ, the one that enters isn't in the basis, and each line ascends and has no zeros.
 pub fn pivot(
     tableau: &Table,
     alloc: Global,

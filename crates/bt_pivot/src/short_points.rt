@@ -65,7 +65,7 @@ pub fn short_sums(tableau: &Table, line: &Short) -> Option<Sums>
 }
 
 /// Whether a row of this relation that rests here doesn't hold where these sums are, or with the other sign
-/// where this is told. None where a number doesn't fit.
+/// where this is told. None where a number doesn't fit. The sums' denominator is below 2^31.
 pub fn breaks_by(relation: Relation, rest: Rest, sums: Sums, negated: bool) -> Option<bool>
     requires fits { sums.under < 2 ^ 31 }
     ensures { IfSome result
@@ -76,7 +76,7 @@ pub fn breaks_by(relation: Relation, rest: Rest, sums: Sums, negated: bool) -> O
 }
 
 /// How where a row rests stands to where these sums are, or to them with the other sign where this is told.
-/// None where a number doesn't fit.
+/// None where a number doesn't fit. The sums' denominator is below 2^31.
 pub fn order_by(rest: Rest, sums: Sums, negated: bool) -> Option<Ordering>
     requires fits { sums.under < 2 ^ 31 }
     ensures { IfSome result

@@ -52,7 +52,8 @@ impl Model for Table {
 }
 
 impl Table {
-    /// The table of rows over so many columns, whose basis is the rows. No row is bound.
+    /// The table of rows over so many columns, whose basis is the rows. No row is bound. Each column of a row is below
+    /// that number.
     pub fn new(alloc: Global, rows: &[Row], columns: usize) -> Result<Table, AllocError>
         requires { AreOverColumns columns rows.now }
         ensures { IfOk result (IsNew rows.now columns) }
@@ -70,7 +71,7 @@ impl Table {
         })
     }
 
-    /// Requires the row from now on. The basis stays.
+    /// Requires the row, which is one of the table's, from now on. The basis stays.
     pub fn set_bound(&mut self, row: usize)
         requires { row < length self.old.rows }
         ensures { IsBoundAs true row self.old self.new }
@@ -80,7 +81,7 @@ impl Table {
         self.rests[self.columns + row] = rest;
     }
 
-    /// Requires the row no longer. The basis stays.
+    /// Requires the row, which is one of the table's, no longer. The basis stays.
     pub fn clear_bound(&mut self, row: usize)
         requires { row < length self.old.rows }
         ensures { IsBoundAs false row self.old self.new }
@@ -89,7 +90,7 @@ impl Table {
         self.rests[self.columns + row] = Some(Rest::free());
     }
 
-    /// Moves another basis of the same rows in, and hands the one before out.
+    /// Moves another basis of the same rows in, with its solved form, and hands the one before out.
     pub fn replace_basis(&mut self, basis: Basis) -> Basis
         requires { IsTableau (with_slots self.old basis) }
         ensures table { self.new ≡ with_slots self.old basis }

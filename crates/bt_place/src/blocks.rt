@@ -187,6 +187,8 @@ fn last_ones(held: usize, spots: usize, extent: Extent) -> LastOnes
 }
 
 /// Where each block begins.
+/// What counts halves stands below what cells hold and where splitters are, so that a search which takes the highest
+/// variable doesn't place halves on the first cells.
 pub fn starts_of(extent: Extent, classes: &[Class]) -> Starts
     requires { variables (sizes_with extent classes.now []) < 2 ^ 64 }
     ensures { result ≡ starts_of (sizes_with extent classes.now []) }

@@ -217,6 +217,8 @@ fn write_room(
 }
 
 /// Adds the clauses of all rules: where there is no room, the empty clause alone.
+/// More ends than cells on the border, or more halves and ends than cells, are pigeonholes, which resolution refutes
+/// in exponentially many steps; counted, they are the empty clause.
 fn write_all(
     alloc: Global,
     formula: &mut Formula,

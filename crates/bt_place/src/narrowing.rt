@@ -1,4 +1,6 @@
 //! More clauses than a request's formula has, for a search that looks for models alone.
+//! No answer rests on them, so they are drawn up over any cells, and those of facts that have no variable are left
+//! out here: no bound has to be shown.
 ghost use Rattle.std.specs.Prelude.{◌≡◌, ◌<◌, length, IfSome, OnOk};
 ghost use Rattle.bt_cnf.specs.Formulas.{LitsBelow};
 ghost use Rattle.bt_place.specs.Narrowed.{IsNarrowed};

@@ -110,6 +110,8 @@ fn numbered(from: usize, row: usize, each: usize, place: usize) -> usize
 }
 
 /// The place of a class among classes.
+/// Only classes that occur have numbers: two for each splitter and one for each input would leave variables that no
+/// clause has, which a search goes through at each choice.
 fn place_among(classes: &[Class], class: Class) -> usize
     ensures { result ≡ position_or_len (classing.same_class class) classes.now }
 {
@@ -213,6 +215,8 @@ impl Numbers {
     }
 
     /// The number of a cell along the longer side of the rectangle.
+    /// A search that takes the highest variable, as true, so goes along the longer side, and keeps cells empty from
+    /// the corner on from which it places splitters, where nothing asks for a part.
     fn along(&self, cell: Cell) -> usize
         requires { IsSpot self.now cell }
         ensures { result ≡ numbering.along self.now cell }

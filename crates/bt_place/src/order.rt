@@ -87,7 +87,8 @@ fn all_splitters(alloc: Global, splitters: usize) -> Result<Vec<usize>, AllocErr
     Ok(all)
 }
 
-/// The splitters in the order in which the search places them.
+/// The splitters in the order in which the search places them. The next one is that with the most edges to those that are
+/// placed: it has the fewest places left, so what can't be shows soon.
 fn splitter_order(alloc: Global, net: &Net) -> Result<Vec<usize>, AllocError>
     ensures { IfOk result (λ order. order.items ≡ formula.splitter_order net.now) }
 {

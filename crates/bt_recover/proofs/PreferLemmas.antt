@@ -193,8 +193,6 @@ pub record PreferredUpTo (Prefers : Chain → ℕ → Type 0) (splitters : List 
       ((b : ℕ) (chain : Chain) → b < a → slice_get chains b ≡ Some chain → Prefers chain s → ⊥)
       (λ b. (chain : Chain) × (slice_get chains b ≡ Some chain) × Prefers chain s)
 
-}
-
 abbrev NoneBefore : (Chain → ℕ → Type 0) → List Chain → ℕ → ℕ → Type 0
 NoneBefore Prefers chains s a = (b : ℕ) (chain : Chain) → b < a → slice_get chains b ≡ Some chain → Prefers chain s → ⊥
 

@@ -97,6 +97,8 @@ fn add_one_in(
 }
 
 /// Adds which class the half takes of the two that come in.
+/// A splitter has two halves, so one truth value says all of it; where both edges in have one class, no fact is
+/// needed.
 fn add_two_classes(
     alloc: Global,
     draft: &mut Draft,
