@@ -31,7 +31,7 @@ pub fn ungenerated(fault: GenFault) -> Result<Answer, AllocError>
 }
 
 /// The answer where no state is written.
-pub fn unwritten(fault: StateFault) -> Result<Answer, AllocError>
+pub fn no_state(fault: StateFault) -> Result<Answer, AllocError>
     ensures { result ≡ state_told fault }
 {
     match fault {

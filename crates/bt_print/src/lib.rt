@@ -25,7 +25,7 @@ mod traces;
 
 pub use answer::{Answer, Brief};
 pub use columns::Columns;
-pub use faults::{refused, steps_told, ungenerated, unwritten};
+pub use faults::{no_state, refused, steps_told, ungenerated};
 pub use formulas::{print_flow_formula, print_place_formula};
 pub use law::built_is_read;
 pub use made::Made;

@@ -7,7 +7,7 @@ ghost use Rattle.bt_top.specs.States.{IsFlowChecked, IsStateChecked, IsStateJudg
 use bt_designs::read_design;
 use bt_flow::{Judgement, Property, State, WideSum, breaks, read_state};
 use bt_net::Net;
-use bt_print::{Answer, Brief, refused, unwritten};
+use bt_print::{Answer, Brief, no_state, refused};
 use bt_text::skip_blanks;
 use std::alloc::{AllocError, Global};
 
@@ -49,7 +49,7 @@ pub fn judge_text(
 {
     match read_state(alloc, net, text, property) {
         Ok(state) => Ok(Answer::Brief(judge(property, net, &state, broken))),
-        Err(fault) => unwritten(fault),
+        Err(fault) => no_state(fault),
     }
 }
 

@@ -6,7 +6,7 @@ ghost use Rattle.bt_same.specs.Sameness.{HaveEqualEnds};
 ghost use Rattle.bt_top.specs.SameCertificates.{IsPairJudged, IsPairTextJudged};
 
 use bt_net::Net;
-use bt_print::{Answer, Brief, unwritten};
+use bt_print::{Answer, Brief, no_state};
 use bt_same::{Pair, PairJudgement, PairWide, differs, read_pair};
 use std::alloc::{AllocError, Global};
 
@@ -22,7 +22,7 @@ pub fn judge_pair_text(
 {
     match read_pair(alloc, first, second, text) {
         Ok(pair) => Ok(judge_pair(first, second, &pair)),
-        Err(fault) => unwritten(fault),
+        Err(fault) => no_state(fault),
     }
 }
 

@@ -13,4 +13,4 @@ returns-in-Ok c = went_on _ c.in-Ok.ensures.right c.judge.ensures
 pub returns-in-Err : goal.returns-in-Err
 returns-in-Err c =
     stops state.Memory alloc_error (IsStateRead c.args.net.now c.args.property c.args.text.now) state_told
-    (IsJudged c.args.net.now c.args.property c.args.broken) c.in-Err.fault c.unwritten.result refl c.in-Err.ensures.right c.unwritten.ensures
+    (IsJudged c.args.net.now c.args.property c.args.broken) c.in-Err.fault c.no_state.result refl c.in-Err.ensures.right c.no_state.ensures

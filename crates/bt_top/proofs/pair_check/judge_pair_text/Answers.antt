@@ -13,4 +13,4 @@ returns-in-Ok c = went_on _ c.in-Ok.ensures.right c.judge_pair.ensures
 pub returns-in-Err : goal.returns-in-Err
 returns-in-Err c =
     stops state.Memory alloc_error (IsPairRead c.args.first.now c.args.second.now c.args.text.now) state_told
-    (IsPairJudged (c.args.first.now, c.args.second.now)) c.in-Err.fault c.unwritten.result refl c.in-Err.ensures.right c.unwritten.ensures
+    (IsPairJudged (c.args.first.now, c.args.second.now)) c.in-Err.fault c.no_state.result refl c.in-Err.ensures.right c.no_state.ensures
