@@ -6,14 +6,15 @@ use Rattle.std.proofs.lemmas.Bool.{false≢true}
 use Rattle.std.proofs.lemmas.List.{map_push, length_push}
 use Rattle.std.proofs.lemmas.List.Elements.{All-nil, All-append}
 use Rattle.bt_text.specs.Answers.{UnlessMemory}
+use Rattle.bt_text.specs.Blanks.{IsBlank}
 use Rattle.bt_text.specs.Lines.{Lacks, line, IsFirstLine}
 use Rattle.bt_cnf.specs.Formulas.{FormulaParts}
 use Rattle.bt_cert.specs.StepLines.{WrittenStep, IsWritten, written_text, written_clause}
 use Rattle.bt_cert.specs.Judging.{IsAccepted, FailsFor, IsWideStep}
 use Rattle.bt_cert.specs.inner.Checking.{Checking, start_of}
-use Rattle.bt_cert.specs.Certificates.{AreRight, ComesTo, AreStepsRead, clauses_after, line_after}
+use Rattle.bt_cert.specs.Certificates.{AreRight, ComesTo, AreStepsRead, clauses_after, line_after, end_line}
 use Rattle.bt_cert.specs.inner.Lines.{IsFound}
-use Rattle.bt_cert.specs.inner.Stages.{Progress, StandsAfterSteps, HasFault, IsRefused, IsAtStage, HasRead, ReadsOn, step_lines, fault_on, advanced}
+use Rattle.bt_cert.specs.inner.Stages.{Progress, StandsAfterSteps, HasFault, IsRefused, IsAtStage, HasRead, ReadsOn, step_lines, fault_on, advanced, stage_after_end}
 use Rattle.bt_cert.specs.declared.fault.StepFault.{StepFault}
 use Rattle.bt_cert.specs.declared.fault.StepFault.TheVariants as step_fault
 use Rattle.bt_cert.specs.declared.fault.CertFault.{CertFault}
@@ -139,6 +140,30 @@ module _ (start : ℕ) (old : Progress) (known : Checking) (text rest : List ℕ
         refuted =
             ((λ yes. ends_with s.steps h.step (h.holds.2.0 (sym refuted_is ∙ yes))), (λ ends. refuted_is ∙ h.holds.2.1 (last_is_empty s.steps h.step ends)));
       }
+
+  end_line_at : (b : Bool) → old.is_refuted ≡ b → IsFound old.known (old.part ++ rest) known found.End → (p : Progress) → p.known ≡ known → p.line ≡ old.line + 1
+      → IsAtStage start (text ++ (rest ++ 10 ∷ [])) p (stage_after_end b)
+  end_line_at true refuted h p known_is line_is =
+      let formula_is : p.known.formula ≡ old.known.formula = ap (λ k. k.formula) (known_is ∙ h.1) in
+      record {
+        steps = s.steps;
+        right = subst (λ f. AreRight f s.steps) (sym formula_is) s.right;
+        ends = s.refuted.0 refuted;
+        blanks = [];
+        are_blanks = All-nil IsBlank;
+        text_is =
+            ap (λ t. t ++ (rest ++ 10 ∷ [])) s.text_is ∙ append_assoc (step_lines s.steps) old.part (rest ++ 10 ∷ [])
+            ∙ ap (λ t. step_lines s.steps ++ t) (sym (append_assoc old.part rest (10 ∷ [])) ∙ ap line h.0) ∙ sym (append-nil (step_lines s.steps ++ line end_line));
+        number = line_is ∙ omega (arith, s.number);
+      }
+  end_line_at false refuted h p known_is line_is =
+      let formula_is : p.known.formula ≡ old.known.formula = ap (λ k. k.formula) (known_is ∙ h.1) in
+      λ more. subst (λ f. AreStepsRead start f ((text ++ (rest ++ 10 ∷ [])) ++ more) (Err NoVerdict)) (sym formula_is) (record {
+        steps = s.steps;
+        after = more;
+        comes = subst (λ l. ComesTo old.known.formula ((text ++ (rest ++ 10 ∷ [])) ++ more) s.steps l more) h.0 (comes_fed more);
+        open_end = λ ends. let yes = s.refuted.1 ends in false≢true (sym refuted ∙ yes);
+      })
 
 at_steps : (start : ℕ) (text : List ℕ) (p : Progress) → p.stage ≡ Steps → HasRead start text p → StandsAfterSteps start text p
 at_steps start text p stage h = subst (IsAtStage start text p) stage h

@@ -15,6 +15,7 @@ use Rattle.bt_flow.specs.Properties.{IsAdmissible}
 use Rattle.bt_flow.proofs.Adding.{no_edge}
 use Rattle.bt_fenc.specs.declared.state_literal.Side.{Side}
 use Rattle.bt_fenc.specs.declared.state_literal.Side.TheVariants.{Out, In}
+use Rattle.bt_fenc.specs.declared.state_literal.Pair.{Pair}
 use Rattle.bt_fenc.specs.declared.state_literal.Pair.TheVariants.{Even}
 use Rattle.bt_fenc.specs.declared.state_literal.StateLiteral.{StateLiteral}
 use Rattle.bt_fenc.specs.declared.state_literal.StateLiteral.TheVariants.{Mark, Says, First}
@@ -22,8 +23,8 @@ use Rattle.bt_fenc.specs.declared.clause_family.ClauseFamily.{ClauseFamily}
 use Rattle.bt_fenc.specs.declared.clause_family.ClauseFamily.TheVariants as of
 use Rattle.bt_flow.specs.EndEdges.{input_edge, output_edge, cap_at, load_column, room_column}
 use Rattle.bt_fenc.specs.Columns.{in_edges, out_edges, edges_at, preferred_at, at_least, at_most, below as below_cap, beyond, not_below, above}
-use Rattle.bt_fenc.specs.Families.{clauses_at, places, family_clauses, families, range_clauses, excuse, even_clause, even_clauses, prior_clause, side_clauses, backing_clause}
-use Rattle.bt_fenc.specs.Pairs.{pair_clause, beside, side_pairs, full, loaded, filled}
+use Rattle.bt_fenc.specs.Families.{clauses_at, places, family_clauses, families, range_clauses, end_clauses, excuse, even_clause, even_clauses, prior_clause, side_clauses, backing_clause}
+use Rattle.bt_fenc.specs.Pairs.{first_row, pair_clause, beside, side_pairs, full, loaded, filled}
 use Rattle.bt_fenc.specs.Laws.{HasTrue}
 use Rattle.bt_fenc.proofs.NetEdges.{IsEdgeWith, edges_with, cap_is, input_is, output_is}
 use Rattle.bt_fenc.proofs.Orders.{at_most_or}
@@ -144,6 +145,19 @@ module _ (n : Network) (is : IsNetwork n) (s : Flows) (state : IsStateOf n s) (l
       let low = r.0 in
       let high = r.1 in
       range_true (room_column n o) (cap_at n (output_edge n o)) (omega (arith, ints, x, low)) (omega (arith, ints, x, c, high))
+
+  end_true : (c a : ℕ) (mark : Bool) (pair : Pair) → first_row pair ≡ not_below a c → w n is s state level a ≤ℤ w n is s state level c
+      → (backed_at s a ≡ not mark → w n is s state level c ≤ℤ w n is s state level a) → AllTrue (end_clauses c a mark pair)
+  end_true c a mark pair same most least = (
+    inl (rows.not_below_holds (w n is s state level) s.denominator state.positive c a most),
+    (
+      elim (same_or_not (backed_at s a) mark) [
+        | inl x ↦ inl x
+        | inr y ↦ inr (inl (subst (λ row. RowHolds row (rows.over (w n is s state level) s.denominator)) (sym same) (rows.not_below_holds (w n is s state level) s.denominator state.positive a c (least y))))
+      ],
+      tt,
+    ),
+  )
 
   pub inputs_true : (i : ℕ) → i < n.inputs → AllTrue (clauses_at n of.Inputs i)
   inputs_true i l =

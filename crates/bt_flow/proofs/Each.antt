@@ -16,6 +16,10 @@ at_tail : (P : ℕ → Type 0) (m : ℕ) (b : Bool) (rest : List ℕ) → AllByR
 at_tail P m true rest h = h.1
 at_tail P m false rest h = h
 
+from_both : (P : ℕ → Type 0) (m : ℕ) (b : Bool) (rest : List ℕ) → (b ≡ true → P m) → AllByRecursion P rest → AllByRecursion P (cond b (m ∷ rest) rest)
+from_both P m true rest f h = (f refl, h)
+from_both P m false rest f h = h
+
 pub numbers_all : (p : Edge → Bool) (P : ℕ → Type 0) (m : ℕ) (es : List Edge) → AllByRecursion P (numbers_where p m es)
     → (i : ℕ) (e : Edge) → slice_get es i ≡ Some e → p e ≡ true → P (m + i)
 numbers_all p P m [] h i e is t = absurd (cc)

@@ -2,13 +2,13 @@
 use Rattle.std.proofs.Common.{◌≡◌, ℕ, ◌+◌, ◌<◌, Bool, true, false, cond, List, [], ◌∷◌, ◌++◌, length, Option, None, refl, ap, ◌∙◌, sym, subst, arith, append_assoc, ◌==◌, ◌⊎◌, inl, inr}
 use Rattle.std.specs.Prelude.{◌&&◌}
 use Rattle.std.proofs.lemmas.Bool.{eqb-true}
-use Rattle.bt_json.specs.Json.{Json, number, list, object, no_items, no_members}
+use Rattle.bt_json.specs.Json.{Json, number, text, list, object, no_items, no_members}
 use Rattle.bt_json.specs.Stands.{items_of, members_of}
 use Rattle.bt_json.specs.Grammar.{Texts, ◌▸◌, Byte, Blanks, is_blank, IsText, IsValue}
 use Rattle.bt_json.specs.Places.{Frame, in_list, in_object, Due, NameDue}
 use Rattle.bt_json.specs.Answers.{EndsBefore}
 use Rattle.bt_json.specs.inner.Bytes.{kind_of, mark_of}
-use Rattle.bt_json.specs.inner.Reading.{State, Step, go, stop, found, bad, deep, twice, step, Role, as_value, as_name, Place, between, InText, reads, closes, no_text, Numeral, numeral_value, InNumber, goes_on, ends, wrong, due, opened_list, behind, opened_object, name_due, colon_due, in_text, in_number, in_word, deliver, opens_level, has_name, step_due, step_opened_list, step_behind, step_opened_object, step_name_due, step_colon_due, step_in_text, step_in_number, step_past, step_in_word, step_text, step_number}
+use Rattle.bt_json.specs.inner.Reading.{State, Step, go, stop, found, bad, deep, twice, step, Role, as_value, as_name, Place, between, InText, reads, closes, no_text, Numeral, numeral_value, InNumber, goes_on, ends, wrong, due, opened_list, behind, opened_object, name_due, colon_due, in_text, in_number, in_word, deliver, opens_level, has_name, finish_text, step_due, step_opened_list, step_behind, step_opened_object, step_name_due, step_colon_due, step_in_text, step_in_number, step_past, step_in_word, step_text, step_number}
 use Rattle.bt_json.specs.declared.kind.Kind.{Kind}
 use Rattle.bt_json.specs.declared.kind.Kind.TheVariants.{Blank, ListOpens, ListCloses, ObjectOpens, ObjectCloses, Comma, Colon, Quote, Minus, Digit, LetterT, LetterF, LetterN, Other}
 use Rattle.bt_json.specs.declared.kind.Phase.{Phase}
@@ -19,15 +19,15 @@ use Rattle.bt_json.proofs.SoundTexts.{Half, TextOnwards, text_step, nothing_read
 use Rattle.bt_json.specs.declared.limits.TheConstants.{MOST_LEVELS}
 
 -- the text before the opening quote of a text
-abbrev Opening : Role → List Frame → Texts
+abbrev pub Opening : Role → List Frame → Texts
 Opening as_value k t = Due k t
 Opening (as_name names vs from) k t = NameDue names vs k t × (length t ≡ from)
 
-abbrev NeverNumber : Json → Type 0
+abbrev pub NeverNumber : Json → Type 0
 NeverNumber v = (rest : List ℕ) → EndsBefore v rest
 
 -- a word, less these letters
-abbrev WordFront : List ℕ → Json → Texts
+abbrev pub WordFront : List ℕ → Json → Texts
 WordFront left v t = NeverNumber v × (0 < length left) × IsValue v (t ++ left)
 
 -- what the text is that leads to a state
@@ -63,7 +63,7 @@ pub record DeepThere (b : ℕ) (p : List ℕ) : Type 0 where
   pub opens : (b ≡ 91) ⊎ (b ≡ 123)
 
 -- the value ended with the byte, or before it
-abbrev FoundThere : ℕ → ℕ → List ℕ → Json → ℕ → Type 0
+abbrev pub FoundThere : ℕ → ℕ → List ℕ → Json → ℕ → Type 0
 FoundThere at b p v n = ((n ≡ at + 1) × (Blanks ▸ IsValue v) (p ++ b ∷ []) × NeverNumber v) ⊎ ((n ≡ at) × (Blanks ▸ IsValue v) p × ((rest : List ℕ) → EndsBefore v (b ∷ rest)))
 
 -- what a step over the byte b tells, behind the text p
@@ -156,6 +156,13 @@ colon_due_step at names vs n k b p Colon e h = subst (λ x. Due (in_object (name
 colon_due_step at names vs n k b p kind e h = refl
 
 -- ---- texts
+
+text_finished : (strict : Bool) (at b : ℕ) (bytes : List ℕ) (role : Role) (k : List Frame) (p : List ℕ) → (Opening role k ▸ IsText bytes) (p ++ b ∷ []) → Good at b p (finish_text strict at bytes role k)
+text_finished strict at b bytes as_value k p j = delivered (text bytes) k at b p (λ rest. tt) j
+text_finished strict at b bytes (as_name names vs from) k p j =
+    chosen (strict && has_name names bytes) (stop (twice from at)) (go (colon_due names vs bytes k)) at b p
+    (λ e. (refl, record { names = names; values = vs; frames = k; name = bytes; front = j.front; spelling = j.back; due_name = j.first.0; place = j.first.1; spelled = j.second; whole = j.whole; there = (both_true strict (has_name names bytes) e).1 }))
+    (λ e. no_blanks (p ++ b ∷ []) (record { front = j.front; back = j.back; first = j.first.0; second = j.second; whole = j.whole }))
 
 in_text_step : (strict : Bool) (at b : ℕ) (out : List ℕ) (high : Option ℕ) (place : Place) (role : Role) (k : List Frame) (p : List ℕ) (x : InText) (j : (Opening role k ▸ (Byte 34 ▸ Half out high place)) p) → TextOnwards b j.second.back x → Good at b p (step_in_text strict at role k x)
 in_text_step strict at b out high place role k p (reads o h q) j t =

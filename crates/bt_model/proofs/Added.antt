@@ -18,7 +18,7 @@ use Rattle.bt_model.specs.Handing.{LooksFrom, FeedsFrom, Feeds, Hands, BlocksFro
 use Rattle.bt_model.specs.Chains.{IsSplitter, IsLink, Path, one, more, IsInput, IsOutput, Source, begins, leaves, Sink, ends, enters, Chain, StartsAs, EndsAs, IsLongest, IsEmptyChain, IsChain}
 use Rattle.bt_model.specs.Clean.{HasTwoFeeders, IsSeenAcross, IsHalfBlocked, IsOnRing, IsClean}
 use Rattle.bt_model.proofs.ChainLemmas.{orderly_of, path_stop}
-use Rattle.bt_model.proofs.ExistLemmas.{giver_part, taker_part, input_link, run_from, input_chain, empty_chain}
+use Rattle.bt_model.proofs.ExistLemmas.{giver_part, taker_part, input_link, run_from, input_chain, half_chain, empty_chain}
 use Rattle.bt_model.proofs.PathLemmas.{path_start}
 use Rattle.bt_model.proofs.SightLemmas.{one_side}
 use Rattle.bt_model.proofs.Lists.{has_old, has_new, has_cases}
@@ -50,7 +50,7 @@ step_apart South c e = let y = ap (λ z. z.y) e in omega (arith, ints)
 step_apart West c e = let x = ap (λ z. z.x) e in omega (arith, ints)
 
 -- what comes along comes from behind
-along_behind : (d e : Dir) (side : Side) → e ≡ d → ComesFrom d e side → side ≡ Behind
+pub along_behind : (d e : Dir) (side : Side) → e ≡ d → ComesFrom d e side → side ≡ Behind
 along_behind d e side same comes = one_side d e side Behind comes (sym same)
 
 behind_unblocked : (kind : Kind) (side : Side) → side ≡ Behind → (kind ≡ Belt) ⊎ (kind ≡ Entrance) → BlocksFrom kind side → ⊥
@@ -68,6 +68,9 @@ belt_no_piece q belt (inr e) = let a = belt in let b = e in cc
 module _ (parts : List Part) (q : Part) (before after : ℕ → Type 0) (joins : Joins parts q before after) where
   belt_link : q.kind ≢ Splitter
   belt_link e = let a = joins.belt in let b = e in cc
+
+  belt_above : q.kind ≢ Entrance
+  belt_above e = let a = joins.belt in let b = e in cc
 
   pub new_link : IsLink (with_belt parts q) (length parts)
   new_link = (q, has_new parts q, belt_link)
@@ -445,6 +448,14 @@ module _ (parts : List Part) (q : Part) (before after : ℕ → Type 0) (joins :
       let run = run_from parts (orderly_of parts clean) clean.no_ring i (input_link parts i input) in (
         record { source = begins i cell; links = run.links; sink = run.sink },
         input_chain parts clean.well_placed i run.last cell run.links run.sink input at run.path run.ends,
+        refl,
+      )
+
+  half_starts : IsClean parts → (s first : ℕ) (half : Cell) → IsSplitter parts s → IsLink parts first → FeedsFrom parts s half first → StartsSo (leaves s half)
+  half_starts clean s first half splitter link feeds =
+      let run = run_from parts (orderly_of parts clean) clean.no_ring first link in (
+        record { source = leaves s half; links = run.links; sink = run.sink },
+        half_chain parts (orderly_of parts clean) s first run.last half run.links run.sink splitter feeds run.path run.ends,
         refl,
       )
 

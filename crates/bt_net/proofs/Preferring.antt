@@ -20,7 +20,7 @@ use Rattle.bt_net.proofs.ItemLines.{items_push, shorter}
 use Rattle.bt_net.proofs.Preference.{none_long}
 
 -- one more priority
-becomes_push : (m n : Network) (ps : List Priority) (p : Priority) → Becomes m ps n → IsFreeFor n p → Becomes m (ps ++ p ∷ []) (with_priority n p)
+pub becomes_push : (m n : Network) (ps : List Priority) (p : Priority) → Becomes m ps n → IsFreeFor n p → Becomes m (ps ++ p ∷ []) (with_priority n p)
 becomes_push m n [] p is free = subst (λ x. IsFreeFor x p × (with_priority x p ≡ with_priority n p)) (sym is) (free, refl)
 becomes_push m n (q ∷ ps) p is free = (is.0, becomes_push (with_priority m q) n ps p is.1 free)
 
@@ -42,7 +42,7 @@ becomes_wires m n (p ∷ ps) is =
     let rest = becomes_wires (with_priority m p) n ps is.1 in
     record { inputs = one.inputs ∙ rest.inputs; outputs = one.outputs ∙ rest.outputs; splitters = one.splitters ∙ rest.splitters; edges = one.edges ∙ rest.edges }
 
-owns_same : (w m : Network) (p : Priority) → SameWires w m → Owns w p → Owns m p
+pub owns_same : (w m : Network) (p : Priority) → SameWires w m → Owns w p → Owns m p
 owns_same w m (Give k a) same owns =
     (subst (λ s. k < s) same.splitters owns.0, subst (λ es. (f : Edge) × (slice_get es a ≡ Some f) × IsTrue (leaves k f)) same.edges owns.1)
 owns_same w m (Take k a) same owns =
@@ -132,6 +132,8 @@ pub record SoFar (may : Admitted) (n : Network) (text : List ℕ) (preferred : P
   pub lines : BeginsWithItems (IsPriorityHere may n) (length n.edges + 2) text priorities rest
   pub becomes : Becomes n priorities (preferring n preferred.gives.items preferred.takes.items)
   pub count_is : count ≡ length priorities
+  pub gives_long : length preferred.gives.items ≡ n.splitters
+  pub takes_long : length preferred.takes.items ≡ n.splitters
   pub short : count + length rest ≤ length text
 
 -- no line yet

@@ -1,6 +1,7 @@
 -- How many edges there are at each end, when one more edge comes.
-use Rattle.std.proofs.Common.{eq-eqb, ◌≡◌, ℕ, ◌+◌, ◌<◌, ◌≤◌, Bool, true, false, cond, eqb, List, [], ◌∷◌, ◌++◌, length, refl, sym, ◌∙◌, subst, arith}
+use Rattle.std.proofs.Common.{eq-eqb, ◌≡◌, ℕ, ◌+◌, ◌<◌, ◌≤◌, Bool, true, false, cond, eqb, List, [], ◌∷◌, ◌++◌, length, refl, sym, ◌∙◌, subst, ⊎_elim, arith}
 use Rattle.std.specs.List.{All, count_by}
+use Rattle.std.proofs.lemmas.Bool.{cases_eq, ne_eqb}
 use Rattle.std.proofs.lemmas.List.{length_push, get_or_push}
 use Rattle.std.proofs.lemmas.List.Sums.{sum_by_push}
 use Rattle.std.proofs.lemmas.List.Elements.{All-push, All-get_or, All-from_get_or}
@@ -27,6 +28,16 @@ module _ (at : ℕ → Edge → Bool) (es : List Edge) (e : Edge) where
 
   count_one : (i : ℕ) → at i e ≡ true → count_by (at i) (es ++ e ∷ []) ≡ count_by (at i) es + 1
   count_one i one = sum_by_push (λ x. cond (at i x) 1 0) es e ∙ rw one refl
+
+  -- at most so many edges at each end, and fewer at this one, and then one more there
+  most_one : (k m size : ℕ) → IsAt k → ((i : ℕ) → i < size → count_by (at i) es ≤ m) → count_by (at k) es < m → (i : ℕ) → i < size → count_by (at i) (es ++ e ∷ []) ≤ m
+  most_one k m size is most below i h = ⊎_elim
+      (λ same. let one : at i e ≡ true = is i ∙ rw same (eq-eqb i i refl) in omega (arith, count_one i one, rw same at below))
+      (λ other. let none : at i e ≡ false = is i ∙ ne_eqb k i other in omega (arith, count_none i none, most i h))
+      (cases_eq k i)
+
+  most_none : (m size : ℕ) → IsNone → ((i : ℕ) → i < size → count_by (at i) es ≤ m) → (i : ℕ) → i < size → count_by (at i) (es ++ e ∷ []) ≤ m
+  most_none m size none most i h = omega (arith, count_none i (none i), most i h)
 
 -- the last of the edges
 last : {X : Type 0} (P : X → Type 0) (xs : List X) (x : X) → All P (xs ++ x ∷ []) → P x

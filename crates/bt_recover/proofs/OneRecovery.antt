@@ -94,6 +94,7 @@ one_in_order parts =
 never_unpaired : (parts : List Part) → AllPaired parts → Never (IsUnpaired parts)
 never_unpaired parts all i alone = let paired = all i alone.piece in alone.alone paired.other paired.paired
 
+sized_in_order : (parts : List Part) (told : Told) → IsSized parts told → InOrder parts told
 unfolding InOrder FirstOr
 sized_in_order parts told sized =
     let clean = sized.numbered.clean in
@@ -121,6 +122,10 @@ one_recovery parts a b h k = one_in_order parts a b (in_order parts a h) (in_ord
 -- so a right answer, or want of memory, is what a call owes
 pub recovery_answers : (parts : List Part) (told : Told) → UnlessMemory Memory (IsRecovered parts) told → Answers Memory (IsRecovered parts) told
 recovery_answers parts told right = answers_of Memory (IsRecovered parts) (one_recovery parts) told right
+
+-- what is told of the network that is numbered for a layout is told of the layout
+pub net_found : (parts : List Part) (n net : Network) (naming : Naming) → IsNumbered parts n naming → HasNoPriorities n → IsNetTold n (Ok net) → IsRecovered parts (Ok (net, naming))
+net_found parts n net naming numbered plain told = (subst (λ m. IsNumbered parts m naming) (sym told.0) numbered, told.1, subst HasNoPriorities (sym told.0) plain)
 
 pub net_refused : (parts : List Part) (n : Network) (naming : Naming) (fault : RecoverFault) → IsNumbered parts n naming → HasNoPriorities n → IsNetTold n (Err fault) → IsRefused parts fault
 net_refused parts n naming TooLarge numbered plain large = inl (n, naming, numbered, plain, large)

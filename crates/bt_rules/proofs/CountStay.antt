@@ -68,6 +68,10 @@ module _ (r : LayoutRequest) (parts : List Part) (lays : Lays parts r) where
   fewer (suc n) (suc k) (inl h) = inl (fewer n (suc k) h)
   fewer (suc n) (suc k) (inr h) = inr (h.0, fewer n k h.1)
 
+  so_few : (n k d : ℕ) → H n (d + k) → H n k
+  so_few n k zero h = subst (H n) (let e : 0 + k ≡ k = omega arith in e) h
+  so_few n k (suc d) h = so_few n k d (fewer n (d + k) (subst (H n) (let e : suc d + k ≡ suc (d + k) = omega arith in e) h))
+
   -- ---- the rules of the counter
 
   less_said : (spare half : ℕ) → H (spare + half) (suc half) → OneSaid S (among_less spare half)

@@ -143,6 +143,8 @@ module _ (w : Solved) (c : Cell) (h : IsInside w.r.rect c) where
       (in_map (Carries c) (classes_of w.r) k k_in) (in_map (Carries c) (classes_of w.r) l l_in) s t in
       cc
 
+  -- a half has no class of inputs
+  pub half_no_input : (k : Class) → In (input_classes w.r) k → Says w (HalfOn c) → Says w (Carries c k) → ⊥
   unfolding none_half
   half_no_input k k_in s t = all_mapped (Keeps w.reading) (λ x. not_all (HalfOn c ∷ Carries c x ∷ [])) k (input_classes w.r)
       (all_right (Keeps w.reading) (at_most_one carried_at ++ none_empty) none_half all_classes.1) k_in (s, (t, tt))

@@ -1,6 +1,6 @@
 -- The parts of the cells that are reached, by what the cells hold.
-use Rattle.std.proofs.Common.{◌≡◌, ◌≢◌, ℕ, List, refl, sym, ◌∙◌, ap, subst, inl, inr, arith}
-use Rattle.std.proofs.lemmas.Option.{slice_get_within, get_or_from_slice_get}
+use Rattle.std.proofs.Common.{◌≡◌, ◌≢◌, ℕ, List, length, refl, sym, ◌∙◌, ap, subst, inl, inr, arith}
+use Rattle.std.proofs.lemmas.Option.{slice_get_within, slice_get_read, get_or_from_slice_get}
 use Rattle.bt_parts.specs.declared.part.Cell.{Cell}
 use Rattle.bt_parts.specs.declared.part.Dir.{Dir}
 use Rattle.bt_parts.specs.declared.part.Kind.TheVariants as kind
@@ -40,7 +40,7 @@ home_own shape.Exit dir c own = refl
 home_own (shape.Half Lesser) dir c own = refl
 home_own (shape.Half Greater) dir c own = absurd (own refl)
 
-covers_on : (w : Solved) (of : Shape) (dir : Dir) (c : Cell) → Covers (part_on w of dir c) c
+pub covers_on : (w : Solved) (of : Shape) (dir : Dir) (c : Cell) → Covers (part_on w of dir c) c
 covers_on w shape.Belt dir c = inl refl
 covers_on w shape.Entrance dir c = inl refl
 covers_on w shape.Exit dir c = inl refl
@@ -72,6 +72,11 @@ pub record Standing (w : Solved) (parts : List Part) (i : ℕ) (c : Cell) : Type
 module _ (w : Solved) (parts : List Part) (lists : ListsEach (IsKeptPart w.r w.reading) parts) where
   pub kept_part : (i : ℕ) (part : Part) → HasPart parts i part → IsKeptPart w.r w.reading part
   kept_part i part is_i = lists.only part (i, slice_get_within parts i part is_i, get_or_from_slice_get parts i part part is_i)
+
+  index_of : (part : Part) → IsKeptPart w.r w.reading part → (i : ℕ) × HasPart parts i part
+  index_of part kept =
+      let there = lists.all part kept in
+      (there.0, slice_get_read parts (length parts) there.0 part refl there.1 (sym there.2))
 
   pub one_index : (i j : ℕ) (part : Part) → HasPart parts i part → HasPart parts j part → i ≡ j
   one_index i j part is_i is_j = one_place parts lists.once i j part is_i is_j
