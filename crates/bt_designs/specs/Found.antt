@@ -2,8 +2,6 @@
 use Rattle.std.specs.Prelude.{ℕ}
 use Rattle.bt_net.specs.Network.{Network}
 use Rattle.bt_designs.specs.declared.design.Design as read
-use Rattle.bt_designs.specs.declared.design.Laid.{Laid}
-use Rattle.bt_designs.specs.declared.drawing.Drawing.{Drawing}
 use Rattle.bt_designs.specs.declared.kept.BlueprintRequest.{BlueprintRequest}
 use Rattle.bt_designs.specs.declared.request.PinnedDesign.{PinnedDesign}
 use Rattle.bt_model.specs.Requests.{LayoutRequest}
@@ -20,14 +18,6 @@ pinned_of design = record { net = design.net; demands = design.demands.items; bl
 -- the same, and how many bytes the design has
 abbrev pub pinned_and_used : PinnedDesign → PinnedNet × ℕ
 pinned_and_used design = (pinned_of design, design.used)
-
--- a blueprint's layout
-abbrev pub laid_of : Drawing → Laid
-laid_of drawing = drawing.laid
-
--- the same, and how many bytes the blueprint has
-abbrev pub laid_and_used : Drawing × ℕ → Laid × ℕ
-laid_and_used found = (found.0.laid, found.1)
 
 -- the request for a blueprint
 abbrev pub blueprint_request_of : BlueprintRequest → LayoutRequest

@@ -7,9 +7,8 @@ ghost use Rattle.bt_json.specs.Stands.{json_of};
 ghost use Rattle.bt_entities.specs.Answers.{IsPrioritisedOf, parts_and_priorities_in};
 ghost use Rattle.bt_designs.specs.Alone.{IsAlone};
 ghost use Rattle.bt_designs.specs.Designs.{IsJsonPreferring, IsTieredPreferring, IsTieredWith};
-ghost use Rattle.bt_designs.specs.Found.{laid_and_used, laid_of};
 ghost use Rattle.bt_designs.specs.Kept.{AreDrawn};
-ghost use Rattle.bt_designs.specs.inner.Drawings.{IsTieredOn};
+ghost use Rattle.bt_designs.specs.inner.Drawings.{IsTieredOn, laid_and_used, laid_of};
 
 use crate::alone::refused_behind;
 use crate::design::{Laid, net_of_grid_with, tier_of};

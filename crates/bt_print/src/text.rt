@@ -4,7 +4,8 @@ ghost use Rattle.bt_net.specs.NetText.{line};
 ghost use Rattle.bt_flow.specs.Names.{test_name};
 ghost use Rattle.bt_print.specs.Answers.{brief_text, cause_name, which_text};
 ghost use Rattle.bt_designs.specs.Refusals.{member_name, refusal_text};
-ghost use Rattle.bt_print.specs.Lines.{NeedsMemory, detail_text, formed_text, line_text};
+ghost use Rattle.bt_print.specs.Lines.{NeedsMemory, formed_text};
+ghost use Rattle.bt_print.specs.inner.Details.{detail_text, line_text};
 
 use crate::answer::{Answer, Brief};
 use bt_cert::Cause;

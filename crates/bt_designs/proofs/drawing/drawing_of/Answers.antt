@@ -9,7 +9,7 @@ use Rattle.bt_entities.specs.declared.fault.EntityFault.TheVariants as entity
 use Rattle.bt_designs.specs.declared.fault.DesignFault.TheVariants.{Memory}
 use Rattle.bt_designs.specs.Refusals.{entity_told}
 use Rattle.bt_designs.specs.Designs.{IsTieredWith}
-use Rattle.bt_designs.specs.Found.{laid_of}
+use Rattle.bt_designs.specs.inner.Drawings.{laid_of}
 use Rattle.bt_designs.proofs.InTurns.{stops, went}
 use Rattle.bt_designs.proofs.drawing.drawing_of.Goals as goal
 

@@ -6,9 +6,8 @@ use Rattle.bt_recover.specs.declared.grid.GridFault.TheVariants as grid
 use Rattle.bt_recover.specs.Placing.{IsPlaced}
 use Rattle.bt_designs.specs.declared.fault.DesignFault.TheVariants.{Memory}
 use Rattle.bt_designs.specs.Designs.{IsLayoutWith, IsPlacedWith, IsTierOf}
-use Rattle.bt_designs.specs.Found.{laid_of}
 use Rattle.bt_designs.specs.Refusals.{grid_told}
-use Rattle.bt_designs.specs.inner.Drawings.{IsTieredOn}
+use Rattle.bt_designs.specs.inner.Drawings.{IsTieredOn, laid_of}
 use Rattle.bt_designs.proofs.Drawings.{tiered}
 use Rattle.bt_designs.proofs.InTurns.{stops}
 use Rattle.bt_designs.proofs.drawing.drawing_with.Goals as goal
