@@ -21,7 +21,7 @@ total_positive at some (t ∷ terms) all =
     (total_positive at some terms (All-tail HasNumber t terms all))
 
 -- a line starts after this position, if at all
-StartsAfter : ℕ → Terms → Type 0
+pub StartsAfter : ℕ → Terms → Type 0
 StartsAfter position [] = Unit {0}
 StartsAfter position (t ∷ terms) = position < t.0
 

@@ -28,7 +28,7 @@ solved_by r assignment is solution = record {
   keeps = meeting_keeps r (truth_in assignment) solution.0 solution.1;
 }
 
-keeps_of : (t : Told) → IsSolved t → KeepsAll t.request (reading_of t)
+pub keeps_of : (t : Told) → IsSolved t → KeepsAll t.request (reading_of t)
 unfolding KeepsAll
 keeps_of t solved = solved.keeps
 

@@ -157,7 +157,7 @@ halves_step parts clean naming labels names are k old new lt adds has =
     (adds_from parts naming labels names are (leaves s (beside adds.part.dir adds.part.cell)) (from.Split k) adds.mid new at adds.greater) has
 
 -- what stands for a chain with its halves stands for it without them
-halves_off : (parts : List Part) (naming : Naming) (chains : List Chain) (joints : List Joint) → AllZip (IsJoint parts naming) chains joints → AllZip (IsEdgeOf parts naming) chains (map (λ joint. joint.edge) joints)
+pub halves_off : (parts : List Part) (naming : Naming) (chains : List Chain) (joints : List Joint) → AllZip (IsJoint parts naming) chains joints → AllZip (IsEdgeOf parts naming) chains (map (λ joint. joint.edge) joints)
 halves_off parts naming [] [] z = tt
 halves_off parts naming [] (j ∷ js) z = absurd z
 halves_off parts naming (c ∷ cs) [] z = absurd z

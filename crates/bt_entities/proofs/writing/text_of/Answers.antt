@@ -7,7 +7,7 @@ use Rattle.bt_parts.specs.declared.part.Part.{Part}
 use Rattle.bt_parts.specs.declared.part.Tier.TheVariants.{Basic}
 use Rattle.bt_entities.specs.Written.{end_text, text_in}
 use Rattle.bt_entities.proofs.Joining.{entity_pushed, all_pushed}
-use Rattle.bt_entities.proofs.blueprint.text_of.Goals as goal
+use Rattle.bt_entities.proofs.writing.text_of.Goals as goal
 
 -- the part that stands for one past the end
 abbrev no_part : Part

@@ -1,5 +1,5 @@
 use Rattle.bt_gen.proofs.Kept.{balanced_kept}
-use Rattle.bt_gen.proofs.law.balanced_led_back.Goals as goal
+use Rattle.bt_gen.proofs.led_back.balanced_led_back.Goals as goal
 
 pub returns : goal.returns
 returns c = balanced_kept

@@ -3,8 +3,8 @@ use Rattle.std.specs.Prelude.{Vec}
 use Rattle.std.specs.declared.alloc.Global.{Global}
 use Rattle.bt_log.specs.inner.Needed.{AreThose}
 use Rattle.bt_log.proofs.Choosing.{those_added, those_passed}
-use Rattle.bt_log.proofs.keeping.marked_places.Goals as goal
-use Rattle.bt_log.proofs.keeping.marked_places.Goals.{then-marks-place+in_ok-push, else-marks-place}
+use Rattle.bt_log.proofs.needed.marked_places.Goals as goal
+use Rattle.bt_log.proofs.needed.marked_places.Goals.{then-marks-place+in_ok-push, else-marks-place}
 
 pub loop-place-preserved : goal.loop-place-preserved
 loop-place-preserved c =

@@ -4,7 +4,7 @@ use Rattle.std.specs.declared.alloc.Global.{Global}
 use Rattle.std.proofs.lemmas.Result.{IfOk-weaker}
 use Rattle.bt_log.specs.inner.Needed.{AreNeeded, AreThose}
 use Rattle.bt_log.proofs.Choosing.{are_needed}
-use Rattle.bt_log.proofs.keeping.needed_places.Goals as goal
+use Rattle.bt_log.proofs.needed.needed_places.Goals as goal
 
 pub returns : goal.returns
 returns c =

@@ -1,5 +1,5 @@
 use Rattle.bt_model.proofs.Extended.{none_inside}
-use Rattle.bt_model.proofs.law.none_inside.Goals as goal
+use Rattle.bt_model.proofs.extending.none_inside.Goals as goal
 
 pub returns : goal.returns
 returns c = none_inside

@@ -2,7 +2,7 @@ use Rattle.std.proofs.Common.{◌≡◌, get_or, subst, ⊎_elim, arith}
 use Rattle.std.proofs.lemmas.Bool.{cases_lt}
 use Rattle.std.proofs.lemmas.List.{get_or_default}
 use Rattle.bt_parts.specs.Cells.{IsInRange}
-use Rattle.hint_layouts.proofs.naming.are_in_range.Goals as goal
+use Rattle.hint_layouts.proofs.part_names.are_in_range.Goals as goal
 
 pub loop-part-preserved : goal.loop-part-preserved
 loop-part-preserved c = λ k d lt.
