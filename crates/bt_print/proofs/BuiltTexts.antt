@@ -32,7 +32,7 @@ lines_here n number (l ∷ ls) [] are = absurd are
 lines_here n number (l ∷ ls) (p ∷ ps) are = ((tt, are.0), lines_here n (number + 1) ls ps are.1)
 
 -- the four lines of the rows
-row_words : List (List ℕ)
+abbrev row_words : List (List ℕ)
 row_words = codes "side inputs south" ∷ codes "side outputs north" ∷ codes "row inputs" ∷ codes "row outputs" ∷ []
 
 rows_are : (n : Network) (number : ℕ) → AreLinesFrom (IsDemandHere All n) number row_words (facing_rows number)
@@ -52,14 +52,14 @@ not_blank (inr (inr (inl e))) = omega (arith, e)
 not_blank (inr (inr (inr e))) = omega (arith, e)
 
 module _ (n : Network) (is : IsNetwork n) where
-  text : List ℕ
+  abbrev text : List ℕ
   text = built_text built.Request n
 
   -- the lines behind those of the edges and the priorities
-  last_lines : List (List ℕ)
+  abbrev last_lines : List (List ℕ)
   last_lines = row_words ++ codes "end" ∷ []
 
-  behind_header : List (List ℕ)
+  abbrev behind_header : List (List ℕ)
   behind_header = map edge_text n.edges ++ (map priority_text (priorities_of n) ++ last_lines)
 
   -- the text is all lines
@@ -80,7 +80,7 @@ module _ (n : Network) (is : IsNetwork n) where
   all_of : text ≡ flat_map line (header n ∷ behind_header) ++ drop (length text) text
   all_of = text_lines ∙ sym (append-nil (flat_map line (header n ∷ behind_header))) ∙ ap (λ r. flat_map line (header n ∷ behind_header) ++ r) (sym none_left)
 
-  reading : Reading
+  abbrev reading : Reading
   reading = record {
     net = n;
     demands = facing_rows (length n.edges + length (priorities_of n) + 2);
