@@ -8,7 +8,8 @@ pub mod LongerDesigns
 pub mod LongerRequests
 pub mod Followed
 pub mod StandingAlone
-pub mod OwnSides
+pub mod Drawings
+pub mod OneDrawing
 pub mod OneRequest
 pub mod OnePair
 pub mod BareNets

@@ -19,7 +19,7 @@ use Rattle.bt_recover.specs.Recovered.{IsRecovered}
 use Rattle.bt_recover.specs.Preferred.{IsRecoveredWith}
 use Rattle.bt_recover.proofs.OneRecovery.{one_recovery}
 use Rattle.bt_recover.proofs.PreferLemmas.{one_recovery_with}
-use Rattle.bt_designs.specs.Designs.{HaveTier, IsTierOf, IsPlacedNet, IsLayoutNet, IsTieredLayout, IsTieredBlueprint, IsPlacedWith, IsLayoutWith, IsPreferringNet, IsTieredWith, IsTieredPreferring, IsJsonOf, IsJsonDesign, IsToldOf, IsToldOfLayout, IsTextDesign, IsDesign, IsBareText, IsBareDesign, in_basic_belts}
+use Rattle.bt_designs.specs.Designs.{HaveTier, IsTierOf, IsPlacedNet, IsLayoutNet, IsTieredLayout, IsTieredBlueprint, IsPlacedWith, IsLayoutWith, IsPreferringNet, IsTieredWith, IsTieredPreferring, IsJsonOf, IsJsonDesign, IsJsonPreferring, IsToldOf, IsToldOfLayout, IsTextDesign, IsDesign, IsBareText, IsBareDesign, in_basic_belts}
 use Rattle.bt_designs.specs.declared.design.Laid.{Laid}
 use Rattle.bt_designs.specs.declared.fault.DesignFault.{DesignFault}
 use Rattle.bt_designs.specs.Refusals.{json_told, entity_told, grid_told, layout_told, net_told}
@@ -79,6 +79,10 @@ one_told_of IsOf one told bytes = one_in_turn (IsJsonOf IsOf bytes) Err _ (one_j
 
 one_told_of_layout : {Y : Type 0} (told : Laid → Y) (bytes : List ℕ) → HasOneAnswer (IsToldOfLayout told bytes)
 one_told_of_layout told bytes = one_told_of IsTieredBlueprint one_blueprint told bytes
+
+-- and to that of a blueprint
+pub one_json_preferring : (bytes : List ℕ) → HasOneAnswer (IsJsonPreferring bytes)
+one_json_preferring bytes = one_json_of IsTieredPreferring one_preferring_layout bytes
 
 pub one_told_of_preferring : {Y : Type 0} (told : Laid → Y) (bytes : List ℕ) → HasOneAnswer (IsToldOf IsTieredPreferring told bytes)
 one_told_of_preferring told bytes = one_told_of IsTieredPreferring one_preferring_layout told bytes

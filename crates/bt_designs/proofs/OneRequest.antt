@@ -1,6 +1,7 @@
 -- Bytes have one request at their front, or one refusal.
 use Rattle.std.proofs.Common.{◌≡◌, ℕ, List, Option, Result, Ok, Err, inl, inr, refl, ap, sym, subst, ◌∙◌}
 use Rattle.bt_text.specs.Answers.{HasOneAnswer, seen}
+use Rattle.bt_parts.specs.declared.part.Part.{Part}
 use Rattle.bt_parts.specs.declared.part.Rect.{Rect}
 use Rattle.bt_parts.specs.declared.part.Tier.{Tier}
 use Rattle.bt_net.specs.declared.network.Admitted.{Admitted}
@@ -10,14 +11,19 @@ use Rattle.bt_net.proofs.OneReading.{one_read}
 use Rattle.bt_model.specs.Requests.{LayoutRequest, IsRequest}
 use Rattle.bt_model.specs.RequestFaults.{IsMade}
 use Rattle.bt_model.proofs.Requested.{one_made}
+use Rattle.bt_recover.specs.Sides.{AreEndSides}
+use Rattle.bt_recover.proofs.SideLemmas.{one_end_sides}
+use Rattle.bt_designs.specs.declared.design.Laid.{Laid}
 use Rattle.bt_designs.specs.declared.fault.DesignFault.{DesignFault}
 use Rattle.bt_designs.specs.Alone.{IsAlone}
+use Rattle.bt_designs.specs.Designs.{IsJsonPreferring}
+use Rattle.bt_designs.specs.Refusals.{layout_told}
 use Rattle.bt_designs.specs.Kept.{IsKeptFor, IsKeptRequest}
-use Rattle.bt_designs.proofs.OwnSides.{one_own_sides}
+use Rattle.bt_designs.proofs.OneDrawing.{one_drawing}
 use Rattle.bt_designs.specs.Requested.{PinnedNet, asked_for, pinned_laid, IsPinnedText, IsPinned, IsRequestFor, IsLoneRequest, IsFrontRequest, IsSidedRequest}
 use Rattle.bt_designs.specs.Steps.{stopped, went_on}
 use Rattle.bt_designs.proofs.InTurns.{one_in_turn, same_value, not_both}
-use Rattle.bt_designs.proofs.OneDesign.{one_told_of_preferring, seen_ok}
+use Rattle.bt_designs.proofs.OneDesign.{one_json_preferring, one_told_of_preferring, seen_ok}
 use Rattle.bt_designs.proofs.StandingAlone.{one_alone}
 
 one_pinned_text : (may : Admitted) (bytes : List ℕ) → HasOneAnswer (IsPinnedText may bytes)
@@ -48,13 +54,12 @@ one_sided_request most tier bytes =
     one_in_turn (IsAlone (IsPinnedText Sides) bytes) Err (IsRequestFor most tier) (one_alone (IsPinnedText Sides) bytes (one_pinned_text Sides bytes)) (one_request_for most tier)
 
 -- and of a blueprint whose ends are to stand at their own sides
-one_kept_for : (rect : Rect) (tier : Option Tier) (bytes : List ℕ) (n : PinnedNet) → HasOneAnswer (IsKeptFor rect tier bytes n)
-one_kept_for rect tier bytes n a b (stays, own, h) (others, same, k) =
-    one_request_for rect tier (record n { demands = stays }) a b h
-    (subst (λ ds. IsRequestFor rect tier (record n { demands = ds }) b) (sym (one_own_sides bytes stays others own same)) k)
+one_kept_for : (rect : Rect) (tier : Option Tier) (parts : List Part) (laid : Laid) → HasOneAnswer (IsKeptFor rect tier parts laid)
+one_kept_for rect tier parts laid = one_in_turn (AreEndSides parts) (λ fault. Err (layout_told fault)) _ (one_end_sides parts) (λ stays. one_request_for rect tier (record (pinned_laid laid) { demands = stays }))
 
 pub one_kept_request : (rect : Rect) (tier : Option Tier) (bytes : List ℕ) → HasOneAnswer (IsKeptRequest rect tier bytes)
-one_kept_request rect tier bytes = one_in_turn (IsAlone IsPinned bytes) Err (IsKeptFor rect tier bytes) (one_alone IsPinned bytes (one_pinned bytes)) (one_kept_for rect tier bytes)
+one_kept_request rect tier bytes = one_in_turn (IsAlone IsJsonPreferring bytes) Err _ (one_alone IsJsonPreferring bytes (one_json_preferring bytes))
+    (λ laid a b h k. one_kept_for rect tier h.0 laid a b h.2 (subst (λ parts. IsKeptFor rect tier parts laid b) (sym (one_drawing bytes h.0 k.0 h.1 k.1)) k.2))
 
 -- ---- what is found is a request
 

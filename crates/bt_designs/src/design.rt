@@ -12,7 +12,6 @@ ghost use Rattle.bt_designs.specs.Found.{net_and_used};
 ghost use Rattle.bt_designs.specs.Designs.{IsJsonText, IsPlacedNet, IsLayoutNet, IsTieredLayout, IsTieredBlueprint, IsTierOf};
 ghost use Rattle.bt_designs.specs.Designs.{IsPlacedWith, IsLayoutWith, IsPreferringNet, IsTextDesign, IsDesign};
 ghost use Rattle.bt_designs.specs.Designs.{IsBareText, IsBareDesign, IsJsonDesign, IsJsonLayout, IsToldOfLayout};
-ghost use Rattle.bt_designs.specs.Designs.{IsJsonPreferring, IsTieredPreferring, IsTieredWith};
 ghost use Rattle.bt_designs.specs.Designs.{in_basic_belts, with_cap, with_caps};
 
 use crate::fault::DesignFault;
@@ -170,45 +169,6 @@ pub fn read_json_layout(alloc: Global, bytes: &[u8]) -> Result<(Laid, usize), De
     }
 }
 
-/// The layout whose JSON text stands at the front of the bytes, in which splitters may prefer sides, and how many bytes
-/// it has.
-pub fn read_json_preferring(alloc: Global, bytes: &[u8]) -> Result<(Laid, usize), DesignFault>
-    ensures layout { UnlessMemory DesignFault.Memory (IsJsonPreferring bytes.now) result }
-    ensures within { IfOk result (λ found. found.1 ≤ length bytes.now) }
-{
-    match bt_json::read(alloc, bytes) {
-        Ok((tree, used)) => match laid_of_design(alloc, tree) {
-            Ok(laid) => Ok((laid, used)),
-            Err(fault) => Err(fault),
-        },
-        Err(fault) => Err(fault.into()),
-    }
-}
-
-/// The layout of a blueprint whose splitters may prefer sides.
-fn laid_of_design(alloc: Global, tree: Tree) -> Result<Laid, DesignFault>
-    ensures { UnlessMemory DesignFault.Memory (IsTieredPreferring (json_of tree)) result }
-{
-    let read = parts_and_priorities(alloc, &tree);
-    drop(tree);
-    match read {
-        Ok(read) => laid_with(alloc, read),
-        Err(fault) => Err(fault.into()),
-    }
-}
-
-/// The network of a layout with priorities, and the tier of its parts.
-fn laid_with(alloc: Global, read: Prioritised) -> Result<Laid, DesignFault>
-    requires { AreInRange read.parts.items }
-    ensures { UnlessMemory DesignFault.Memory (IsTieredWith (parts_and_priorities_in read)) result }
-{
-    let tier = tier_of(&read.parts);
-    match net_of_prioritised(alloc, read) {
-        Ok(net) => Ok(Laid { net, tier }),
-        Err(fault) => Err(fault),
-    }
-}
-
 /// The network whose JSON text stands at the front of the bytes.
 fn read_json(alloc: Global, bytes: &[u8]) -> Result<Design, DesignFault>
     ensures design { UnlessMemory DesignFault.Memory (IsJsonDesign bytes.now) (seen net_and_used result) }
@@ -248,7 +208,11 @@ fn net_of_prioritised(alloc: Global, read: Prioritised) -> Result<Net, DesignFau
 }
 
 /// The network of parts that are placed, with their priorities.
-fn net_of_grid_with(alloc: Global, grid: &Grid, priorities: &[Priority]) -> Result<Net, DesignFault>
+pub fn net_of_grid_with(
+    alloc: Global,
+    grid: &Grid,
+    priorities: &[Priority],
+) -> Result<Net, DesignFault>
     ensures { UnlessMemory DesignFault.Memory (IsPlacedWith priorities.now grid.now) result }
 {
     match recover_with(alloc, grid, priorities) {
@@ -282,7 +246,7 @@ fn laid_out(alloc: Global, parts: Vec<Part>) -> Result<Laid, DesignFault>
 }
 
 /// The tier of all parts, where they have one.
-fn tier_of(parts: &[Part]) -> Option<Tier>
+pub fn tier_of(parts: &[Part]) -> Option<Tier>
     ensures { IsTierOf parts.now result }
 {
     let Some(first) = parts.first() else {

@@ -1,87 +1,102 @@
-//! Requests for a blueprint whose ends are to stand at the sides at which they stand in it.
-ghost use Rattle.std.specs.Prelude.{◌≡◌, IfOk, Ok};
-ghost use Rattle.bt_text.specs.Answers.{UnlessMemory};
-ghost use Rattle.bt_parts.specs.Layouts.{AreInRange};
+//! Requests for a blueprint, with its ends anywhere or at the sides at which they stand in it, beside its own parts.
+ghost use Rattle.std.specs.Prelude.{◌≡◌, IfOk};
+ghost use Rattle.bt_text.specs.Answers.{UnlessMemory, seen};
 ghost use Rattle.bt_model.specs.Requests.{IsGrid};
-ghost use Rattle.bt_recover.specs.Sides.{AreEndSides};
-ghost use Rattle.bt_designs.specs.Kept.{AreOwnSides, IsKeptFor, IsKeptRequest};
-ghost use Rattle.bt_designs.specs.Found.{pinned_of};
+ghost use Rattle.bt_designs.specs.Found.{blueprint_request_of};
+ghost use Rattle.bt_designs.specs.Kept.{AreDrawn, IsBlueprintRequest, IsKeptFor, IsKeptRequest};
+ghost use Rattle.bt_designs.specs.Requested.{IsRequestFor, pinned_laid};
 
+use crate::design::Laid;
+use crate::drawing::{Drawing, read_lone_drawing};
 use crate::fault::DesignFault;
-use crate::request::{PinnedDesign, read_lone_pinned, request_for};
-use bt_entities::parts_and_priorities;
+use crate::request::tier_for;
 use bt_model::Request;
 use bt_net::Demand;
-use bt_parts::{Part, Rect, Tier};
+use bt_parts::{Rect, Tier};
 use bt_recover::{Grid, end_sides};
-use std::alloc::{AllocError, Global};
+use std::alloc::Global;
 
-/// The request for the blueprint that the bytes are, with its ends at their own sides, and blanks behind it.
+/// The request for a blueprint, and the blueprint's own parts on their cells.
+#[derive(Drop)]
+pub struct BlueprintRequest {
+    pub request: Request,
+    pub grid: Grid,
+}
+
+/// The request for the blueprint that the bytes are, with blanks behind it, and its parts. The bytes are read once.
+pub fn read_blueprint_request(
+    alloc: Global,
+    rect: Rect,
+    tier: Option<Tier>,
+    bytes: &[u8],
+) -> Result<BlueprintRequest, DesignFault>
+    requires { IsGrid rect }
+    ensures request { UnlessMemory DesignFault.Memory (IsBlueprintRequest rect tier bytes.now)
+        (seen blueprint_request_of result) }
+    ensures drawn { IfOk result (λ found. AreDrawn bytes.now found.grid) }
+{
+    match read_lone_drawing(alloc, bytes) {
+        Ok(drawing) => blueprint_request(alloc, rect, tier, drawing, Vec::new(alloc)),
+        Err(fault) => Err(fault),
+    }
+}
+
+/// The request for the blueprint that the bytes are, with its ends at their own sides, and blanks behind it, and its
+/// parts. The bytes are read once.
 pub fn read_kept_request(
     alloc: Global,
     rect: Rect,
     tier: Option<Tier>,
     bytes: &[u8],
-) -> Result<Request, DesignFault>
+) -> Result<BlueprintRequest, DesignFault>
     requires { IsGrid rect }
-    ensures { UnlessMemory DesignFault.Memory (IsKeptRequest rect tier bytes.now) result }
+    ensures request { UnlessMemory DesignFault.Memory (IsKeptRequest rect tier bytes.now)
+        (seen blueprint_request_of result) }
+    ensures drawn { IfOk result (λ found. AreDrawn bytes.now found.grid) }
 {
-    match read_lone_pinned(alloc, bytes) {
-        Ok(design) => kept_request_for(alloc, rect, tier, bytes, design),
+    match read_lone_drawing(alloc, bytes) {
+        Ok(drawing) => kept_request(alloc, rect, tier, drawing),
         Err(fault) => Err(fault),
     }
 }
 
-/// The request for a design with its ends at their own sides, where the bytes are the design.
-fn kept_request_for(
+/// The request for a blueprint with its ends at their own sides.
+fn kept_request(
     alloc: Global,
     rect: Rect,
     tier: Option<Tier>,
-    bytes: &[u8],
-    design: PinnedDesign,
-) -> Result<Request, DesignFault>
+    drawing: Drawing,
+) -> Result<BlueprintRequest, DesignFault>
     requires { IsGrid rect }
-    ensures { UnlessMemory DesignFault.Memory (IsKeptFor rect tier bytes.now (pinned_of design)) result }
+    ensures request { UnlessMemory DesignFault.Memory (IsKeptFor rect tier drawing.grid drawing.laid)
+        (seen blueprint_request_of result) }
+    ensures grid { IfOk result (λ found. found.grid ≡ drawing.grid) }
 {
-    match own_sides(alloc, bytes) {
-        Ok(demands) => request_for(rect, tier, with_demands(design, demands)),
-        Err(_) => Err(DesignFault::Memory),
+    match end_sides(alloc, &drawing.grid) {
+        Ok(stays) => blueprint_request(alloc, rect, tier, drawing, stays),
+        Err(fault) => Err(fault.into()),
     }
 }
 
-/// The design with other demands.
-fn with_demands(design: PinnedDesign, demands: Vec<Demand>) -> PinnedDesign
-    ensures { pinned_of result ≡ record (pinned_of design) { demands = demands.items } }
+/// The request for a blueprint with these demands, in the rectangle, of parts of the tier: where none is asked for, of
+/// its own, or else of the basic one.
+fn blueprint_request(
+    alloc: Global,
+    rect: Rect,
+    tier: Option<Tier>,
+    drawing: Drawing,
+    demands: Vec<Demand>,
+) -> Result<BlueprintRequest, DesignFault>
+    requires { IsGrid rect }
+    ensures request { UnlessMemory DesignFault.Memory
+        (IsRequestFor rect tier (record (pinned_laid drawing.laid) { demands = demands.items }))
+        (seen blueprint_request_of result) }
+    ensures grid { IfOk result (λ found. found.grid ≡ drawing.grid) }
 {
-    PinnedDesign { demands, ..design }
-}
-
-/// The sides at which the ends of the blueprint stand that stands at the front of the bytes. It was read of them
-/// before.
-fn own_sides(alloc: Global, bytes: &[u8]) -> Result<Vec<Demand>, AllocError>
-    ensures { IfOk result (λ stays. AreOwnSides bytes.now stays.items) }
-{
-    let Ok((tree, _)) = bt_json::read(alloc, bytes) else {
-        return Err(AllocError);
-    };
-    let read = parts_and_priorities(alloc, &tree);
-    drop(tree);
-    match read {
-        Ok(read) => sides_of_parts(alloc, read.parts),
-        Err(_) => Err(AllocError),
-    }
-}
-
-/// The sides at which the ends of a layout of these parts stand.
-fn sides_of_parts(alloc: Global, parts: Vec<Part>) -> Result<Vec<Demand>, AllocError>
-    requires { AreInRange parts.items }
-    ensures { IfOk result (λ stays. AreEndSides parts.items (Ok stays.items)) }
-{
-    let Ok(grid) = Grid::place(alloc, parts) else {
-        return Err(AllocError);
-    };
-    match end_sides(alloc, &grid) {
-        Ok(stays) => Ok(stays),
-        Err(_) => Err(AllocError),
+    let Drawing { laid, grid } = drawing;
+    let Laid { net, tier: own } = laid;
+    match Request::new(net, rect, tier_for(tier, own), demands, Vec::new(alloc)) {
+        Ok(request) => Ok(BlueprintRequest { request, grid }),
+        Err(fault) => Err(fault.into()),
     }
 }

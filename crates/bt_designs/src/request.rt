@@ -9,7 +9,8 @@ ghost use Rattle.bt_designs.specs.Requested.{IsPinned, IsPinnedJson, IsPinnedTex
 ghost use Rattle.bt_designs.specs.Requested.{IsLoneRequest, IsRequestFor, IsSidedRequest, tier_for};
 
 use crate::alone::refused_behind;
-use crate::design::{Laid, is_json, read_json_preferring};
+use crate::design::{Laid, is_json};
+use crate::drawing::{Drawing, read_drawing};
 use crate::fault::DesignFault;
 use bt_model::Request;
 use bt_net::{Admitted, Block, Demand, Net};
@@ -67,14 +68,14 @@ pub fn request_for(
 }
 
 /// The tier of a request.
-fn tier_for(asked: Option<Tier>, own: Option<Tier>) -> Tier
+pub fn tier_for(asked: Option<Tier>, own: Option<Tier>) -> Tier
     ensures { result ≡ tier_for asked own }
 {
     asked.unwrap_or(own.unwrap_or(Tier::Basic))
 }
 
 /// The design that the bytes are, with its pins, sides and rows and its blocks, and blanks behind it.
-pub fn read_lone_pinned(alloc: Global, bytes: &[u8]) -> Result<PinnedDesign, DesignFault>
+fn read_lone_pinned(alloc: Global, bytes: &[u8]) -> Result<PinnedDesign, DesignFault>
     ensures { UnlessMemory DesignFault.Memory (IsAlone IsPinned bytes.now) (seen pinned_of result) }
 {
     match read_pinned(alloc, bytes) {
@@ -156,8 +157,10 @@ fn read_pinned_json(alloc: Global, bytes: &[u8]) -> Result<PinnedDesign, DesignF
     ensures design { UnlessMemory DesignFault.Memory (IsPinnedJson bytes.now) (seen pinned_and_used result) }
     ensures within { IfOk result (λ design. design.used ≤ length bytes.now) }
 {
-    match read_json_preferring(alloc, bytes) {
-        Ok((Laid { net, tier }, used)) => {
+    match read_drawing(alloc, bytes) {
+        Ok((drawing, used)) => {
+            let Drawing { laid, .. } = drawing;
+            let Laid { net, tier } = laid;
             let demands = Vec::new(alloc);
             let blocks = Vec::new(alloc);
             Ok(PinnedDesign {

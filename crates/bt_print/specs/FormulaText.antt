@@ -19,9 +19,9 @@ relation_text Above = codes ">"
 relation_text Equal = codes "="
 
 -- the number of a column among those of its kind, where the kind has several
-abbrev pub number_text : Option ℕ → List ℕ
-number_text None = []
-number_text (Some number) = decimal number
+abbrev pub column_number : Option ℕ → List ℕ
+column_number None = []
+column_number (Some number) = decimal number
 
 -- a column: `f` and the number of an edge, whose flow it is; or `c` and that of an input, whose load it is; or `d` and
 -- that of an output, whose room it is; or `x`, a level with which ends are compared
@@ -49,8 +49,8 @@ abbrev pub rows_text : Columns → FormulaParts → List ℕ
 rows_text columns f = flat_map (row_line columns) f.atoms
 
 -- the header: `p cnf`, and how many variables and clauses there are
-abbrev pub header : FormulaParts → List ℕ
-header f = line (codes "p cnf " ++ decimal f.vars ++ codes " " ++ decimal (length f.clauses))
+abbrev pub dimacs_header : FormulaParts → List ℕ
+dimacs_header f = line (codes "p cnf " ++ decimal f.vars ++ codes " " ++ decimal (length f.clauses))
 
 -- literals, each with a space behind it
 abbrev pub literals_text : List Lit → List ℕ
@@ -62,4 +62,4 @@ clause_line lits = literals_text lits ++ codes "0\n"
 
 -- the header, and a line for each clause
 abbrev pub clauses_text : FormulaParts → List ℕ
-clauses_text f = header f ++ flat_map clause_line f.clauses
+clauses_text f = dimacs_header f ++ flat_map clause_line f.clauses

@@ -2,4 +2,8 @@ pub mod NetTexts
 pub mod TraceText
 pub mod FormulaText
 pub mod Legends
+pub mod Answers
+pub mod BuiltTexts
+pub mod Replies
+pub mod Lines
 pub mod inner

@@ -20,17 +20,17 @@ abbrev pub numbers_text : List ℕ → List ℕ
 numbers_text numbers = flat_map number_text numbers
 
 -- the line of a pivot: `turn`, and the positions that leave and enter
-abbrev pub step_line : Pivot → List ℕ
-step_line step = line (codes "turn " ++ decimal step.leaves ++ codes " " ++ decimal step.enters)
+abbrev pub pivot_line : Pivot → List ℕ
+pivot_line step = line (codes "turn " ++ decimal step.leaves ++ codes " " ++ decimal step.enters)
 
 -- a line for each pivot
-abbrev pub steps_text : List Pivot → List ℕ
-steps_text steps = flat_map step_line steps
+abbrev pub pivot_lines : List Pivot → List ℕ
+pivot_lines steps = flat_map pivot_line steps
 
 -- the lines of a trace: `start` and the positions of the first basis, `bound` and the bound rows, and its pivots
 abbrev pub trace_text : PivotTrace → List ℕ
 trace_text trace =
-    line (codes "start" ++ numbers_text trace.start.items) ++ line (codes "bound" ++ numbers_text trace.bound.items) ++ steps_text trace.steps.items
+    line (codes "start" ++ numbers_text trace.start.items) ++ line (codes "bound" ++ numbers_text trace.bound.items) ++ pivot_lines trace.steps.items
 
 -- the text of a trace whose pivots are as many as they may be: `pivots` and their number, the trace, and `end`
 abbrev pub pivots_text : PivotTrace → List ℕ
@@ -54,12 +54,12 @@ abbrev pub wide_head : Wide → List ℕ
 wide_head wide = line (codes "wide " ++ place_name wide.place ++ codes " " ++ decimal wide.row ++ codes " " ++ decimal wide.column)
 
 -- the last lines of an operation and two numbers: `numbers` and these, and `end`
-abbrev pub end_text : List ℕ → List ℕ → List ℕ → List ℕ
-end_text operation left right = line (codes "numbers " ++ operation ++ codes " " ++ left ++ codes " " ++ right) ++ line (codes "end")
+abbrev pub numbers_and_end : List ℕ → List ℕ → List ℕ → List ℕ
+numbers_and_end operation left right = line (codes "numbers " ++ operation ++ codes " " ++ left ++ codes " " ++ right) ++ line (codes "end")
 
 -- those of the operation whose result leaves 128 bits
 abbrev pub wide_end : Wide → List ℕ
-wide_end wide = end_text (operation_name wide.operation) (frac_text wide.left) (frac_text wide.right)
+wide_end wide = numbers_and_end (operation_name wide.operation) (frac_text wide.left) (frac_text wide.right)
 
 -- the text of where a check met numbers that leave 128 bits
 abbrev pub wide_text : Wide → List ℕ

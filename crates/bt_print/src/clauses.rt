@@ -3,7 +3,7 @@ ghost use Rattle.std.specs.Prelude.{◌≡◌, ◌<◌, ◌∷◌, ◌++◌, [],
 ghost use Rattle.bt_io.specs.Bytes.{WritesText};
 ghost use Rattle.bt_io.specs.Passages.{passage};
 ghost use Rattle.bt_log.specs.LogText.{lit_text};
-ghost use Rattle.bt_print.specs.FormulaText.{clause_line, clauses_text, header, literals_text};
+ghost use Rattle.bt_print.specs.FormulaText.{clause_line, clauses_text, dimacs_header, literals_text};
 
 use bt_cnf::{Formula, Lit};
 use bt_io::{Sink, WriteFault, write_all_of, write_pieces};
@@ -22,7 +22,7 @@ pub fn print_clauses<K: Sink>(formula: &Formula, sink: &mut K) -> Result<(), Wri
 
 /// Writes the header: how many variables and clauses there are.
 fn print_header<K: Sink>(formula: &Formula, sink: &mut K) -> Result<(), WriteFault>
-    ensures { WritesText (passage K.held K.faults sink.old sink.new) (header formula.now) result }
+    ensures { WritesText (passage K.held K.faults sink.old sink.new) (dimacs_header formula.now) result }
 {
     let mut vars = Buffer::new();
     let mut clauses = Buffer::new();

@@ -3,8 +3,8 @@ ghost use Rattle.std.specs.Prelude.{◌≡◌, ◌++◌, codes};
 ghost use Rattle.bt_text.specs.Lines.{line};
 ghost use Rattle.bt_io.specs.Bytes.{WritesText};
 ghost use Rattle.bt_io.specs.Passages.{passage};
-ghost use Rattle.bt_print.specs.TraceText.{number_text, numbers_text, step_line, steps_text, trace_text};
-ghost use Rattle.bt_print.specs.TraceText.{pivots_text, wide_head, wide_end, end_text, wide_text, place_name, operation_name};
+ghost use Rattle.bt_print.specs.TraceText.{number_text, numbers_text, pivot_line, pivot_lines, trace_text};
+ghost use Rattle.bt_print.specs.TraceText.{pivots_text, wide_head, wide_end, numbers_and_end, wide_text, place_name, operation_name};
 
 use bt_frac::TEXT_MAX;
 use bt_io::{Sink, WriteFault, write_all_of, write_pieces};
@@ -69,7 +69,7 @@ fn print_end<K: Sink>(
     sink: &mut K,
 ) -> Result<(), WriteFault>
     ensures { WritesText (passage K.held K.faults sink.old sink.new)
-        (end_text operation.now left.now right.now) result }
+        (numbers_and_end operation.now left.now right.now) result }
 {
     write_pieces(
         sink,
@@ -83,7 +83,7 @@ fn print_trace<K: Sink>(trace: &PivotTrace, sink: &mut K) -> Result<(), WriteFau
 {
     print_numbers(b"start", &trace.start, sink)?;
     print_numbers(b"bound", &trace.bound, sink)?;
-    print_steps(&trace.steps, sink)
+    print_pivot_lines(&trace.steps, sink)
 }
 
 /// Writes a line: its word, and numbers.
@@ -116,17 +116,17 @@ fn print_number<K: Sink>(number: usize, sink: &mut K) -> Result<(), WriteFault>
 }
 
 /// Writes a line for each pivot.
-fn print_steps<K: Sink>(steps: &[Pivot], sink: &mut K) -> Result<(), WriteFault>
-    ensures { WritesText (passage K.held K.faults sink.old sink.new) (steps_text steps.now) result }
+fn print_pivot_lines<K: Sink>(steps: &[Pivot], sink: &mut K) -> Result<(), WriteFault>
+    ensures { WritesText (passage K.held K.faults sink.old sink.new) (pivot_lines steps.now) result }
 {
     for step in steps {
-        print_step(*step, sink)?;
+        print_pivot(*step, sink)?;
     }
     Ok(())
 }
 
-fn print_step<K: Sink>(step: Pivot, sink: &mut K) -> Result<(), WriteFault>
-    ensures { WritesText (passage K.held K.faults sink.old sink.new) (step_line step) result }
+fn print_pivot<K: Sink>(step: Pivot, sink: &mut K) -> Result<(), WriteFault>
+    ensures { WritesText (passage K.held K.faults sink.old sink.new) (pivot_line step) result }
 {
     let mut leaves = Buffer::new();
     let mut enters = Buffer::new();

@@ -4,6 +4,7 @@ use Rattle.std.specs.Prelude.{◌↔◌, IfSome, IsTrue, None, Some, unwrap_or}
 use Rattle.std.proofs.lemmas.Bool.{false≢true}
 use Rattle.bt_place.specs.PlaceFormula.{HasFormula}
 use Rattle.bt_text.specs.Answers.{HasOneAnswer}
+use Rattle.bt_parts.specs.declared.part.Part.{Part}
 use Rattle.bt_parts.specs.declared.part.Rect.{Rect}
 use Rattle.bt_parts.specs.declared.part.Tier.{Tier}
 use Rattle.std.specs.List.{All as Each}
@@ -15,11 +16,13 @@ use Rattle.bt_words.specs.declared.command.AskedSides.{AskedSides}
 use Rattle.bt_words.specs.declared.command.AskedSides.TheVariants.{Any, Kept}
 use Rattle.bt_designs.specs.Alone.{IsAlone}
 use Rattle.bt_words.specs.Commands.{usual_grid}
-use Rattle.bt_top.specs.Finding.{IsDesignRequest, IsDrawnRequest, greatest_grid}
+use Rattle.bt_print.specs.Replies.{Reply}
+use Rattle.bt_top.specs.Finding.{IsDesignRequest, IsDrawnRequest, IsFound, greatest_grid}
+use Rattle.bt_top.specs.inner.Asking.{IsDrawnAs, IsFoundBeside}
 use Rattle.bt_designs.specs.Kept.{IsKeptRequest}
 use Rattle.bt_designs.proofs.OneRequest.{one_lone_request, one_kept_request, one_sided_request}
 use Rattle.bt_designs.specs.Designs.{IsJsonText}
-use Rattle.bt_designs.specs.Refusals.{net_told, request_told}
+use Rattle.bt_designs.specs.Refusals.{layout_told, net_told, request_told}
 use Rattle.bt_designs.specs.Requested.{PinnedNet, asked_for, pinned_laid, pinned_net, IsPinnedText, IsPinned, IsLoneRequest, IsSidedRequest}
 use Rattle.bt_designs.specs.Steps.{stopped, went_on}
 use Rattle.bt_designs.proofs.InTurns.{same_value, not_both}
@@ -105,18 +108,23 @@ drawn most tier bytes r json (went_on n h (went_on made k e)) =
     subst (IsForAll most) (sym (same_value r made e ∙ k.0)) (for_all most tier n (alone_drawn bytes n json h) (subst IsRequest k.0 k.1))
 
 -- so what a design is found to ask for may be asked of any grid
-kept : (most : Rect) (tier : Option Tier) (bytes : List ℕ) (r : LayoutRequest) → IsJsonText bytes → IsKeptRequest most tier bytes (Ok r) → IsForAll most r
-kept most tier bytes r json (stopped fault h e) = absurd (not_both r fault e)
-kept most tier bytes r json (went_on n h (stays, own, stopped fault k e)) = absurd (not_both r (request_told fault) e)
-kept most tier bytes r json (went_on n h (stays, own, went_on made k e)) =
-    let is = alone_drawn bytes n json h in
-    subst (IsForAll most) (sym (same_value r made e ∙ k.0))
-    (for_all most tier (record n { demands = stays }) (record { cells = own_sides_name_no_cells bytes stays own; blocks = is.blocks }) (subst IsRequest k.0 k.1))
+kept : (most : Rect) (tier : Option Tier) (bytes : List ℕ) (r : LayoutRequest) → IsKeptRequest most tier bytes (Ok r) → IsForAll most r
+kept most tier bytes r (stopped fault h e) = absurd (not_both r fault e)
+kept most tier bytes r (went_on laid h (parts, drawn, stopped fault k e)) = absurd (not_both r (layout_told fault) e)
+kept most tier bytes r (went_on laid h (parts, drawn, went_on stays k (stopped fault m e))) = absurd (not_both r (request_told fault) e)
+kept most tier bytes r (went_on laid h (parts, drawn, went_on stays k (went_on made m e))) =
+    subst (IsForAll most) (sym (same_value r made e ∙ m.0))
+    (for_all most tier (record (pinned_laid laid) { demands = stays }) (record { cells = own_sides_name_no_cells parts stays k; blocks = refl }) (subst IsRequest m.0 m.1))
 
 of_own : (most : Rect) (r : LayoutRequest) → IsForAll most r → IsForAll r.rect r
 of_own most r is = record { request = is.request; rect = refl; cells = is.cells }
 
 pub design_request : (sides : AskedSides) (most : Option Rect) (tier : Option Tier) (bytes : List ℕ) (r : LayoutRequest) → IsDesignRequest sides most tier bytes (Ok r) → IsForAll r.rect r
 design_request Any most tier bytes r (inl h) = of_own (unwrap_or most greatest_grid) r (drawn (unwrap_or most greatest_grid) tier bytes r h.0 h.1)
-design_request Kept most tier bytes r (inl h) = of_own (unwrap_or most greatest_grid) r (kept (unwrap_or most greatest_grid) tier bytes r h.0 h.1)
+design_request Kept most tier bytes r (inl h) = of_own (unwrap_or most greatest_grid) r (kept (unwrap_or most greatest_grid) tier bytes r h.1)
 design_request sides most tier bytes r (inr h) = of_own (unwrap_or most usual_grid) r (sided_request (unwrap_or most usual_grid) tier bytes r h.1)
+
+-- what is answered beside the parts of a design is what is answered to the bytes of the design
+pub found_beside : (bytes : List ℕ) (own : Option (List Part)) (learnt : ℕ) (r : LayoutRequest) → IsDrawnAs bytes own → (reply : Reply) → IsFoundBeside own learnt r reply → IsFound bytes learnt r reply
+found_beside bytes None learnt r drawn reply h = (None, drawn, h)
+found_beside bytes (Some parts) learnt r drawn reply (cells, spanned, h) = (Some cells, (parts, drawn, spanned), h)

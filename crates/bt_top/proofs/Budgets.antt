@@ -45,15 +45,15 @@ use Rattle.bt_words.specs.Commands.{IsCommand}
 use Rattle.bt_words.specs.declared.command.Command.TheVariants.{FlowCheck, Recover, Check, Decide, Make, Layout, CheckLayout, Smallest, FindSmall, FlowFormula, PlaceFormula, Same, CheckSame, Build}
 use Rattle.bt_words.specs.declared.command.NetworkFamily.{NetworkFamily}
 use Rattle.bt_words.specs.declared.command.NetworkFamily.TheVariants.{Butterfly, Chain}
-use Rattle.bt_top.specs.declared.answer.Answer.{Answer}
-use Rattle.bt_top.specs.declared.answer.Answer.TheVariants as answer
-use Rattle.bt_top.specs.declared.answer.Brief.TheVariants as brief
+use Rattle.bt_print.specs.declared.answer.Answer.{Answer}
+use Rattle.bt_print.specs.declared.answer.Answer.TheVariants as answer
+use Rattle.bt_print.specs.declared.answer.Brief.TheVariants as brief
 use Rattle.bt_designs.specs.declared.fault.DesignFault.{DesignFault}
 use Rattle.bt_designs.specs.declared.fault.DesignFault.TheVariants as design
 use Rattle.bt_designs.specs.declared.refusal.Refusal.TheVariants as refusal
 use Rattle.bt_top.specs.declared.program.TheConstants.{READ_FAULT, NO_MEMORY}
 use Rattle.bt_top.specs.Answering.{IsRightTo}
-use Rattle.bt_top.specs.Answers.{status_of, gave_up_status}
+use Rattle.bt_print.specs.Answers.{status_of, gave_up_status}
 use Rattle.bt_top.specs.Budgets.{IsAmple, IsAmpleFor, HasAmple, AmpleIsNeverSpent, AmpleNeverEndsSpent, IsAmpleOfPivots, AmplePivotsAreNeverMade, AmplePivotsNeverEndMade}
 use Rattle.bt_top.specs.Comparing.{same_told}
 use Rattle.bt_top.specs.Deciding.{verdict_told}
@@ -61,8 +61,8 @@ use Rattle.bt_designs.specs.Alone.{IsLoneNet}
 use Rattle.bt_top.specs.Endings.{IsTold, status_after, Ends}
 use Rattle.bt_top.specs.Inputs.{IsInput}
 use Rattle.bt_top.specs.LayingOut.{IsLayoutTold}
-use Rattle.bt_top.specs.Making.{made_of, gen_told, balance_told}
-use Rattle.bt_top.specs.Replies.{Reply, design_told}
+use Rattle.bt_top.specs.Making.{made_of, balance_told}
+use Rattle.bt_print.specs.Replies.{Reply, design_told, gen_told}
 use Rattle.bt_designs.specs.Steps.{stopped, went_on}
 use Rattle.bt_designs.specs.TwoDesigns.{IsTwoNets}
 use Rattle.bt_designs.proofs.InTurns.{same_value, not_both}

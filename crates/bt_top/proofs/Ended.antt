@@ -6,13 +6,13 @@ use Rattle.bt_io.specs.declared.fault.ReadAll.TheVariants.{ReadFault, TooLong, M
 use Rattle.bt_words.specs.declared.command.Command.{Command}
 use Rattle.bt_words.specs.Commands.{IsCommand}
 use Rattle.bt_words.proofs.OneCommand.{same_command}
-use Rattle.bt_top.specs.declared.answer.Answer.{Answer}
-use Rattle.bt_top.specs.declared.answer.Answer.TheVariants as answer
+use Rattle.bt_print.specs.declared.answer.Answer.{Answer}
+use Rattle.bt_print.specs.declared.answer.Answer.TheVariants as answer
 use Rattle.bt_top.specs.declared.program.TheConstants.{READ_FAULT, NO_MEMORY}
 use Rattle.bt_top.specs.Answering.{IsRightTo, IsOnly}
 use Rattle.bt_top.specs.Inputs.{IsUntouched, IsInput, ReadsInput}
 use Rattle.bt_top.specs.Endings.{IsRight, no_command, too_long, to_bytes, IsTold, IsEnding, told, read_fault, no_memory, Ends}
-use Rattle.bt_top.specs.inner.Lines.{NeedsMemory}
+use Rattle.bt_print.specs.Lines.{NeedsMemory}
 use Rattle.bt_top.specs.inner.Telling.{IsAnswered, IsAnsweredTo, IsToldUnlessMemory}
 use Rattle.bt_top.proofs.InputsTold.{read_before, input_told, not_too_long}
 use Rattle.bt_top.proofs.OneAnswer.{only_right}

@@ -10,13 +10,13 @@ use Rattle.bt_flow.proofs.WrongLines.{stop_first}
 use Rattle.bt_fenc.specs.FlowFormula.{flow_formula}
 use Rattle.bt_cert.specs.Certificates.{IsCertRead}
 use Rattle.bt_cert.specs.declared.fault.CertFault.{CertFault}
-use Rattle.bt_top.specs.declared.answer.Brief.TheVariants as brief
+use Rattle.bt_print.specs.declared.answer.Brief.TheVariants as brief
 use Rattle.bt_flow.specs.declared.fault.StateFault.TheVariants as state
 use Rattle.bt_top.specs.declared.front.Front.TheVariants as front
-use Rattle.bt_top.specs.declared.front.Steps.{Steps}
+use Rattle.bt_top.specs.declared.front.WrittenSteps.{WrittenSteps}
 use Rattle.bt_top.specs.declared.front.WrittenState.{WrittenState}
 use Rattle.bt_top.specs.Certificates.{IsTextChecked, IsYesChecked, SaysYes}
-use Rattle.bt_top.specs.Replies.{Reply}
+use Rattle.bt_print.specs.Replies.{Reply}
 use Rattle.bt_top.specs.States.{IsStateJudged}
 use Rattle.bt_designs.specs.Steps.{stopped}
 use Rattle.bt_designs.specs.Told.{MayFollow, TellsLine}
@@ -33,7 +33,7 @@ module _ (n : Network) (p : Property) (ended : Bool) (text title lines : List �
   steps_reply net all (Ok done) h = yes_told n p all net h
   steps_reply net all (Err fault) h = stopped fault h refl
 
-  pub yes_is_front : IsNetwork n → title ≡ codes "yes " ++ property_name p → (steps : Steps) → steps.formula ≡ flow_formula n p → steps.lines.now ≡ lines → steps.accepted ≡ brief.Yes p
+  pub yes_is_front : IsNetwork n → title ≡ codes "yes " ++ property_name p → (steps : WrittenSteps) → steps.formula ≡ flow_formula n p → steps.lines.now ≡ lines → steps.accepted ≡ brief.Yes p
       → IsFrontOf (IsTextChecked n p) ended text (front.Steps steps)
   yes_is_front net says_so steps formula same accepted = (tt, λ more reply may h. by more reply may h.0 h.1 h.2)
     where

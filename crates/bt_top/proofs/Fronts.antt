@@ -29,21 +29,21 @@ use Rattle.bt_words.specs.declared.command.Command.TheVariants.{Check, CheckLayo
 use Rattle.bt_parts.specs.declared.part.Rect.{Rect}
 use Rattle.bt_parts.specs.declared.part.Tier.{Tier}
 use Rattle.bt_flow.specs.declared.property.Property.{Property}
-use Rattle.bt_top.specs.declared.answer.Answer.{Answer}
-use Rattle.bt_top.specs.declared.answer.Answer.TheVariants as answer
-use Rattle.bt_top.specs.declared.answer.Brief.{Brief}
-use Rattle.bt_top.specs.declared.answer.Brief.TheVariants as brief
+use Rattle.bt_print.specs.declared.answer.Answer.{Answer}
+use Rattle.bt_print.specs.declared.answer.Answer.TheVariants as answer
+use Rattle.bt_print.specs.declared.answer.Brief.{Brief}
+use Rattle.bt_print.specs.declared.answer.Brief.TheVariants as brief
 use Rattle.bt_top.specs.declared.claim.CertificateClaim.TheVariants as claim
 use Rattle.bt_designs.specs.declared.fault.DesignFault.{DesignFault}
 use Rattle.bt_designs.specs.declared.fault.DesignFault.TheVariants as design
 use Rattle.bt_designs.specs.declared.refusal.Refusal.{Refusal}
 use Rattle.bt_top.specs.declared.front.Front.{Front}
 use Rattle.bt_top.specs.declared.front.Front.TheVariants as front
-use Rattle.bt_top.specs.declared.front.Steps.{Steps}
+use Rattle.bt_top.specs.declared.front.WrittenSteps.{WrittenSteps}
 use Rattle.bt_designs.specs.declared.held.Held.{Held}
 use Rattle.bt_designs.specs.declared.held.TheConstants.{MOST_CHECKED}
 use Rattle.bt_top.specs.Certificates.{cert_told}
-use Rattle.bt_top.specs.Replies.{Reply}
+use Rattle.bt_print.specs.Replies.{Reply}
 use Rattle.bt_top.specs.inner.Claims.{IsClaimed}
 use Rattle.bt_designs.specs.Told.{MayFollow, LastsBehind, IsAtHand, TellsFront, TellsLine}
 use Rattle.bt_top.specs.inner.Fronts.{TellsRefusal, IsFrontOf, GivesFront, GivesHeldFront, IsStepsReply, AnswersLeft, AnswersRest, ReadsRest, DrainsRest, judged_answer}
@@ -210,7 +210,7 @@ rest_left ended Right limit source more a h right = (more, h.1, (h.0, right))
 
 -- ---- steps
 
-module _ (steps : Steps) where
+module _ (steps : WrittenSteps) where
   not_memory : (fault : CertFault) (lines : List ℕ) → (fault ≡ cert.Memory → ⊥) → UnlessMemory cert.Memory (IsCertRead steps.formula lines) (Err fault) → IsCertRead steps.formula lines (Err fault)
   not_memory fault lines other (inl h) = h
   not_memory fault lines other (inr e) = absurd (other e)

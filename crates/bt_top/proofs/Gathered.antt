@@ -10,12 +10,12 @@ use Rattle.bt_io.specs.Passages.{Passage, passage}
 use Rattle.bt_io.specs.declared.fault.ReadAll.{ReadAll}
 use Rattle.bt_io.specs.declared.fault.ReadAll.TheVariants.{ReadFault, TooLong, Memory}
 use Rattle.bt_io.proofs.Behind.{fault_behind, memory_behind, long_behind}
-use Rattle.bt_top.specs.declared.answer.Answer.{Answer}
+use Rattle.bt_print.specs.declared.answer.Answer.{Answer}
 use Rattle.bt_top.specs.declared.front.Front.{Front}
 use Rattle.bt_designs.specs.declared.held.Gathered.{Gathered}
 use Rattle.bt_designs.specs.declared.held.Held.{Held}
 use Rattle.bt_designs.specs.declared.held.TheConstants.{MOST_CHECKED}
-use Rattle.bt_top.specs.Replies.{Reply}
+use Rattle.bt_print.specs.Replies.{Reply}
 use Rattle.bt_designs.specs.Told.{MayFollow}
 use Rattle.bt_top.specs.inner.Fronts.{AnswersLeft, AnswersRest, GivesHeldFront, IsFrontOf, IsReply}
 use Rattle.bt_designs.specs.Gathering.{IsGathered}

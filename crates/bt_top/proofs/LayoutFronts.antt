@@ -8,15 +8,15 @@ use Rattle.bt_model.specs.Requests.{LayoutRequest, IsRequest}
 use Rattle.bt_place.specs.PlaceFormula.{place_formula}
 use Rattle.bt_cert.specs.Certificates.{IsCertRead}
 use Rattle.bt_cert.specs.declared.fault.CertFault.{CertFault}
-use Rattle.bt_top.specs.declared.answer.Answer.TheVariants as answer
-use Rattle.bt_top.specs.declared.answer.Brief.TheVariants as brief
+use Rattle.bt_print.specs.declared.answer.Answer.TheVariants as answer
+use Rattle.bt_print.specs.declared.answer.Brief.TheVariants as brief
 use Rattle.bt_designs.specs.declared.fault.DesignFault.TheVariants.{Refused}
 use Rattle.bt_top.specs.declared.front.Front.TheVariants as front
-use Rattle.bt_top.specs.declared.front.Steps.{Steps}
+use Rattle.bt_top.specs.declared.front.WrittenSteps.{WrittenSteps}
 use Rattle.bt_designs.specs.declared.refusal.Refusal.{Refusal}
-use Rattle.bt_top.specs.Answers.{none_word}
+use Rattle.bt_print.specs.Answers.{none_word}
 use Rattle.bt_top.specs.NoneCertificates.{IsLayoutChecked, IsNoneTextChecked, IsNoneChecked, SaysNone}
-use Rattle.bt_top.specs.Replies.{Reply}
+use Rattle.bt_print.specs.Replies.{Reply}
 use Rattle.bt_designs.specs.Requested.{PinnedNet, IsPinned}
 use Rattle.bt_designs.specs.Steps.{stopped, went_on}
 use Rattle.bt_designs.specs.Told.{MayFollow, TellsLine}
@@ -44,7 +44,7 @@ module _ (r : LayoutRequest) (ended : Bool) (text title lines : List ℕ) (told 
   steps_reply is all (Ok done) h = none_told r all is h
   steps_reply is all (Err fault) h = stopped fault h refl
 
-  pub none_is_front : IsRequest r → title ≡ none_word → (steps : Steps) → steps.formula ≡ place_formula r → steps.lines.now ≡ lines → steps.accepted ≡ brief.NoLayout
+  pub none_is_front : IsRequest r → title ≡ none_word → (steps : WrittenSteps) → steps.formula ≡ place_formula r → steps.lines.now ≡ lines → steps.accepted ≡ brief.NoLayout
       → IsFrontOf (IsNoneTextChecked r) ended text (front.Steps steps)
   none_is_front is none steps formula same accepted = (tt, λ more reply may h. by more reply may h.0 h.1 h.2)
     where

@@ -17,7 +17,6 @@ pub mod Grids
 pub mod LeastFound
 pub mod LesserGrids
 pub mod SmallFound
-pub mod Formed
 pub mod Gathered
 pub mod Fronts
 pub mod FlowFronts

@@ -13,10 +13,10 @@ use Rattle.bt_place.specs.PlaceFormula.{place_formula}
 use Rattle.bt_layout.proofs.Certified.{nowhere_is_certificate}
 use Rattle.bt_layout.proofs.Formulas.{place_is_formula}
 use Rattle.bt_layout.proofs.Refuted.{unmet_has_no_layout}
-use Rattle.bt_top.specs.declared.answer.Answer.TheVariants as answer
-use Rattle.bt_top.specs.declared.answer.Brief.TheVariants as brief
+use Rattle.bt_print.specs.declared.answer.Answer.TheVariants as answer
+use Rattle.bt_print.specs.declared.answer.Brief.TheVariants as brief
 use Rattle.bt_top.specs.NoneCertificates.{IsNoneChecked, SaysNone, NoneIsAccepted}
-use Rattle.bt_top.specs.Answers.{none_word, nowhere_text}
+use Rattle.bt_print.specs.Answers.{none_word, nowhere_text}
 use Rattle.bt_designs.specs.Steps.{went_on}
 
 -- a certificate that is one shows that no parts lay the request

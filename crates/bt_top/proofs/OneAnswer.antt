@@ -19,10 +19,10 @@ use Rattle.bt_flow.specs.States.{Fractions}
 use Rattle.bt_flow.specs.StateReading.{IsStateRead}
 use Rattle.bt_flow.proofs.OneAnswer.{one_breaking_answer}
 use Rattle.bt_flow.proofs.StateTexts.{one_state_read}
-use Rattle.bt_top.specs.declared.answer.Answer.{Answer}
-use Rattle.bt_top.specs.declared.answer.Answer.TheVariants as answer
-use Rattle.bt_top.specs.declared.answer.Brief.{Brief}
-use Rattle.bt_top.specs.declared.answer.Brief.TheVariants as brief
+use Rattle.bt_print.specs.declared.answer.Answer.{Answer}
+use Rattle.bt_print.specs.declared.answer.Answer.TheVariants as answer
+use Rattle.bt_print.specs.declared.answer.Brief.{Brief}
+use Rattle.bt_print.specs.declared.answer.Brief.TheVariants as brief
 use Rattle.bt_words.specs.declared.command.Command.TheVariants.{FlowCheck, Recover, Check, Decide, Make, Layout, CheckLayout, Smallest, FindSmall, FlowFormula, PlaceFormula, Same, CheckSame, Build}
 use Rattle.bt_words.specs.declared.command.NetworkFamily.TheVariants.{Butterfly, Chain}
 use Rattle.bt_theory.specs.declared.outcome.GaveUp.{GaveUp}
@@ -47,20 +47,20 @@ use Rattle.bt_designs.specs.Designs.{IsDesign}
 use Rattle.bt_top.specs.Certificates.{cert_told, IsYesChecked, IsTextChecked, IsCertificateChecked, IsChecked}
 use Rattle.bt_designs.specs.Alone.{IsLoneNet}
 use Rattle.bt_top.specs.Answering.{OneRightAnswer}
-use Rattle.bt_top.specs.Answers.{status_of}
+use Rattle.bt_print.specs.Answers.{status_of}
 use Rattle.bt_top.specs.Comparing.{IsCompared, same_told}
 use Rattle.bt_top.specs.Deciding.{IsDecided, verdict_told}
 use Rattle.bt_top.specs.Finding.{IsDesignRequest, IsFound}
 use Rattle.bt_top.specs.Formulas.{IsFlowFormulaFrom, IsPlaceFormulaFrom, place_formula_told}
 use Rattle.bt_top.specs.LayingOut.{IsLaidOut, IsLayoutTold}
-use Rattle.bt_top.specs.Making.{IsSaidBalanced, IsBalanceDecided, balance_told, gen_told}
+use Rattle.bt_top.specs.Making.{IsSaidBalanced, IsBalanceDecided, balance_told}
 use Rattle.bt_top.specs.NoneCertificates.{IsNoneChecked, IsNoneTextChecked, IsNoneCertificateChecked, IsLayoutChecked}
 use Rattle.bt_top.specs.Recovering.{IsRecoveredFrom}
 use Rattle.bt_designs.specs.Requested.{IsSidedRequest}
 use Rattle.bt_top.specs.Searching.{IsLeastTold, IsSearched}
 use Rattle.bt_designs.specs.Requested.{IsFrontRequest, IsLoneRequest}
-use Rattle.bt_top.specs.Replies.{Reply, UnlessLarge, design_told}
-use Rattle.bt_top.specs.States.{verdict, state_told, IsJudged, IsStateJudged, IsStateChecked, IsFlowChecked}
+use Rattle.bt_print.specs.Replies.{Reply, UnlessLarge, design_told, state_told, gen_told}
+use Rattle.bt_top.specs.States.{verdict, IsJudged, IsStateJudged, IsStateChecked, IsFlowChecked}
 use Rattle.bt_designs.specs.Steps.{InTurn, stopped, went_on}
 use Rattle.bt_designs.specs.TwoDesigns.{IsTwoNets}
 use Rattle.bt_designs.proofs.Blanks.{one_rest}

@@ -5,14 +5,14 @@ use Rattle.std.specs.List.{flat_map}
 use Rattle.bt_text.specs.Lines.{line}
 use Rattle.bt_log.specs.Logs.{Step}
 use Rattle.bt_log.specs.LogText.{step_line, step_text, log_text}
-use Rattle.bt_top.specs.declared.answer.Answer.{Answer}
-use Rattle.bt_top.specs.declared.answer.Answer.TheVariants as answer
-use Rattle.bt_top.specs.declared.answer.Brief.TheVariants as brief
+use Rattle.bt_print.specs.declared.answer.Answer.{Answer}
+use Rattle.bt_print.specs.declared.answer.Answer.TheVariants as answer
+use Rattle.bt_print.specs.declared.answer.Brief.TheVariants as brief
 use Rattle.bt_designs.specs.declared.fault.DesignFault.{DesignFault}
 use Rattle.bt_designs.specs.declared.fault.DesignFault.TheVariants as design
 use Rattle.bt_designs.specs.declared.held.TheConstants.{MOST_CHECKED}
 use Rattle.bt_designs.specs.declared.refusal.Refusal.{Refusal}
-use Rattle.bt_top.specs.Replies.{design_told}
+use Rattle.bt_print.specs.Replies.{design_told}
 use Rattle.bt_designs.proofs.InTurns.{same_value, not_both}
 
 -- an answer that is no refusal isn't that of a design's fault

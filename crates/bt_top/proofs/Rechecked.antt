@@ -31,15 +31,15 @@ use Rattle.bt_decide.specs.declared.verdict.Verdict.{Verdict}
 use Rattle.bt_decide.specs.declared.verdict.Verdict.TheVariants as verdict
 use Rattle.bt_decide.specs.Verdicts.{IsVerdict}
 use Rattle.bt_decide.proofs.Certified.{yes_is_certificate}
-use Rattle.bt_top.specs.declared.answer.Answer.TheVariants as answer
-use Rattle.bt_top.specs.declared.answer.Brief.TheVariants as brief
+use Rattle.bt_print.specs.declared.answer.Answer.TheVariants as answer
+use Rattle.bt_print.specs.declared.answer.Brief.TheVariants as brief
 use Rattle.bt_designs.specs.Alone.{IsLoneNet}
-use Rattle.bt_top.specs.Answers.{proved_text, steps_text}
+use Rattle.bt_print.specs.Answers.{proved_text, extended_log_text}
 use Rattle.bt_top.specs.Certificates.{SaysYes, IsTextChecked, IsCertificateChecked, IsChecked}
 use Rattle.bt_top.specs.Deciding.{verdict_told}
 use Rattle.bt_designs.specs.Designs.{IsDesign}
 use Rattle.bt_top.specs.Rechecking.{ProofIsChecked, StateIsChecked}
-use Rattle.bt_top.specs.Replies.{Reply}
+use Rattle.bt_print.specs.Replies.{Reply}
 use Rattle.bt_top.specs.States.{verdict as state_verdict, IsStateJudged}
 use Rattle.bt_designs.specs.Steps.{stopped, went_on}
 use Rattle.bt_designs.proofs.Blanks.{one_rest}
@@ -77,9 +77,9 @@ yes_lacks Full = lacks 10 (codes "yes full") refl
 yes_lacks Fair = lacks 10 (codes "yes fair") refl
 yes_lacks DrawnFairly = lacks 10 (codes "yes drawn-fairly") refl
 
-says_yes : (p : Property) (definitions : List Definition) (steps : List Step) → SaysYes p (proved_text p definitions steps) (steps_text definitions steps)
+says_yes : (p : Property) (definitions : List Definition) (steps : List Step) → SaysYes p (proved_text p definitions steps) (extended_log_text definitions steps)
 says_yes p definitions steps =
-    inl (record { first = yes_lacks p; text_is = append_assoc (codes "yes " ++ property_name p) (10 ∷ []) (steps_text definitions steps) })
+    inl (record { first = yes_lacks p; text_is = append_assoc (codes "yes " ++ property_name p) (10 ∷ []) (extended_log_text definitions steps) })
 
 -- a design and the proof that is written of it
 pub proof_is_checked : ProofIsChecked
@@ -93,7 +93,7 @@ proof_is_checked p limits bytes definitions log (went_on n lone (v, is, e)) shor
     let net = design_network (bytes ++ 10 ∷ text) (n, on.used) on.front in
     let few = few_printed bytes (codes "yes " ++ property_name p) (definitions_text ds) log.steps short in
     let certificate = yes_is_certificate n p ds log.steps net right.1.0 right.1.1 few in
-    went_on (n, on.used) on.front (text, on.rest, inl (steps_text ds log.steps, says_yes p ds log.steps, yes_told n p (steps_text ds log.steps) net certificate))
+    went_on (n, on.used) on.front (text, on.rest, inl (extended_log_text ds log.steps, says_yes p ds log.steps, yes_told n p (extended_log_text ds log.steps) net certificate))
 
 -- ---- a state
 

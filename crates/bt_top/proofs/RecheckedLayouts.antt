@@ -10,10 +10,10 @@ use Rattle.bt_grids.specs.declared.outcome.Layout.{Layout}
 use Rattle.bt_grids.specs.declared.outcome.Layout.TheVariants as layout
 use Rattle.bt_layout.specs.Layouts.{IsLayout}
 use Rattle.bt_layout.proofs.Certified.{nowhere_is_certificate}
-use Rattle.bt_top.specs.declared.answer.Answer.TheVariants as answer
-use Rattle.bt_top.specs.declared.answer.Brief.TheVariants as brief
+use Rattle.bt_print.specs.declared.answer.Answer.TheVariants as answer
+use Rattle.bt_print.specs.declared.answer.Brief.TheVariants as brief
 use Rattle.bt_designs.specs.declared.held.TheConstants.{MOST_CHECKED}
-use Rattle.bt_top.specs.Answers.{none_word, nowhere_text}
+use Rattle.bt_print.specs.Answers.{none_word, nowhere_text}
 use Rattle.bt_top.specs.LayingOut.{IsLaidOut, IsLayoutTold}
 use Rattle.bt_top.specs.NoneCertificates.{IsLayoutChecked}
 use Rattle.bt_top.specs.RecheckingLayouts.{NoneIsChecked}

@@ -21,9 +21,9 @@ use Rattle.bt_layout.specs.Smallest.{IsRuledOut, IsSmallest, grids_of}
 use Rattle.bt_grids.specs.SmallestText.{nowhere_text, earlier_text, from_line, grid_line, spent_on_text}
 use Rattle.bt_layout.proofs.Passing.{asked_on}
 use Rattle.bt_entities.specs.Written.{blueprint_text}
-use Rattle.bt_top.specs.declared.answer.Answer.TheVariants as answer
+use Rattle.bt_print.specs.declared.answer.Answer.TheVariants as answer
 use Rattle.bt_designs.specs.Alone.{IsAlone}
-use Rattle.bt_top.specs.Answers.{text_of}
+use Rattle.bt_print.specs.Answers.{text_of}
 use Rattle.bt_designs.specs.Designs.{IsJsonText}
 use Rattle.bt_top.specs.RecheckingLeast.{certified_in, IsAccepted, BeginsWithGrids, LeastIsChecked}
 use Rattle.bt_designs.specs.Refusals.{net_told, request_told}

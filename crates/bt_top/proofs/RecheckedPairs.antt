@@ -27,12 +27,12 @@ use Rattle.bt_decide.specs.declared.verdict.SameVerdict.{SameVerdict}
 use Rattle.bt_decide.specs.declared.verdict.SameVerdict.TheVariants as of_same
 use Rattle.bt_decide.specs.Verdicts.{IsSameVerdict}
 use Rattle.bt_decide.proofs.Certified.{same_is_certificate}
-use Rattle.bt_top.specs.declared.answer.Answer.TheVariants as answer
-use Rattle.bt_top.specs.declared.answer.Brief.TheVariants as brief
-use Rattle.bt_top.specs.Answers.{same_text, steps_text}
+use Rattle.bt_print.specs.declared.answer.Answer.TheVariants as answer
+use Rattle.bt_print.specs.declared.answer.Brief.TheVariants as brief
+use Rattle.bt_print.specs.Answers.{same_text, extended_log_text}
 use Rattle.bt_top.specs.Comparing.{same_told}
 use Rattle.bt_top.specs.RecheckingPairs.{SameIsChecked, DifferenceIsChecked}
-use Rattle.bt_top.specs.Replies.{Reply}
+use Rattle.bt_print.specs.Replies.{Reply}
 use Rattle.bt_top.specs.SameCertificates.{SaysSame, pair_verdict, IsPairTextJudged, IsSameTextChecked, IsSameCertificateChecked, IsSameCertified}
 use Rattle.bt_designs.specs.Steps.{stopped, went_on}
 use Rattle.bt_designs.proofs.Blanks.{one_rest}
@@ -53,8 +53,8 @@ told_differ (of_same.Yes made log) pair e = cc
 told_differ (of_same.No found) pair e = cc
 told_differ (of_same.GaveUp made cause) pair e = cc
 
-says_same : (definitions : List Definition) (steps : List Step) → SaysSame (same_text definitions steps) (steps_text definitions steps)
-says_same definitions steps = inl (record { first = lacks 10 (codes "same") refl; text_is = append_assoc (codes "same") (10 ∷ []) (steps_text definitions steps) })
+says_same : (definitions : List Definition) (steps : List Step) → SaysSame (same_text definitions steps) (extended_log_text definitions steps)
+says_same definitions steps = inl (record { first = lacks 10 (codes "same") refl; text_is = append_assoc (codes "same") (10 ∷ []) (extended_log_text definitions steps) })
 
 -- two designs and the proof that is written of them
 pub same_is_checked : SameIsChecked
@@ -68,7 +68,7 @@ same_is_checked limits bytes definitions log (went_on nets two (v, is, e)) short
     let few = few_printed bytes (codes "same") (definitions_text ds) log.steps short in
     let certificate = same_is_certificate nets.0 nets.1 ds log.steps all.1 all.2 right.1.0 right.1.1 few in
     went_on (nets, all.0.used) all.0.front
-    (text, all.0.rest, inl (steps_text ds log.steps, says_same ds log.steps, same_shown nets.0 nets.1 (steps_text ds log.steps) all.1 all.2 all.3 certificate))
+    (text, all.0.rest, inl (extended_log_text ds log.steps, says_same ds log.steps, same_shown nets.0 nets.1 (extended_log_text ds log.steps) all.1 all.2 all.3 certificate))
 
 -- ---- a pair
 

@@ -13,12 +13,11 @@ use Rattle.bt_same.proofs.Formed.{formed}
 use Rattle.bt_same.proofs.Judged.{one_pair_answer}
 use Rattle.bt_same.proofs.PairTexts.{one_pair_read}
 use Rattle.bt_same.proofs.Refuted.{unmet_are_same}
-use Rattle.bt_top.specs.declared.answer.Answer.TheVariants as answer
-use Rattle.bt_top.specs.declared.answer.Brief.TheVariants as brief
+use Rattle.bt_print.specs.declared.answer.Answer.TheVariants as answer
+use Rattle.bt_print.specs.declared.answer.Brief.TheVariants as brief
 use Rattle.bt_top.specs.Certificates.{cert_told}
-use Rattle.bt_top.specs.Replies.{design_told}
+use Rattle.bt_print.specs.Replies.{design_told, state_told}
 use Rattle.bt_top.specs.SameCertificates.{IsSameChecked, pair_verdict, IsPairJudged, IsPairTextJudged, IsSameTextChecked, IsSameCertificateChecked, IsSameCertified}
-use Rattle.bt_top.specs.States.{state_told}
 use Rattle.bt_designs.specs.Steps.{went_on}
 use Rattle.bt_designs.specs.TwoDesigns.{IsFrontNets}
 use Rattle.bt_designs.proofs.BareNets.{front_networks}

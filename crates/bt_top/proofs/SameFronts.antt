@@ -13,15 +13,15 @@ use Rattle.bt_cert.specs.declared.fault.CertFault.{CertFault}
 use Rattle.bt_same.specs.PairReading.{pair_forms}
 use Rattle.bt_same.specs.SameFormula.{same_formula}
 use Rattle.bt_same.specs.Sameness.{HaveEqualEnds}
-use Rattle.bt_top.specs.declared.answer.Answer.TheVariants as answer
-use Rattle.bt_top.specs.declared.answer.Brief.TheVariants as brief
+use Rattle.bt_print.specs.declared.answer.Answer.TheVariants as answer
+use Rattle.bt_print.specs.declared.answer.Brief.TheVariants as brief
 use Rattle.bt_designs.specs.declared.fault.DesignFault.TheVariants.{Refused}
 use Rattle.bt_top.specs.declared.front.Front.TheVariants as front
-use Rattle.bt_top.specs.declared.front.Steps.{Steps}
+use Rattle.bt_top.specs.declared.front.WrittenSteps.{WrittenSteps}
 use Rattle.bt_top.specs.declared.front.WrittenPair.{WrittenPair}
 use Rattle.bt_designs.specs.declared.refusal.Refusal.{Refusal}
 use Rattle.bt_designs.specs.Designs.{IsBareDesign}
-use Rattle.bt_top.specs.Replies.{Reply}
+use Rattle.bt_print.specs.Replies.{Reply}
 use Rattle.bt_top.specs.SameCertificates.{IsSameCertified, IsSameCertificateChecked, IsSameTextChecked, IsSameChecked, IsPairTextJudged, SaysSame}
 use Rattle.bt_designs.specs.Steps.{stopped, went_on}
 use Rattle.bt_designs.specs.Told.{MayFollow, TellsLine}
@@ -82,7 +82,7 @@ module _ (a b : Network) (ended : Bool) (text title lines : List ℕ) (told : Te
   steps_reply left right ends all (Ok done) h = same_shown a b all left right ends h
   steps_reply left right ends all (Err fault) h = stopped fault h refl
 
-  pub same_is_front : IsNetwork a × IsNetwork b → HaveEqualEnds a b → title ≡ codes "same" → (steps : Steps) → steps.formula ≡ same_formula a b → steps.lines.now ≡ lines → steps.accepted ≡ brief.ShownSame
+  pub same_is_front : IsNetwork a × IsNetwork b → HaveEqualEnds a b → title ≡ codes "same" → (steps : WrittenSteps) → steps.formula ≡ same_formula a b → steps.lines.now ≡ lines → steps.accepted ≡ brief.ShownSame
       → IsFrontOf (IsSameTextChecked nets) ended text (front.Steps steps)
   same_is_front are ends says_so steps formula same accepted = (tt, λ more reply may h. by more reply may h.0 h.1 h.2)
     where

@@ -3,8 +3,8 @@ use Rattle.std.specs.Prelude.{◌≡◌, ℕ, List, Ok}
 use Rattle.bt_words.specs.declared.command.Command.{Command}
 use Rattle.bt_words.specs.declared.command.Command.TheVariants.{FlowCheck, Recover, Check, Decide, Make, Layout, CheckLayout, Smallest, FindSmall, FlowFormula, PlaceFormula, Same, CheckSame, Build}
 use Rattle.bt_words.specs.declared.command.NetworkFamily.TheVariants.{Butterfly, Chain}
-use Rattle.bt_top.specs.declared.answer.Answer.{Answer}
-use Rattle.bt_top.specs.Answers.{status_of}
+use Rattle.bt_print.specs.declared.answer.Answer.{Answer}
+use Rattle.bt_print.specs.Answers.{status_of}
 use Rattle.bt_top.specs.Building.{IsBuiltFor}
 use Rattle.bt_top.specs.Certificates.{IsChecked}
 use Rattle.bt_top.specs.Comparing.{IsComparedFrom}
@@ -15,7 +15,7 @@ use Rattle.bt_top.specs.LayingOut.{IsLaidOutFrom}
 use Rattle.bt_top.specs.Making.{IsMade}
 use Rattle.bt_top.specs.NoneCertificates.{IsLayoutChecked}
 use Rattle.bt_top.specs.Recovering.{IsRecoveredFrom}
-use Rattle.bt_top.specs.Replies.{Reply}
+use Rattle.bt_print.specs.Replies.{Reply}
 use Rattle.bt_top.specs.SameCertificates.{IsSameCertified}
 use Rattle.bt_top.specs.Searching.{IsSearchedFrom}
 use Rattle.bt_top.specs.States.{IsFlowChecked}

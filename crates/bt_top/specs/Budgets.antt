@@ -21,10 +21,10 @@ use Rattle.bt_words.specs.declared.command.Command.{Command}
 use Rattle.bt_words.specs.declared.command.Command.TheVariants.{Decide, Make, Layout, Smallest, Same}
 use Rattle.bt_words.specs.declared.command.NetworkFamily.TheVariants.{Butterfly, Chain}
 use Rattle.bt_words.specs.Commands.{IsCommand}
-use Rattle.bt_top.specs.declared.answer.Answer.{Answer}
+use Rattle.bt_print.specs.declared.answer.Answer.{Answer}
 use Rattle.bt_designs.specs.Alone.{IsLoneNet}
 use Rattle.bt_top.specs.Answering.{IsRightTo}
-use Rattle.bt_top.specs.Answers.{status_of}
+use Rattle.bt_print.specs.Answers.{status_of}
 use Rattle.bt_top.specs.Endings.{Ends}
 use Rattle.bt_top.specs.Inputs.{IsInput}
 use Rattle.bt_designs.specs.Requested.{IsLoneRequest, IsSidedRequest}

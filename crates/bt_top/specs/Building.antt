@@ -4,8 +4,8 @@ use Rattle.bt_net.specs.Network.{Network}
 use Rattle.bt_gen.specs.declared.wish.Wish.{Wish}
 use Rattle.bt_decide.specs.Building.{IsBuilt}
 use Rattle.bt_words.specs.declared.command.BuiltText.{BuiltText}
-use Rattle.bt_top.specs.declared.answer.Answer.TheVariants as answer
-use Rattle.bt_top.specs.Replies.{Reply}
+use Rattle.bt_print.specs.declared.answer.Answer.TheVariants as answer
+use Rattle.bt_print.specs.Replies.{Reply}
 
 -- what `build` answers: a network of so many inputs and outputs whose edges have the cap 1 and that has each wished
 -- property; or that none is found, which says nothing of whether there is one

@@ -10,10 +10,10 @@ use Rattle.bt_fenc.specs.FlowFormula.{flow_formula}
 use Rattle.bt_cert.specs.declared.fault.CertFault.{CertFault}
 use Rattle.bt_cert.specs.declared.fault.CertFault.TheVariants as cert
 use Rattle.bt_cert.specs.Certificates.{IsCertRead}
-use Rattle.bt_top.specs.declared.answer.Answer.TheVariants as answer
-use Rattle.bt_top.specs.declared.answer.Brief.TheVariants as brief
+use Rattle.bt_print.specs.declared.answer.Answer.TheVariants as answer
+use Rattle.bt_print.specs.declared.answer.Brief.TheVariants as brief
 use Rattle.bt_designs.specs.Designs.{IsDesign}
-use Rattle.bt_top.specs.Replies.{Reply, design_told}
+use Rattle.bt_print.specs.Replies.{Reply, design_told}
 use Rattle.bt_top.specs.States.{IsStateJudged}
 use Rattle.bt_designs.specs.Steps.{InTurn}
 

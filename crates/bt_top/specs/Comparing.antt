@@ -5,9 +5,9 @@ use Rattle.bt_cnf.specs.declared.limits.Limits.{Limits}
 use Rattle.bt_decide.specs.declared.verdict.SameVerdict.{SameVerdict}
 use Rattle.bt_decide.specs.declared.verdict.SameVerdict.TheVariants.{Yes, No, GaveUp}
 use Rattle.bt_decide.specs.Verdicts.{IsSameVerdict}
-use Rattle.bt_top.specs.declared.answer.Answer.{Answer}
-use Rattle.bt_top.specs.declared.answer.Answer.TheVariants as answer
-use Rattle.bt_top.specs.Replies.{Reply, design_told}
+use Rattle.bt_print.specs.declared.answer.Answer.{Answer}
+use Rattle.bt_print.specs.declared.answer.Answer.TheVariants as answer
+use Rattle.bt_print.specs.Replies.{Reply, design_told}
 use Rattle.bt_designs.specs.Steps.{InTurn}
 use Rattle.bt_designs.specs.TwoDesigns.{IsTwoNets}
 

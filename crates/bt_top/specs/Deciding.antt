@@ -6,10 +6,10 @@ use Rattle.bt_cnf.specs.declared.limits.Limits.{Limits}
 use Rattle.bt_decide.specs.declared.verdict.Verdict.{Verdict}
 use Rattle.bt_decide.specs.declared.verdict.Verdict.TheVariants.{Yes, No, GaveUp}
 use Rattle.bt_decide.specs.Verdicts.{IsVerdict}
-use Rattle.bt_top.specs.declared.answer.Answer.{Answer}
-use Rattle.bt_top.specs.declared.answer.Answer.TheVariants as answer
+use Rattle.bt_print.specs.declared.answer.Answer.{Answer}
+use Rattle.bt_print.specs.declared.answer.Answer.TheVariants as answer
 use Rattle.bt_designs.specs.Alone.{IsLoneNet}
-use Rattle.bt_top.specs.Replies.{Reply, design_told}
+use Rattle.bt_print.specs.Replies.{Reply, design_told}
 use Rattle.bt_designs.specs.Steps.{InTurn}
 
 -- what is answered to a verdict on a property

@@ -6,10 +6,10 @@ use Rattle.bt_io.specs.declared.fault.ReadAll.TheVariants.{ReadFault, TooLong, M
 use Rattle.bt_io.specs.declared.fault.WriteFault.{WriteFault}
 use Rattle.bt_words.specs.declared.command.Command.{Command}
 use Rattle.bt_words.specs.Commands.{IsCommand, IsUsage}
-use Rattle.bt_top.specs.declared.answer.Answer.{Answer}
-use Rattle.bt_top.specs.declared.answer.Answer.TheVariants as answer
+use Rattle.bt_print.specs.declared.answer.Answer.{Answer}
+use Rattle.bt_print.specs.declared.answer.Answer.TheVariants as answer
 use Rattle.bt_top.specs.declared.program.TheConstants.{READ_FAULT, WRITE_FAULT, NO_MEMORY}
-use Rattle.bt_top.specs.Answers.{status_of, text_of}
+use Rattle.bt_print.specs.Answers.{status_of, text_of}
 use Rattle.bt_top.specs.Inputs.{IsUntouched, IsInput, ReadsInput}
 use Rattle.bt_top.specs.Answering.{IsRightTo, IsOnly}
 

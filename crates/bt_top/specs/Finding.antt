@@ -5,9 +5,6 @@ use Rattle.bt_parts.specs.declared.hand.Priority.{Priority}
 use Rattle.bt_parts.specs.declared.part.Part.{Part}
 use Rattle.bt_parts.specs.declared.part.Rect.{Rect}
 use Rattle.bt_parts.specs.declared.part.Tier.{Tier}
-use Rattle.bt_json.specs.Json.{Json}
-use Rattle.bt_json.specs.Answers.{IsRead}
-use Rattle.bt_entities.specs.Answers.{IsPrioritisedOf}
 use Rattle.bt_model.specs.Laying.{LaysPreferring}
 use Rattle.bt_model.specs.Requests.{LayoutRequest}
 use Rattle.bt_entities.specs.ReadBack.{IsReadBack}
@@ -20,11 +17,11 @@ use Rattle.bt_model.specs.declared.request.TheConstants.{MOST_ACROSS}
 use Rattle.bt_words.specs.Commands.{usual_grid}
 use Rattle.bt_words.specs.declared.command.AskedSides.{AskedSides}
 use Rattle.bt_words.specs.declared.command.AskedSides.TheVariants.{Any, Kept}
-use Rattle.bt_top.specs.declared.answer.Answer.TheVariants as answer
+use Rattle.bt_print.specs.declared.answer.Answer.TheVariants as answer
 use Rattle.bt_designs.specs.declared.fault.DesignFault.{DesignFault}
 use Rattle.bt_designs.specs.Designs.{IsJsonText}
-use Rattle.bt_top.specs.Replies.{Reply, design_told}
-use Rattle.bt_designs.specs.Kept.{IsKeptRequest}
+use Rattle.bt_print.specs.Replies.{Reply, design_told}
+use Rattle.bt_designs.specs.Kept.{AreDrawn, IsKeptRequest}
 use Rattle.bt_designs.specs.Requested.{IsLoneRequest, IsSidedRequest}
 use Rattle.bt_designs.specs.Steps.{InTurn}
 
@@ -44,31 +41,27 @@ abbrev pub IsDesignRequest : AskedSides → Option Rect → Option Tier → List
 IsDesignRequest sides most tier bytes answer = (IsJsonText bytes × IsDrawnRequest sides (unwrap_or most greatest_grid) tier bytes answer)
     ⊎ ((IsJsonText bytes → ⊥) × IsSidedRequest (unwrap_or most usual_grid) tier bytes answer)
 
--- the JSON value at the front of the bytes is a blueprint of these parts, whatever their priorities
-abbrev pub AreLaidOut : List ℕ → List Part → Type 0
-AreLaidOut bytes parts = (read : Json × ℕ) × IsRead bytes (Ok read) × (priorities : List Priority) × IsPrioritisedOf read.0 (Ok (parts, priorities))
-
 -- how many cells a grid has to have fewer of: of a blueprint, those of its least rectangle; of a network text there is
 -- no such number
 abbrev pub IsOwn : List ℕ → Option ℕ → Type 0
 IsOwn bytes None = IsJsonText bytes → ⊥
-IsOwn bytes (Some cells) = (parts : List Part) × AreLaidOut bytes parts × IsSpanned cells parts
+IsOwn bytes (Some cells) = (parts : List Part) × AreDrawn bytes parts × IsSpanned cells parts
 
 -- the blueprint that is written of the parts is read as these parts with these priorities
-abbrev pub IsFoundAgain : Small → List Priority → Type 0
-IsFoundAgain (Found grid parts) priorities = IsReadBack parts.items priorities
-IsFoundAgain (Spent steps) priorities = Unit {0}
+abbrev pub IsSmallFoundAgain : Small → List Priority → Type 0
+IsSmallFoundAgain (Found grid parts) priorities = IsReadBack parts.items priorities
+IsSmallFoundAgain (Spent steps) priorities = Unit {0}
 
 -- the parts lay the request on their grid with these priorities, and so with what its splitters prefer; where none are
 -- found there are no priorities
-abbrev pub IsPreferred : LayoutRequest → Small → List Priority → Type 0
-IsPreferred r (Found grid parts) priorities = LaysPreferring parts.items priorities (request_on r grid)
-IsPreferred r (Spent steps) priorities = priorities ≡ []
+abbrev pub IsSmallPreferred : LayoutRequest → Small → List Priority → Type 0
+IsSmallPreferred r (Found grid parts) priorities = LaysPreferring parts.items priorities (request_on r grid)
+IsSmallPreferred r (Spent steps) priorities = priorities ≡ []
 
 -- what is answered to what looking for small grids comes to: it, with priorities of the parts that are found
 abbrev pub IsSmallTold : LayoutRequest → Small → Reply → Type 0
 IsSmallTold r small reply =
-    (priorities : Vec Priority) × IsPreferred r small priorities.items × IsFoundAgain small priorities.items × (reply ≡ Ok (answer.Small small priorities))
+    (priorities : Vec Priority) × IsSmallPreferred r small priorities.items × IsSmallFoundAgain small priorities.items × (reply ≡ Ok (answer.Small small priorities))
 
 -- what is answered to a request on the greatest grid, where the number of cells of a design that is laid out is given: a
 -- grid that may be asked, which is within that one and has fewer, and parts that lay the request there, whose blueprint

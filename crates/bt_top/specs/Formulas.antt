@@ -9,20 +9,20 @@ use Rattle.bt_model.specs.Requests.{LayoutRequest}
 use Rattle.bt_place.specs.Blocks.{starts_of}
 use Rattle.bt_place.specs.PlaceFormula.{place_formula, sizes_of}
 use Rattle.bt_print.specs.declared.columns.Columns.{Columns}
-use Rattle.bt_top.specs.declared.answer.Answer.{Answer}
-use Rattle.bt_top.specs.declared.answer.Answer.TheVariants as answer
+use Rattle.bt_print.specs.declared.answer.Answer.{Answer}
+use Rattle.bt_print.specs.declared.answer.Answer.TheVariants as answer
 use Rattle.bt_designs.specs.Alone.{IsLoneNet}
-use Rattle.bt_top.specs.Replies.{Reply, UnlessLarge, design_told}
+use Rattle.bt_print.specs.Replies.{Reply, UnlessLarge, design_told}
 use Rattle.bt_designs.specs.Requested.{IsLoneRequest}
 use Rattle.bt_designs.specs.Steps.{InTurn}
 
 -- the columns of a network's flow formulas
-abbrev pub columns_of : Network → Columns
-columns_of n = record { edges = length n.edges; inputs = n.inputs; outputs = n.outputs }
+abbrev pub flow_columns : Network → Columns
+flow_columns n = record { edges = length n.edges; inputs = n.inputs; outputs = n.outputs }
 
 -- what is answered to a network and a property: their flow formula
 abbrev pub flow_formula_told : Property → Network → Answer
-flow_formula_told p n = answer.FlowFormula (columns_of n) (flow_formula n p)
+flow_formula_told p n = answer.FlowFormula (flow_columns n) (flow_formula n p)
 
 -- what is answered to a request that has a formula: its placement formula, and where the blocks of its variables begin
 abbrev pub place_formula_told : LayoutRequest → Answer

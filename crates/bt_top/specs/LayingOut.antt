@@ -12,8 +12,8 @@ use Rattle.bt_grids.specs.declared.outcome.Layout.{Layout}
 use Rattle.bt_grids.specs.declared.outcome.Layout.TheVariants.{Found, Nowhere, Spent}
 use Rattle.bt_layout.specs.Layouts.{IsLayout}
 use Rattle.bt_place.specs.PlaceFormula.{HasFormula}
-use Rattle.bt_top.specs.declared.answer.Answer.TheVariants as answer
-use Rattle.bt_top.specs.Replies.{Reply, design_told}
+use Rattle.bt_print.specs.declared.answer.Answer.TheVariants as answer
+use Rattle.bt_print.specs.Replies.{Reply, design_told}
 use Rattle.bt_designs.specs.Requested.{IsLoneRequest}
 use Rattle.bt_designs.specs.Steps.{InTurn}
 

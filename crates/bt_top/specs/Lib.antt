@@ -1,6 +1,4 @@
-pub mod Answers
 pub mod Inputs
-pub mod Replies
 pub mod States
 pub mod Recovering
 pub mod Building

@@ -1,10 +1,8 @@
 -- What `make` answers.
-use Rattle.std.specs.Prelude.{◌≡◌, ℕ, Bool, true, false, length, Ok, Err, alloc_error}
+use Rattle.std.specs.Prelude.{◌≡◌, ℕ, Bool, true, false, length, Ok}
 use Rattle.bt_net.specs.Network.{Network}
 use Rattle.bt_flow.specs.declared.property.Property.TheVariants.{Balanced}
 use Rattle.bt_flow.specs.Properties.{Holds}
-use Rattle.bt_gen.specs.declared.fault.GenFault.{GenFault}
-use Rattle.bt_gen.specs.declared.fault.GenFault.TheVariants.{Order, Memory}
 use Rattle.bt_gen.specs.declared.butterflies.TheConstants.{MOST_STAGES}
 use Rattle.bt_gen.specs.declared.chains.TheConstants.{MOST_IN_CHAIN}
 use Rattle.bt_gen.specs.Butterfly.{butterfly_net}
@@ -16,11 +14,9 @@ use Rattle.bt_decide.specs.declared.verdict.Verdict.TheVariants.{Yes, No, GaveUp
 use Rattle.bt_decide.specs.Verdicts.{IsVerdict}
 use Rattle.bt_words.specs.declared.command.NetworkFamily.{NetworkFamily}
 use Rattle.bt_words.specs.declared.command.NetworkFamily.TheVariants.{Butterfly, Chain}
-use Rattle.bt_top.specs.declared.answer.Answer.{Answer}
-use Rattle.bt_top.specs.declared.answer.Answer.TheVariants as answer
-use Rattle.bt_top.specs.declared.answer.Brief.TheVariants as brief
-use Rattle.bt_designs.specs.declared.refusal.Refusal.TheVariants as refusal
-use Rattle.bt_top.specs.Replies.{Reply}
+use Rattle.bt_print.specs.declared.answer.Answer.{Answer}
+use Rattle.bt_print.specs.declared.answer.Answer.TheVariants as answer
+use Rattle.bt_print.specs.Replies.{Reply, gen_told}
 use Rattle.bt_designs.specs.Steps.{InTurn}
 
 -- what is said of a network that was made
@@ -33,11 +29,6 @@ abbrev pub balance_told : ℕ → Network → Verdict → Answer
 balance_told order n (Yes definitions log) = made_of Chain order n true
 balance_told order n (No state) = made_of Chain order n false
 balance_told order n (GaveUp definitions cause) = answer.Undecided definitions cause
-
--- the refusal of an order
-abbrev pub gen_told : GenFault → Reply
-gen_told (Order order) = Ok (answer.Brief (brief.Refused (refusal.Order order)))
-gen_told Memory = Err alloc_error
 
 -- what is answered to a butterfly: that it is balanced, which each one is
 abbrev pub IsSaidBalanced : ℕ → Network → Reply → Type 0

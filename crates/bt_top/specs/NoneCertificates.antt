@@ -10,11 +10,11 @@ use Rattle.bt_place.specs.PlaceFormula.{place_formula}
 use Rattle.bt_layout.specs.Layouts.{HasNoLayout}
 use Rattle.bt_cert.specs.Certificates.{IsCertRead}
 use Rattle.bt_theory.specs.Outcomes.{IsRefutation}
-use Rattle.bt_top.specs.declared.answer.Answer.TheVariants as answer
-use Rattle.bt_top.specs.declared.answer.Brief.TheVariants as brief
-use Rattle.bt_top.specs.Answers.{none_word, nowhere_text}
+use Rattle.bt_print.specs.declared.answer.Answer.TheVariants as answer
+use Rattle.bt_print.specs.declared.answer.Brief.TheVariants as brief
+use Rattle.bt_print.specs.Answers.{none_word, nowhere_text}
 use Rattle.bt_top.specs.Certificates.{cert_told}
-use Rattle.bt_top.specs.Replies.{Reply, UnlessLarge, design_told}
+use Rattle.bt_print.specs.Replies.{Reply, UnlessLarge, design_told}
 use Rattle.bt_designs.specs.Requested.{IsFrontRequest}
 use Rattle.bt_designs.specs.Steps.{InTurn}
 

@@ -7,14 +7,14 @@ use Rattle.bt_log.specs.declared.log.Log.{Log}
 use Rattle.bt_extend.specs.declared.definition.Definition.{Definition}
 use Rattle.std.specs.declared.alloc.Global.{Global}
 use Rattle.bt_cnf.specs.declared.limits.Limits.{Limits}
-use Rattle.bt_top.specs.declared.answer.Answer.{Answer}
-use Rattle.bt_top.specs.declared.answer.Answer.TheVariants.{Brief, Proved, Broken}
-use Rattle.bt_top.specs.declared.answer.Brief.TheVariants.{Yes, No, WideState}
+use Rattle.bt_print.specs.declared.answer.Answer.{Answer}
+use Rattle.bt_print.specs.declared.answer.Answer.TheVariants.{Brief, Proved, Broken}
+use Rattle.bt_print.specs.declared.answer.Brief.TheVariants.{Yes, No, WideState}
 use Rattle.bt_designs.specs.declared.held.TheConstants.{MOST_CHECKED}
-use Rattle.bt_top.specs.Answers.{text_of}
+use Rattle.bt_print.specs.Answers.{text_of}
 use Rattle.bt_top.specs.Certificates.{IsChecked}
 use Rattle.bt_top.specs.Deciding.{IsDecidedFrom}
-use Rattle.bt_top.specs.Replies.{Reply}
+use Rattle.bt_print.specs.Replies.{Reply}
 
 -- a design, a line feed, and what was written of it
 abbrev pub followed_by : List ℕ → Answer → List ℕ

@@ -3,8 +3,8 @@ use Rattle.std.specs.Prelude.{ℕ, ◌≤◌, List, length, Option, Ok}
 use Rattle.bt_parts.specs.declared.part.Rect.{Rect}
 use Rattle.bt_parts.specs.declared.part.Tier.{Tier}
 use Rattle.bt_log.specs.declared.log.Log.{Log}
-use Rattle.bt_top.specs.declared.answer.Answer.TheVariants.{Brief, Nowhere}
-use Rattle.bt_top.specs.declared.answer.Brief.TheVariants.{NoLayout}
+use Rattle.bt_print.specs.declared.answer.Answer.TheVariants.{Brief, Nowhere}
+use Rattle.bt_print.specs.declared.answer.Brief.TheVariants.{NoLayout}
 use Rattle.bt_designs.specs.declared.held.TheConstants.{MOST_CHECKED}
 use Rattle.bt_top.specs.LayingOut.{IsLaidOutFrom}
 use Rattle.bt_top.specs.NoneCertificates.{IsLayoutChecked}

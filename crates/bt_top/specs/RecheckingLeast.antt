@@ -8,10 +8,10 @@ use Rattle.bt_grids.specs.declared.outcome.RuledOut.{RuledOut}
 use Rattle.bt_grids.specs.declared.outcome.Smallest.{Smallest}
 use Rattle.bt_grids.specs.declared.outcome.Smallest.TheVariants.{Found, Nowhere, Spent}
 use Rattle.bt_grids.specs.SmallestText.{nowhere_text, earlier_text, from_line}
-use Rattle.bt_top.specs.declared.answer.Answer.TheVariants as answer
-use Rattle.bt_top.specs.declared.answer.Brief.TheVariants as brief
+use Rattle.bt_print.specs.declared.answer.Answer.TheVariants as answer
+use Rattle.bt_print.specs.declared.answer.Brief.TheVariants as brief
 use Rattle.bt_designs.specs.declared.held.TheConstants.{MOST_CHECKED}
-use Rattle.bt_top.specs.Answers.{text_of}
+use Rattle.bt_print.specs.Answers.{text_of}
 use Rattle.bt_top.specs.NoneCertificates.{IsLayoutChecked}
 use Rattle.bt_top.specs.Searching.{IsSearchedFrom}
 

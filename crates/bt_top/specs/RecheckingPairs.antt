@@ -7,12 +7,12 @@ use Rattle.bt_same.specs.declared.pair.Which.{Which}
 use Rattle.std.specs.declared.alloc.Global.{Global}
 use Rattle.bt_cnf.specs.declared.limits.Limits.{Limits}
 use Rattle.bt_extend.specs.declared.definition.Definition.{Definition}
-use Rattle.bt_top.specs.declared.answer.Answer.TheVariants.{Brief, Same, Differ}
-use Rattle.bt_top.specs.declared.answer.Brief.TheVariants.{ShownSame, ShownDiffer, WidePair}
+use Rattle.bt_print.specs.declared.answer.Answer.TheVariants.{Brief, Same, Differ}
+use Rattle.bt_print.specs.declared.answer.Brief.TheVariants.{ShownSame, ShownDiffer, WidePair}
 use Rattle.bt_designs.specs.declared.held.TheConstants.{MOST_CHECKED}
 use Rattle.bt_top.specs.Comparing.{IsComparedFrom}
 use Rattle.bt_top.specs.Rechecking.{followed_by}
-use Rattle.bt_top.specs.Replies.{Reply}
+use Rattle.bt_print.specs.Replies.{Reply}
 use Rattle.bt_top.specs.SameCertificates.{IsSameCertified}
 
 -- where `same` proves that two networks behave the same, and the designs and the proof aren't more than `check-same`

@@ -1,8 +1,8 @@
 -- What `recover` answers.
 use Rattle.std.specs.Prelude.{◌≡◌, ℕ, List, Ok}
-use Rattle.bt_top.specs.declared.answer.Answer.TheVariants as answer
+use Rattle.bt_print.specs.declared.answer.Answer.TheVariants as answer
 use Rattle.bt_designs.specs.Alone.{IsLoneNet}
-use Rattle.bt_top.specs.Replies.{Reply, design_told}
+use Rattle.bt_print.specs.Replies.{Reply, design_told}
 use Rattle.bt_designs.specs.Steps.{InTurn}
 
 -- what `recover` answers to bytes: the network of the design that they are, or the first refusal

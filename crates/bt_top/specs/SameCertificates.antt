@@ -13,12 +13,11 @@ use Rattle.bt_same.specs.Judging.{IsPairAnswer}
 use Rattle.bt_same.specs.PairReading.{IsPairRead}
 use Rattle.bt_same.specs.SameFormula.{same_formula}
 use Rattle.bt_same.specs.Sameness.{AreSame}
-use Rattle.bt_top.specs.declared.answer.Answer.{Answer}
-use Rattle.bt_top.specs.declared.answer.Answer.TheVariants as answer
-use Rattle.bt_top.specs.declared.answer.Brief.TheVariants as brief
+use Rattle.bt_print.specs.declared.answer.Answer.{Answer}
+use Rattle.bt_print.specs.declared.answer.Answer.TheVariants as answer
+use Rattle.bt_print.specs.declared.answer.Brief.TheVariants as brief
 use Rattle.bt_top.specs.Certificates.{cert_told}
-use Rattle.bt_top.specs.Replies.{Reply, design_told}
-use Rattle.bt_top.specs.States.{state_told}
+use Rattle.bt_print.specs.Replies.{Reply, design_told, state_told}
 use Rattle.bt_designs.specs.Steps.{InTurn}
 use Rattle.bt_designs.specs.TwoDesigns.{IsFrontNets}
 

@@ -1,9 +1,7 @@
 -- What `flow-check` answers: a design, blanks, and a written state, which blanks may follow.
-use Rattle.std.specs.Prelude.{◌≡◌, ℕ, List, drop, Result, Ok, Err, alloc_error}
+use Rattle.std.specs.Prelude.{◌≡◌, ℕ, List, drop, Result, Ok, Err}
 use Rattle.bt_text.specs.Blanks.{SkipsBlanks}
 use Rattle.bt_net.specs.Network.{Network}
-use Rattle.bt_flow.specs.declared.fault.StateFault.{StateFault}
-use Rattle.bt_flow.specs.declared.fault.StateFault.TheVariants as state
 use Rattle.bt_flow.specs.declared.judgement.Judgement.{Judgement}
 use Rattle.bt_flow.specs.declared.judgement.Judgement.TheVariants.{Passes, Fails}
 use Rattle.bt_flow.specs.declared.judgement.WideSum.{WideSum}
@@ -11,17 +9,12 @@ use Rattle.bt_flow.specs.declared.property.Property.{Property}
 use Rattle.bt_flow.specs.Judging.{IsBreakingAnswer}
 use Rattle.bt_flow.specs.States.{Fractions}
 use Rattle.bt_flow.specs.StateReading.{IsStateRead}
-use Rattle.bt_top.specs.declared.answer.Answer.TheVariants as answer
-use Rattle.bt_top.specs.declared.answer.Brief.{Brief}
-use Rattle.bt_top.specs.declared.answer.Brief.TheVariants as brief
+use Rattle.bt_print.specs.declared.answer.Answer.TheVariants as answer
+use Rattle.bt_print.specs.declared.answer.Brief.{Brief}
+use Rattle.bt_print.specs.declared.answer.Brief.TheVariants as brief
 use Rattle.bt_designs.specs.Designs.{IsDesign}
-use Rattle.bt_top.specs.Replies.{Reply, design_told}
+use Rattle.bt_print.specs.Replies.{Reply, design_told, state_told}
 use Rattle.bt_designs.specs.Steps.{InTurn}
-
--- the line at which a text stops to be that of a state
-abbrev pub state_told : StateFault → Reply
-state_told (state.CertLine k) = Ok (answer.Brief (brief.CertLine k))
-state_told state.Memory = Err alloc_error
 
 -- the verdict on a state: this answer where it breaks the property, the first test that it fails and at which place, or
 -- a sum that leaves 128 bits

@@ -1,9 +1,9 @@
 -- What private functions tell of their results: definitions that no public clause cites.
+pub mod Asking
 pub mod Claims
 pub mod Fronts
 pub mod Gathering
 pub mod Grids
-pub mod Lines
 pub mod PairParts
 pub mod RequestParts
 pub mod Telling

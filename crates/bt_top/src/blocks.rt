@@ -6,7 +6,6 @@ ghost use Rattle.bt_designs.specs.declared.held.TheConstants.{MOST_CHECKED};
 ghost use Rattle.bt_top.specs.inner.Claims.{HasClaimedGrid, IsClaimed};
 ghost use Rattle.bt_top.specs.inner.Fronts.{AnswersLeft, GivesHeldFront};
 
-use crate::answer::Answer;
 use crate::claim::CertificateClaim;
 use crate::flow_front::flow_front;
 use crate::front::Front;
@@ -15,6 +14,7 @@ use crate::layout_front::layout_front;
 use crate::same_front::same_front;
 use bt_designs::{Gathered, Held, MOST_CHECKED, gather_on};
 use bt_io::{ReadAll, Source};
+use bt_print::Answer;
 use std::alloc::{AllocError, Global};
 
 /// The answer to all that a source has left, of which the certificate is to show the claim. It is read block by block:

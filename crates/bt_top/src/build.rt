@@ -3,9 +3,9 @@ ghost use Rattle.std.specs.Prelude.{alloc_error};
 ghost use Rattle.bt_text.specs.Answers.{UnlessMemory};
 ghost use Rattle.bt_top.specs.Building.{IsBuiltFor};
 
-use crate::answer::Answer;
 use bt_cnf::Limits;
 use bt_gen::Wish;
+use bt_print::Answer;
 use bt_words::BuiltText;
 use std::alloc::{AllocError, Global};
 

@@ -3,12 +3,12 @@ ghost use Rattle.std.specs.Prelude.{◌≡◌, alloc_error};
 ghost use Rattle.bt_text.specs.Answers.{UnlessMemory};
 ghost use Rattle.bt_top.specs.Deciding.{IsDecided, IsDecidedFrom, verdict_told};
 
-use crate::answer::{Answer, refused};
 use bt_cnf::{Chooser, Limits};
 use bt_decide::Verdict;
 use bt_designs::read_alone;
 use bt_flow::Property;
 use bt_net::Net;
+use bt_print::{Answer, refused};
 use std::alloc::{AllocError, Global};
 
 /// The answer of `decide` to the bytes of its input.

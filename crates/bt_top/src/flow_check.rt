@@ -2,12 +2,12 @@
 ghost use Rattle.std.specs.Prelude.{◌≡◌, Ok, alloc_error};
 ghost use Rattle.bt_text.specs.Answers.{UnlessMemory};
 ghost use Rattle.bt_flow.specs.States.{Fits};
-ghost use Rattle.bt_top.specs.States.{IsFlowChecked, IsStateChecked, IsStateJudged, IsJudged, state_told};
+ghost use Rattle.bt_top.specs.States.{IsFlowChecked, IsStateChecked, IsStateJudged, IsJudged};
 
-use crate::answer::{Answer, Brief, refused};
 use bt_designs::read_design;
-use bt_flow::{Judgement, Property, State, StateFault, WideSum, breaks, read_state};
+use bt_flow::{Judgement, Property, State, WideSum, breaks, read_state};
 use bt_net::Net;
+use bt_print::{Answer, Brief, no_state, refused};
 use bt_text::skip_blanks;
 use std::alloc::{AllocError, Global};
 
@@ -49,17 +49,7 @@ pub fn judge_text(
 {
     match read_state(alloc, net, text, property) {
         Ok(state) => Ok(Answer::Brief(judge(property, net, &state, broken))),
-        Err(fault) => unwritten(fault),
-    }
-}
-
-/// The answer where no state is written.
-pub fn unwritten(fault: StateFault) -> Result<Answer, AllocError>
-    ensures { result ≡ state_told fault }
-{
-    match fault {
-        StateFault::CertLine(line) => Ok(Answer::Brief(Brief::CertLine(line))),
-        StateFault::Memory => Err(AllocError),
+        Err(fault) => no_state(fault),
     }
 }
 

@@ -1,19 +1,18 @@
 //! What the front of an input tells of the answer of `check`.
-ghost use Rattle.std.specs.Prelude.{◌≡◌, ◌++◌, ◌+◌, ◌≤◌, ◌↔◌, Bool, IsTrue, codes, length};
+ghost use Rattle.std.specs.Prelude.{◌+◌, ◌≤◌, Bool, length};
 ghost use Rattle.bt_net.specs.Network.{IsNetwork};
-ghost use Rattle.bt_flow.specs.Names.{property_name};
 ghost use Rattle.bt_designs.specs.declared.held.TheConstants.{MOST_CHECKED};
 ghost use Rattle.bt_top.specs.Certificates.{IsCertificateChecked, IsChecked, IsTextChecked};
 ghost use Rattle.bt_designs.specs.Told.{TellsLine};
 ghost use Rattle.bt_top.specs.inner.Fronts.{GivesFront, GivesHeldFront};
 
-use crate::answer::Brief;
-use crate::front::{Front, Steps, WrittenState, known_refusal};
+use crate::front::{Front, WrittenState, WrittenSteps, known_refusal};
 use bt_designs::{Held, told_design, told_line};
 use bt_fenc::encode;
 use bt_flow::Property;
 use bt_net::Net;
-use bt_text::{after_word, skip_blanks};
+use bt_print::{Brief, says_no, says_yes};
+use bt_text::skip_blanks;
 use std::alloc::{AllocError, Global};
 
 /// What is told of the answer to an input of which this is held.
@@ -75,7 +74,7 @@ fn behind_title<'a>(
     if says_yes(written.property, title) {
         let formula = encode(alloc, &written.net, written.property)?;
         let accepted = Brief::Yes(written.property);
-        return Ok(Some(Front::Steps(Steps {
+        return Ok(Some(Front::Steps(WrittenSteps {
             formula,
             lines,
             accepted,
@@ -85,24 +84,4 @@ fn behind_title<'a>(
         return Ok(Some(Front::State(written)));
     }
     Ok(Some(Front::Known(Brief::CertLine(1))))
-}
-
-/// Whether the line says that the network has the property.
-fn says_yes(property: Property, line: &[u8]) -> bool
-    ensures { IsTrue result ↔ (line.now ≡ codes "yes " ++ property_name property) }
-{
-    match after_word(line, b"yes ") {
-        Some(name) => name == property.name().as_bytes(),
-        None => false,
-    }
-}
-
-/// Whether the line says that it hasn't.
-fn says_no(property: Property, line: &[u8]) -> bool
-    ensures { IsTrue result ↔ (line.now ≡ codes "no " ++ property_name property) }
-{
-    match after_word(line, b"no ") {
-        Some(name) => name == property.name().as_bytes(),
-        None => false,
-    }
 }

@@ -3,10 +3,9 @@ ghost use Rattle.std.specs.Prelude.{◌≡◌, alloc_error, Ok};
 ghost use Rattle.bt_text.specs.Answers.{UnlessMemory};
 ghost use Rattle.bt_model.specs.Requests.{IsGrid};
 ghost use Rattle.bt_top.specs.Formulas.{IsFlowFormulaFrom, IsPlaceFormulaFrom};
-ghost use Rattle.bt_top.specs.Replies.{UnlessLarge};
-ghost use Rattle.bt_top.specs.Formulas.{columns_of, flow_formula_told, place_formula_told};
+ghost use Rattle.bt_print.specs.Replies.{UnlessLarge};
+ghost use Rattle.bt_top.specs.Formulas.{flow_columns, flow_formula_told, place_formula_told};
 
-use crate::answer::{Answer, refused};
 use bt_designs::{DesignFault, Refusal, read_alone, read_lone_request};
 use bt_fenc::encode;
 use bt_flow::Property;
@@ -14,7 +13,7 @@ use bt_model::Request;
 use bt_net::Net;
 use bt_parts::{Rect, Tier};
 use bt_place::{Numbers, encode_place, has_formula};
-use bt_print::Columns;
+use bt_print::{Answer, Columns, refused};
 use std::alloc::{AllocError, Global};
 
 /// The answer of `formula` to the bytes of its input, about a property.
@@ -48,14 +47,14 @@ fn flow_formula_of(alloc: Global, property: Property, net: &Net) -> Result<Answe
     ensures { UnlessMemory alloc_error (λ reply. reply ≡ Ok (flow_formula_told property net.now)) result }
 {
     match encode(alloc, net, property) {
-        Ok(formula) => Ok(Answer::FlowFormula(columns_of(net), formula)),
+        Ok(formula) => Ok(Answer::FlowFormula(flow_columns(net), formula)),
         Err(_) => Err(AllocError),
     }
 }
 
 /// The columns of a network's flow formulas.
-fn columns_of(net: &Net) -> Columns
-    ensures { result ≡ columns_of net.now }
+fn flow_columns(net: &Net) -> Columns
+    ensures { result ≡ flow_columns net.now }
 {
     Columns {
         edges: net.edges().len(),

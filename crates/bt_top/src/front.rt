@@ -2,16 +2,16 @@
 ghost use Rattle.std.specs.Prelude.{IfOk, MatchOption};
 ghost use Rattle.bt_top.specs.inner.Fronts.{TellsRefusal};
 
-use crate::answer::Brief;
 use bt_cnf::Formula;
 use bt_designs::DesignFault;
 use bt_flow::Property;
 use bt_net::Net;
+use bt_print::Brief;
 use std::alloc::AllocError;
 
 /// Steps of a certificate of which some lines were read.
 #[derive(Drop)]
-pub struct Steps<'a> {
+pub struct WrittenSteps<'a> {
     /// What they are to refute.
     pub formula: Formula,
     /// The front of their lines.
@@ -46,7 +46,7 @@ pub enum Front<'a> {
     /// It is this.
     Known(Brief),
     /// It is that to these steps, which go on with what follows.
-    Steps(Steps<'a>),
+    Steps(WrittenSteps<'a>),
     /// It is that to this state, whose text goes on with what follows.
     State(WrittenState<'a>),
     /// It is that to this pair, whose text goes on with what follows.

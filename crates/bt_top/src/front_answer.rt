@@ -6,14 +6,14 @@ ghost use Rattle.bt_io.specs.Passages.{passage};
 ghost use Rattle.bt_io.specs.declared.fault.ReadAll.TheVariants.{Memory};
 ghost use Rattle.bt_same.specs.Sameness.{HaveEqualEnds};
 ghost use Rattle.bt_top.specs.inner.Fronts.{AnswersRest, DrainsRest, IsFit, IsPairReply, IsReply, IsStateReply};
-ghost use Rattle.bt_top.specs.inner.Fronts.{IsStepsReply, ReadsRest, judged_answer, steps_told};
+ghost use Rattle.bt_top.specs.inner.Fronts.{IsStepsReply, ReadsRest, judged_answer};
 
-use crate::answer::{Answer, Brief};
 use crate::flow_check::judge_text;
-use crate::front::{Front, Steps, WrittenPair, WrittenState};
+use crate::front::{Front, WrittenPair, WrittenState, WrittenSteps};
 use crate::pair_check::judge_pair_text;
 use bt_cert::{CertFault, check_log};
 use bt_io::{ReadAll, SliceSource, Source, drain, read_all};
+use bt_print::{Answer, Brief, steps_told};
 use std::alloc::{AllocError, Global};
 
 /// The answer that a front tells, where the input goes on in the source, or has ended.
@@ -56,7 +56,7 @@ fn known_from<S: Source>(
 /// The answer to steps whose lines go on in the source.
 fn steps_from<S: Source>(
     alloc: Global,
-    steps: Steps<'_>,
+    steps: WrittenSteps<'_>,
     ended: bool,
     source: &mut S,
     limit: usize,
@@ -75,7 +75,7 @@ fn steps_from<S: Source>(
 }
 
 /// The answer to steps whose lines were all read.
-fn steps_at_hand(alloc: Global, steps: Steps<'_>) -> Result<Answer, ReadAll>
+fn steps_at_hand(alloc: Global, steps: WrittenSteps<'_>) -> Result<Answer, ReadAll>
     ensures answer { IfOk result (λ answer. IsStepsReply steps.entry [] (Ok answer)) }
     ensures memory { IfErr result (λ fault. fault ≡ Memory) }
 {
@@ -92,23 +92,6 @@ fn steps_answer(accepted: Brief, judged: Result<(), CertFault>) -> Result<Answer
     match judged {
         Ok(()) => Ok(Answer::Brief(accepted)),
         Err(fault) => steps_told(fault),
-    }
-}
-
-/// The answer where the steps are no certificate, or why they could not be read.
-fn steps_told(fault: CertFault) -> Result<Answer, ReadAll>
-    ensures { result ≡ steps_told fault }
-{
-    match fault {
-        CertFault::CertLine(line) => Ok(Answer::Brief(Brief::CertLine(line))),
-        CertFault::BadStep(line, cause) => Ok(Answer::Brief(Brief::BadStep(line, cause))),
-        CertFault::NoVerdict => Ok(Answer::Brief(Brief::NoVerdict)),
-        CertFault::CertWide(line, row, column) => {
-            Ok(Answer::Brief(Brief::CertWide(line, row, column)))
-        }
-        CertFault::ReadFault => Err(ReadAll::ReadFault),
-        CertFault::TooLong => Err(ReadAll::TooLong),
-        CertFault::Memory => Err(ReadAll::Memory),
     }
 }
 

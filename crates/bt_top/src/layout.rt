@@ -8,12 +8,12 @@ ghost use Rattle.bt_layout.specs.Layouts.{IsLayout};
 ghost use Rattle.bt_grids.specs.declared.outcome.Layout.TheVariants.{Found};
 ghost use Rattle.bt_top.specs.LayingOut.{IsLaidOut, IsLaidOutFrom, IsLayoutTold};
 
-use crate::answer::{Answer, refused};
 use bt_cnf::Chooser;
 use bt_designs::read_lone_request;
 use bt_layout::{Layout, priorities_of};
 use bt_model::Request;
 use bt_parts::{Part, Rect, Tier};
+use bt_print::{Answer, refused};
 use bt_theory::GaveUp;
 use std::alloc::{AllocError, Global};
 

@@ -1,21 +1,20 @@
 //! What the front of an input tells of the answer of `check-layout`.
-ghost use Rattle.std.specs.Prelude.{◌≡◌, ◌+◌, ◌≤◌, ◌↔◌, ℕ, Bool, List, IsTrue, length};
+ghost use Rattle.std.specs.Prelude.{◌+◌, ◌≤◌, ℕ, Bool, List, length};
 ghost use Rattle.bt_model.specs.Requests.{IsGrid, IsRequest};
 ghost use Rattle.bt_designs.specs.declared.held.TheConstants.{MOST_CHECKED};
-ghost use Rattle.bt_top.specs.Answers.{none_word};
-ghost use Rattle.bt_top.specs.Replies.{UnlessLarge};
+ghost use Rattle.bt_print.specs.Replies.{UnlessLarge};
 ghost use Rattle.bt_top.specs.NoneCertificates.{IsLayoutChecked, IsNoneCertificateChecked, IsNoneTextChecked};
 ghost use Rattle.bt_designs.specs.Found.{pinned_of};
 ghost use Rattle.bt_designs.specs.Told.{TellsLine};
 ghost use Rattle.bt_top.specs.inner.Fronts.{GivesFront, GivesHeldFront};
 ghost use Rattle.bt_top.specs.inner.RequestParts.{IsRequestChecked};
 
-use crate::answer::Brief;
-use crate::front::{Front, Steps, known_refusal};
+use crate::front::{Front, WrittenSteps, known_refusal};
 use bt_designs::{DesignFault, Held, PinnedDesign, Refusal, request_for, told_line, told_pinned};
 use bt_model::Request;
 use bt_parts::{Rect, Tier};
 use bt_place::{encode_place, has_formula};
+use bt_print::{Brief, says_none};
 use bt_text::skip_blanks;
 use std::alloc::{AllocError, Global};
 
@@ -108,18 +107,11 @@ fn behind_title<'a>(
     if says_none(title) {
         let formula = encode_place(alloc, request)?;
         let accepted = Brief::NoLayout;
-        return Ok(Some(Front::Steps(Steps {
+        return Ok(Some(Front::Steps(WrittenSteps {
             formula,
             lines,
             accepted,
         })));
     }
     Ok(Some(Front::Known(Brief::CertLine(1))))
-}
-
-/// Whether the line says that there is no layout.
-fn says_none(line: &[u8]) -> bool
-    ensures { IsTrue result ↔ (line.now ≡ none_word) }
-{
-    line == b"none".as_slice()
 }

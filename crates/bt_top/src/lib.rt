@@ -4,10 +4,9 @@
 //! `layout`, `smallest`, `smallest_found`, `formula` and `same` find the answer to an input that is read whole. `blocks` finds that of
 //! `check`, `check-layout` and `check-same` as the input is gathered: by what is told of a design at its front,
 //! `flow_front`, `layout_front` and `same_front` give a `front`, and `front_answer` the answer that it tells, with
-//! `pair_check` of a pair of states. `text` and `printing` write answers.
+//! `pair_check` of a pair of states. `bt_print` has the answers, and writes them.
 #![tactic(auto)]
 
-mod answer;
 mod blocks;
 mod build;
 mod choosers;
@@ -22,19 +21,15 @@ mod input;
 mod law;
 mod layout;
 mod layout_front;
-mod made;
 mod make;
 mod pair_check;
-mod printing;
 mod program;
 mod recover;
 mod same;
 mod same_front;
 mod smallest;
 mod smallest_found;
-mod text;
 
-pub use answer::{Answer, Brief};
 pub use bt_designs::{MOST_CHECKED, Refusal};
 pub use choosers::Choosers;
 pub use input::{MOST_OF_DESIGN, MOST_OF_TWO};
@@ -43,6 +38,5 @@ pub use law::{
     laid_out_is_checked, least_is_checked, longer_is_read, none_is_accepted, numbers_are,
     one_right_answer,
 };
-pub use made::Made;
 pub use program::{NO_MEMORY, READ_FAULT, WRITE_FAULT, run};
 pub use std::alloc::AllocError as Memory;

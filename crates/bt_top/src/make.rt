@@ -4,17 +4,16 @@ ghost use Rattle.bt_text.specs.Answers.{UnlessMemory};
 ghost use Rattle.bt_gen.specs.Butterfly.{butterfly_net};
 ghost use Rattle.bt_gen.specs.Chain.{chain_net};
 ghost use Rattle.bt_gen.specs.Orders.{IsGenerated};
-ghost use Rattle.bt_top.specs.Making.{IsMade, IsBalanceDecided, IsSaidBalanced, balance_told, gen_told, made_of};
+ghost use Rattle.bt_top.specs.Making.{IsMade, IsBalanceDecided, IsSaidBalanced, balance_told, made_of};
+ghost use Rattle.bt_print.specs.Replies.{gen_told};
 ghost use Rattle.bt_designs.specs.Steps.{InTurn};
 
-use crate::answer::{Answer, Brief};
-use crate::made::Made;
 use bt_cnf::{Chooser, Limits};
 use bt_decide::{Verdict, decide};
-use bt_designs::Refusal;
 use bt_flow::Property;
-use bt_gen::{GenFault, MOST_IN_CHAIN, MOST_STAGES, butterfly, chain};
+use bt_gen::{MOST_IN_CHAIN, MOST_STAGES, butterfly, chain};
 use bt_net::Net;
+use bt_print::{Answer, Made, ungenerated};
 use bt_words::NetworkFamily;
 use std::alloc::{AllocError, Global};
 
@@ -58,16 +57,6 @@ fn chain_made(
     match chain(alloc, order) {
         Ok(net) => balance_of(alloc, order, limits, &net, choosers),
         Err(fault) => ungenerated(fault),
-    }
-}
-
-/// The answer where there is no network of the order.
-fn ungenerated(fault: GenFault) -> Result<Answer, AllocError>
-    ensures { result ≡ gen_told fault }
-{
-    match fault {
-        GenFault::Order(order) => Ok(Answer::Brief(Brief::Refused(Refusal::Order(order)))),
-        GenFault::Memory => Err(AllocError),
     }
 }
 

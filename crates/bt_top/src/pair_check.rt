@@ -5,9 +5,8 @@ ghost use Rattle.bt_flow.specs.States.{Fits};
 ghost use Rattle.bt_same.specs.Sameness.{HaveEqualEnds};
 ghost use Rattle.bt_top.specs.SameCertificates.{IsPairJudged, IsPairTextJudged};
 
-use crate::answer::{Answer, Brief};
-use crate::flow_check::unwritten;
 use bt_net::Net;
+use bt_print::{Answer, Brief, no_state};
 use bt_same::{Pair, PairJudgement, PairWide, differs, read_pair};
 use std::alloc::{AllocError, Global};
 
@@ -23,7 +22,7 @@ pub fn judge_pair_text(
 {
     match read_pair(alloc, first, second, text) {
         Ok(pair) => Ok(judge_pair(first, second, &pair)),
-        Err(fault) => unwritten(fault),
+        Err(fault) => no_state(fault),
     }
 }
 

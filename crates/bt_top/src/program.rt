@@ -1,18 +1,15 @@
 //! The program over a source and a sink: it reads its words and its input, and writes its answer.
 ghost use Rattle.std.specs.Prelude.{◌≡◌, ℕ, List, alloc_error, map, string_bytes};
 ghost use Rattle.bt_text.specs.Answers.{UnlessMemory};
-ghost use Rattle.bt_io.specs.Bytes.{WritesText};
 ghost use Rattle.bt_io.specs.Passages.{passage};
-ghost use Rattle.bt_top.specs.Answers.{status_of, text_of as answer_text};
+ghost use Rattle.bt_print.specs.Answers.{status_of};
 ghost use Rattle.bt_top.specs.Inputs.{IsUnread, ReadsNothing};
 ghost use Rattle.bt_top.specs.Answering.{IsRightTo};
 ghost use Rattle.bt_top.specs.Endings.{Ends, status_after};
 ghost use Rattle.bt_top.specs.inner.Claims.{IsReadWhole};
 ghost use Rattle.bt_top.specs.inner.Grids.{HasGrid};
-ghost use Rattle.bt_top.specs.inner.Lines.{formed_text};
 ghost use Rattle.bt_top.specs.inner.Telling.{IsAnswered, IsAnsweredTo, IsToldUnlessMemory};
 
-use crate::answer::Answer;
 use crate::blocks::claim_answer;
 use crate::build::build;
 use crate::choosers::Choosers;
@@ -23,17 +20,12 @@ use crate::formula::{flow_formula, place_formula};
 use crate::input::read_input;
 use crate::layout::layout;
 use crate::make::make;
-use crate::printing::{print_built, print_gave_up, print_made, print_proof, print_same};
 use crate::recover::recover;
 use crate::same::same;
 use crate::smallest::smallest;
 use crate::smallest_found::smallest_found;
-use crate::text::formed_of;
-use bt_flow::print_state;
-use bt_grids::print_none;
-use bt_io::{ReadAll, Sink, Source, WriteFault, write_all_of};
-use bt_print::{print, print_flow_formula, print_place_formula};
-use bt_same::print_pair;
+use bt_io::{ReadAll, Sink, Source, WriteFault};
+use bt_print::{Answer, formed_of, print_answer};
 use bt_words::{Command, command_of};
 use std::alloc::{AllocError, Global};
 
@@ -197,36 +189,6 @@ fn tell<K: Sink>(alloc: Global, answer: &Answer, sink: &mut K) -> u8
     match formed_of(alloc, answer) {
         Ok(formed) => status_after(answer.status(), print_answer(answer, &formed, sink)),
         Err(_) => NO_MEMORY,
-    }
-}
-
-/// Gives an answer's text to the sink, where this is what had to be formed of it.
-fn print_answer<K: Sink>(answer: &Answer, formed: &[u8], sink: &mut K) -> Result<(), WriteFault>
-    requires { formed.now ≡ formed_text answer.now }
-    ensures { WritesText (passage K.held K.faults sink.old sink.new) (answer_text answer.now) result }
-{
-    match answer {
-        Answer::Brief(_) => write_all_of(sink, formed),
-        Answer::LaidOut(..) => write_all_of(sink, formed),
-        Answer::Least(first, found, _) => bt_grids::print_smallest(*first, found, formed, sink),
-        Answer::Small(found, _) => bt_grids::print_small(found, formed, sink),
-        Answer::Usage => write_all_of(sink, b"usage\n"),
-        Answer::TooLong => write_all_of(sink, b"too long\n"),
-        Answer::NotFound => write_all_of(sink, b"not found\n"),
-        Answer::Recovered(net) => print(net, sink),
-        Answer::Proved(property, definitions, log) => {
-            print_proof(*property, definitions, log, sink)
-        }
-        Answer::Broken(property, state) => print_state(state, *property, sink),
-        Answer::GaveUp(cause) => print_gave_up(&[], cause, sink),
-        Answer::Undecided(definitions, cause) => print_gave_up(definitions, cause, sink),
-        Answer::Made(made) => print_made(made, sink),
-        Answer::Nowhere(log) => print_none(log, sink),
-        Answer::FlowFormula(columns, formula) => print_flow_formula(*columns, formula, sink),
-        Answer::PlaceFormula(starts, formula) => print_place_formula(*starts, formula, sink),
-        Answer::Same(definitions, log) => print_same(definitions, log, sink),
-        Answer::Differ(pair) => print_pair(pair, sink),
-        Answer::Built(net, text) => print_built(net, *text, sink),
     }
 }
 

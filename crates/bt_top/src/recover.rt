@@ -3,8 +3,8 @@ ghost use Rattle.std.specs.Prelude.{alloc_error};
 ghost use Rattle.bt_text.specs.Answers.{UnlessMemory};
 ghost use Rattle.bt_top.specs.Recovering.{IsRecoveredFrom};
 
-use crate::answer::{Answer, refused};
 use bt_designs::read_alone;
+use bt_print::{Answer, refused};
 use std::alloc::{AllocError, Global};
 
 /// The answer of `recover` to the bytes of its input.

@@ -4,11 +4,11 @@ ghost use Rattle.bt_text.specs.Answers.{UnlessMemory};
 ghost use Rattle.bt_same.specs.Sameness.{HaveEqualEnds};
 ghost use Rattle.bt_top.specs.Comparing.{IsCompared, IsComparedFrom, same_told};
 
-use crate::answer::{Answer, refused};
 use bt_cnf::{Chooser, Limits};
 use bt_decide::{SameVerdict, decide_same};
 use bt_designs::read_two;
 use bt_net::Net;
+use bt_print::{Answer, refused};
 use std::alloc::{AllocError, Global};
 
 /// The answer of `same` to the bytes of its input.

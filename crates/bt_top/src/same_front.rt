@@ -1,16 +1,16 @@
 //! What the front of an input tells of the answer of `check-same`.
-ghost use Rattle.std.specs.Prelude.{◌≡◌, ◌+◌, ◌≤◌, ◌↔◌, Bool, IsTrue, codes, length};
+ghost use Rattle.std.specs.Prelude.{◌+◌, ◌≤◌, Bool, length};
 ghost use Rattle.bt_same.specs.Sameness.{HaveEqualEnds};
 ghost use Rattle.bt_designs.specs.declared.held.TheConstants.{MOST_CHECKED};
 ghost use Rattle.bt_top.specs.SameCertificates.{IsSameCertified, IsSameCertificateChecked, IsSameTextChecked};
 ghost use Rattle.bt_designs.specs.Told.{TellsLine};
 ghost use Rattle.bt_top.specs.inner.Fronts.{GivesFront, GivesHeldFront};
-ghost use Rattle.bt_top.specs.inner.PairParts.{IsBehindFirstChecked, IsPairedChecked, IsSecondChecked};
+ghost use Rattle.bt_top.specs.inner.PairParts.{IsBehindFirstChecked, IsPairedChecked};
 
-use crate::answer::Brief;
-use crate::front::{Front, Steps, WrittenPair, known_refusal};
+use crate::front::{Front, WrittenPair, WrittenSteps, known_refusal};
 use bt_designs::{Held, paired, told_bare, told_line};
 use bt_net::Net;
+use bt_print::{Brief, says_differ, says_same};
 use bt_same::encode_same;
 use bt_text::skip_blanks;
 use std::alloc::{AllocError, Global};
@@ -116,7 +116,7 @@ fn behind_title<'a>(
     if says_same(title) {
         let formula = encode_same(alloc, &written.first, &written.second)?;
         let accepted = Brief::ShownSame;
-        return Ok(Some(Front::Steps(Steps {
+        return Ok(Some(Front::Steps(WrittenSteps {
             formula,
             lines,
             accepted,
@@ -126,18 +126,4 @@ fn behind_title<'a>(
         return Ok(Some(Front::Pair(written)));
     }
     Ok(Some(Front::Known(Brief::CertLine(1))))
-}
-
-/// Whether the line says that the networks behave the same.
-fn says_same(line: &[u8]) -> bool
-    ensures { IsTrue result ↔ (line.now ≡ codes "same") }
-{
-    line == b"same".as_slice()
-}
-
-/// Whether the line says that they don't.
-fn says_differ(line: &[u8]) -> bool
-    ensures { IsTrue result ↔ (line.now ≡ codes "differ") }
-{
-    line == b"differ".as_slice()
 }

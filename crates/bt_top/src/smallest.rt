@@ -8,15 +8,15 @@ ghost use Rattle.bt_grids.specs.Grids.{area_of};
 ghost use Rattle.bt_grids.specs.Asked.{NamesNoCells};
 ghost use Rattle.bt_layout.specs.Smallest.{IsSmallest};
 ghost use Rattle.bt_words.specs.Commands.{HasFewCells};
-ghost use Rattle.bt_top.specs.Replies.{UnlessLarge};
-ghost use Rattle.bt_top.specs.Searching.{IsFoundAgain, IsPreferred, IsSearched, IsSearchedFrom};
+ghost use Rattle.bt_print.specs.Replies.{UnlessLarge};
+ghost use Rattle.bt_top.specs.Searching.{IsLeastFoundAgain, IsLeastPreferred, IsSearched, IsSearchedFrom};
 
-use crate::answer::{Answer, refused};
 use bt_designs::{DesignFault, Refusal, read_sided_request};
 use bt_layout::{Smallest, priorities_on};
 use bt_model::Request;
 use bt_parts::{Priority, Rect, Tier};
 use bt_place::has_formula;
+use bt_print::{Answer, refused};
 use std::alloc::{AllocError, Global};
 
 /// The answer of `smallest` to the bytes of its input.
@@ -71,12 +71,12 @@ fn smallest_of(
     ensures { UnlessMemory alloc_error (IsSearched first learnt request.now) result }
 {
     let found = bt_layout::smallest(alloc, first, request, learnt)?;
-    let priorities = priorities_in(alloc, request, &found)?;
+    let priorities = priorities_of_least(alloc, request, &found)?;
     Ok(Answer::Least(first, found, priorities))
 }
 
 /// The priorities of the parts that a search for the least grid found.
-fn priorities_in(
+fn priorities_of_least(
     alloc: Global,
     request: &Request,
     found: &Smallest,
@@ -84,8 +84,8 @@ fn priorities_in(
     requires request { IsRequest request.now }
     requires cells { NamesNoCells request.now }
     requires found { (first : Option ARect) × (learnt : ℕ) × IsSmallest first request.now learnt found.now }
-    ensures { IfOk result (λ priorities. IsPreferred request.now found.now priorities.items
-        × IsFoundAgain found.now priorities.items) }
+    ensures { IfOk result (λ priorities. IsLeastPreferred request.now found.now priorities.items
+        × IsLeastFoundAgain found.now priorities.items) }
 {
     match found {
         Smallest::Found { grid, parts, .. } => priorities_on(alloc, request, *grid, parts),

@@ -1,18 +1,25 @@
 //! `smallest --found`: small grids on which parts that show a design's network are found.
 ghost use Rattle.std.specs.Prelude.{ℕ, IfOk, IfSome, Option, alloc_error};
-ghost use Rattle.bt_text.specs.Answers.{UnlessMemory};
+ghost use Rattle.bt_text.specs.Answers.{UnlessMemory, seen};
+ghost use Rattle.bt_designs.specs.Designs.{IsJsonText};
+ghost use Rattle.bt_designs.specs.Found.{blueprint_request_of};
+ghost use Rattle.bt_designs.specs.Kept.{AreDrawn};
 ghost use Rattle.bt_model.specs.Requests.{IsGrid, IsRequest};
 ghost use Rattle.bt_grids.specs.Asked.{NamesNoCells};
 ghost use Rattle.bt_layout.specs.Small.{IsSmall};
-ghost use Rattle.bt_top.specs.Finding.{IsDesignRequest, IsDrawnRequest, IsFound, IsFoundAgain, IsFoundFrom, IsOwn, IsPreferred, IsSmallFound, IsSmallTold};
+ghost use Rattle.bt_top.specs.Finding.{IsDesignRequest, IsDrawnRequest, IsSmallFoundAgain, IsFoundFrom, IsSmallPreferred, IsSmallFound, IsSmallTold};
+ghost use Rattle.bt_top.specs.inner.Asking.{IsDrawnAs, IsFoundBeside, asked_request};
 
-use crate::answer::{Answer, refused};
-use bt_designs::{DesignFault, is_json, read_kept_request, read_lone_request, read_sided_request};
-use bt_entities::parts_and_priorities;
+use bt_designs::{
+    BlueprintRequest, DesignFault, is_json, read_blueprint_request, read_kept_request,
+    read_sided_request,
+};
 use bt_grids::spanned;
 use bt_layout::{Small, find_small, priorities_on};
 use bt_model::{MOST_ACROSS, Request};
 use bt_parts::{Part, Priority, Rect, Tier};
+use bt_print::{Answer, refused};
+use bt_recover::Grid;
 use bt_words::{AskedSides, USUAL_ACROSS};
 use std::alloc::{AllocError, Global};
 
@@ -28,6 +35,14 @@ const USUAL_GRID: Rect = Rect {
     height: USUAL_ACROSS,
 };
 
+/// What is asked of a search: the request on the greatest grid, and the design's own parts on their cells, where it is
+/// laid out.
+#[derive(Drop)]
+pub struct Asked {
+    pub request: Request,
+    pub own: Option<Grid>,
+}
+
 /// The answer of `smallest --found` to the bytes of its input.
 pub fn smallest_found(
     alloc: Global,
@@ -40,63 +55,75 @@ pub fn smallest_found(
     requires { IfSome most IsGrid }
     ensures { UnlessMemory alloc_error (IsFoundFrom most tier sides learnt bytes.now) result }
 {
-    match read_design_request(alloc, sides, most, tier, bytes) {
-        Ok(request) => found_of(alloc, learnt, &request, bytes),
+    match read_asked(alloc, sides, most, tier, bytes) {
+        Ok(asked) => found_of(alloc, learnt, &asked),
         Err(fault) => refused(fault),
     }
 }
 
-/// The request for the network of the design that the bytes are, on the greatest grid, with the ends of a blueprint at
-/// these sides.
-fn read_design_request(
+/// What the design that the bytes are asks for on the greatest grid, with the ends of a blueprint at these sides. The bytes
+/// are read once.
+fn read_asked(
     alloc: Global,
     sides: AskedSides,
     most: Option<Rect>,
     tier: Option<Tier>,
     bytes: &[u8],
-) -> Result<Request, DesignFault>
+) -> Result<Asked, DesignFault>
     requires { IfSome most IsGrid }
-    ensures { UnlessMemory DesignFault.Memory (IsDesignRequest sides most tier bytes.now) result }
+    ensures request { UnlessMemory DesignFault.Memory (IsDesignRequest sides most tier bytes.now)
+        (seen asked_request result) }
+    ensures own { IfOk result (λ asked. IsDrawnAs bytes.now asked.own) }
 {
     if is_json(bytes) {
-        let greatest = most.unwrap_or(GREATEST_GRID);
-        read_drawn_request(alloc, sides, greatest, tier, bytes)
+        match read_drawn(alloc, sides, most.unwrap_or(GREATEST_GRID), tier, bytes) {
+            Ok(BlueprintRequest { request, grid }) => Ok(Asked {
+                request,
+                own: Some(grid),
+            }),
+            Err(fault) => Err(fault),
+        }
     } else {
-        let usual = most.unwrap_or(USUAL_GRID);
-        read_sided_request(alloc, usual, tier, bytes)
+        match read_sided_request(alloc, most.unwrap_or(USUAL_GRID), tier, bytes) {
+            Ok(request) => Ok(Asked { request, own: None }),
+            Err(fault) => Err(fault),
+        }
     }
 }
 
 /// The request for the blueprint that the bytes are, with its ends at these sides, and blanks behind it.
-fn read_drawn_request(
+fn read_drawn(
     alloc: Global,
     sides: AskedSides,
     rect: Rect,
     tier: Option<Tier>,
     bytes: &[u8],
-) -> Result<Request, DesignFault>
-    requires { IsGrid rect }
-    ensures { UnlessMemory DesignFault.Memory (IsDrawnRequest sides rect tier bytes.now) result }
+) -> Result<BlueprintRequest, DesignFault>
+    requires grid { IsGrid rect }
+    requires json { IsJsonText bytes.now }
+    ensures request { UnlessMemory DesignFault.Memory (IsDrawnRequest sides rect tier bytes.now)
+        (seen blueprint_request_of result) }
+    ensures drawn { IfOk result (λ found. AreDrawn bytes.now found.grid) }
 {
     match sides {
-        AskedSides::Any => read_lone_request(alloc, rect, tier, bytes),
+        AskedSides::Any => read_blueprint_request(alloc, rect, tier, bytes),
         AskedSides::Kept => read_kept_request(alloc, rect, tier, bytes),
     }
 }
 
-/// The answer to a request on the greatest grid, where the bytes are the design.
-fn found_of(
-    alloc: Global,
-    learnt: u64,
-    request: &Request,
-    bytes: &[u8],
-) -> Result<Answer, AllocError>
-    requires request { IsRequest request.now }
-    requires cells { NamesNoCells request.now }
-    ensures { UnlessMemory alloc_error (IsFound bytes.now learnt request.now) result }
+/// The answer to what is asked of a search.
+fn found_of(alloc: Global, learnt: u64, asked: &Asked) -> Result<Answer, AllocError>
+    requires request { IsRequest asked.now.request }
+    requires cells { NamesNoCells asked.now.request }
+    ensures { UnlessMemory alloc_error (IsFoundBeside asked.now.own learnt asked.now.request) result }
 {
-    let own = own_design(alloc, bytes)?;
-    small_of(alloc, learnt, request, own.cells, &own.parts)
+    match &asked.own {
+        Some(grid) => {
+            let parts = grid.parts();
+            small_of(alloc, learnt, &asked.request, Some(spanned(parts)), parts)
+        }
+        None => small_of(alloc, learnt, &asked.request, None, &[]),
+    }
 }
 
 /// The answer to a request on the greatest grid, where the number of cells of a design that is laid out is given, and its
@@ -126,12 +153,12 @@ fn small_told(alloc: Global, request: &Request, small: Small) -> Result<Answer, 
     requires small { (own : Option ℕ) × (learnt : ℕ) × IsSmall request.now own learnt small }
     ensures { UnlessMemory alloc_error (IsSmallTold request.now small) result }
 {
-    let priorities = priorities_in(alloc, request, &small)?;
+    let priorities = priorities_of_small(alloc, request, &small)?;
     Ok(Answer::Small(small, priorities))
 }
 
 /// The priorities of the parts that looking for small grids found.
-fn priorities_in(
+fn priorities_of_small(
     alloc: Global,
     request: &Request,
     small: &Small,
@@ -139,44 +166,11 @@ fn priorities_in(
     requires request { IsRequest request.now }
     requires cells { NamesNoCells request.now }
     requires small { (own : Option ℕ) × (learnt : ℕ) × IsSmall request.now own learnt small.now }
-    ensures { IfOk result (λ priorities. IsPreferred request.now small.now priorities.items
-        × IsFoundAgain small.now priorities.items) }
+    ensures { IfOk result (λ priorities. IsSmallPreferred request.now small.now priorities.items
+        × IsSmallFoundAgain small.now priorities.items) }
 {
     match small {
         Small::Found { grid, parts } => priorities_on(alloc, request, *grid, parts),
         Small::Spent(_) => Ok(Vec::new(alloc)),
-    }
-}
-
-/// What a search takes of a design.
-#[derive(Drop)]
-pub struct OwnDesign {
-    /// How many cells it has where it is laid out: those of the least rectangle that holds its parts.
-    pub cells: Option<u64>,
-    /// Its parts where it is laid out, from which a search may begin.
-    pub parts: Vec<Part>,
-}
-
-/// What a search takes of the design that the bytes are, which was read of them before.
-fn own_design(alloc: Global, bytes: &[u8]) -> Result<OwnDesign, AllocError>
-    ensures { IfOk result (λ own. IsOwn bytes.now own.cells) }
-{
-    if !is_json(bytes) {
-        return Ok(OwnDesign {
-            cells: None,
-            parts: Vec::new(alloc),
-        });
-    }
-    let Ok((tree, _)) = bt_json::read(alloc, bytes) else {
-        return Err(AllocError);
-    };
-    let read = parts_and_priorities(alloc, &tree);
-    drop(tree);
-    match read {
-        Ok(read) => Ok(OwnDesign {
-            cells: Some(spanned(&read.parts)),
-            parts: read.parts,
-        }),
-        Err(_) => Err(AllocError),
     }
 }

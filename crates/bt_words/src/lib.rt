@@ -11,12 +11,14 @@ mod given;
 mod grid;
 mod law;
 mod number;
+mod reading;
 mod verb;
 
 pub use argument::{MOST_LEARNT, MOST_ORDER, MOST_PIVOTS};
 pub use bt_cnf::Limits;
 pub use command::{
     AskedSides, BuiltText, Command, MOST_LINES, NetworkFamily, USUAL_ACROSS, USUAL_LEARNT,
-    USUAL_PIVOTS, command_of, one_command,
+    USUAL_PIVOTS,
 };
 pub use law::limits_are;
+pub use reading::{command_of, one_command};

@@ -7,7 +7,7 @@ use Rattle.bt_top.specs.declared.claim.CertificateClaim.{CertificateClaim}
 use Rattle.bt_top.specs.declared.claim.CertificateClaim.TheVariants.{Flow, NoLayout, Same}
 use Rattle.bt_top.specs.Certificates.{IsChecked}
 use Rattle.bt_top.specs.NoneCertificates.{IsLayoutChecked}
-use Rattle.bt_top.specs.Replies.{Reply}
+use Rattle.bt_print.specs.Replies.{Reply}
 use Rattle.bt_top.specs.SameCertificates.{IsSameCertified}
 
 -- what is answered to bytes of which the certificate is to show the claim

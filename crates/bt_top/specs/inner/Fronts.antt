@@ -6,25 +6,23 @@ use Rattle.bt_text.specs.Blanks.{IsBlank}
 use Rattle.bt_io.specs.Bytes.{ReadsAll}
 use Rattle.bt_io.specs.Passages.{Passage}
 use Rattle.bt_io.specs.declared.fault.ReadAll.{ReadAll}
-use Rattle.bt_io.specs.declared.fault.ReadAll.TheVariants.{ReadFault, TooLong, Memory}
 use Rattle.bt_cert.specs.Certificates.{IsCertRead}
 use Rattle.bt_cert.specs.declared.fault.CertFault.{CertFault}
-use Rattle.bt_cert.specs.declared.fault.CertFault.TheVariants as cert
 use Rattle.bt_same.specs.Sameness.{HaveEqualEnds}
-use Rattle.bt_top.specs.declared.answer.Answer.{Answer}
-use Rattle.bt_top.specs.declared.answer.Answer.TheVariants as answer
-use Rattle.bt_top.specs.declared.answer.Brief.{Brief}
-use Rattle.bt_top.specs.declared.answer.Brief.TheVariants as brief
+use Rattle.bt_print.specs.declared.answer.Answer.{Answer}
+use Rattle.bt_print.specs.declared.answer.Answer.TheVariants as answer
+use Rattle.bt_print.specs.declared.answer.Brief.{Brief}
+use Rattle.bt_print.specs.declared.answer.Brief.TheVariants as brief
 use Rattle.bt_designs.specs.declared.fault.DesignFault.{DesignFault}
 use Rattle.bt_designs.specs.declared.fault.DesignFault.TheVariants as design
 use Rattle.bt_top.specs.declared.front.Front.{Front}
 use Rattle.bt_top.specs.declared.front.Front.TheVariants as front
-use Rattle.bt_top.specs.declared.front.Steps.{Steps}
+use Rattle.bt_top.specs.declared.front.WrittenSteps.{WrittenSteps}
 use Rattle.bt_top.specs.declared.front.WrittenPair.{WrittenPair}
 use Rattle.bt_top.specs.declared.front.WrittenState.{WrittenState}
 use Rattle.bt_designs.specs.declared.held.Held.{Held}
 use Rattle.bt_top.specs.Certificates.{cert_told}
-use Rattle.bt_top.specs.Replies.{Reply}
+use Rattle.bt_print.specs.Replies.{Reply, steps_told}
 use Rattle.bt_top.specs.SameCertificates.{IsPairTextJudged}
 use Rattle.bt_top.specs.States.{IsStateJudged}
 use Rattle.bt_designs.specs.Told.{MayFollow}
@@ -43,7 +41,7 @@ steps_answer accepted (Ok done) = Ok (answer.Brief accepted)
 steps_answer accepted (Err fault) = cert_told fault
 
 -- what is answered to steps of which these lines were read, and more
-abbrev pub IsStepsReply : Steps → List ℕ → Reply → Type 0
+abbrev pub IsStepsReply : WrittenSteps → List ℕ → Reply → Type 0
 IsStepsReply steps more reply =
     (told : Result (Unit {0}) CertFault) × IsCertRead steps.formula (steps.lines.now ++ more) told × (reply ≡ steps_answer steps.accepted told)
 
@@ -97,16 +95,6 @@ ReadsRest ended limit source (Err fault) = ReadsAll limit source (Err fault)
 -- and it isn't told
 abbrev pub DrainsRest : Bool → ℕ → Passage → Result (Unit {0}) ReadAll → Type 0
 DrainsRest ended limit source result = (more : List ℕ) × ReadsRest ended limit source (seen (λ done. more) result)
-
--- why steps that are read from a source are no certificate, or why they could not be read
-abbrev pub steps_told : CertFault → Result Answer ReadAll
-steps_told (cert.CertLine k) = Ok (answer.Brief (brief.CertLine k))
-steps_told (cert.BadStep k cause) = Ok (answer.Brief (brief.BadStep k cause))
-steps_told cert.NoVerdict = Ok (answer.Brief brief.NoVerdict)
-steps_told (cert.CertWide k row column) = Ok (answer.Brief (brief.CertWide k row column))
-steps_told cert.ReadFault = Err ReadFault
-steps_told cert.TooLong = Err TooLong
-steps_told cert.Memory = Err Memory
 
 -- what is answered to steps that were judged so
 abbrev pub judged_answer : Brief → Result (Unit {0}) CertFault → Result Answer ReadAll

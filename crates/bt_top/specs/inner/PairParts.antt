@@ -3,7 +3,7 @@ use Rattle.std.specs.Prelude.{ℕ, List, drop}
 use Rattle.bt_text.specs.Blanks.{SkipsBlanks}
 use Rattle.bt_net.specs.Network.{Network}
 use Rattle.bt_designs.specs.Designs.{IsBareDesign}
-use Rattle.bt_top.specs.Replies.{Reply, design_told}
+use Rattle.bt_print.specs.Replies.{Reply, design_told}
 use Rattle.bt_top.specs.SameCertificates.{IsSameCertificateChecked}
 use Rattle.bt_designs.specs.Steps.{InTurn}
 use Rattle.bt_designs.specs.TwoDesigns.{IsPaired}

@@ -3,7 +3,7 @@ use Rattle.std.specs.Prelude.{ℕ, List, Option}
 use Rattle.bt_parts.specs.declared.part.Rect.{Rect}
 use Rattle.bt_parts.specs.declared.part.Tier.{Tier}
 use Rattle.bt_top.specs.NoneCertificates.{IsNoneCertificateChecked}
-use Rattle.bt_top.specs.Replies.{Reply, UnlessLarge, design_told}
+use Rattle.bt_print.specs.Replies.{Reply, UnlessLarge, design_told}
 use Rattle.bt_designs.specs.Requested.{PinnedNet, IsRequestFor}
 use Rattle.bt_designs.specs.Steps.{InTurn}
 

@@ -1,4 +1,4 @@
-use Rattle.bt_top.specs.declared.answer.Brief.TheVariants.{Breaks}
+use Rattle.bt_print.specs.declared.answer.Brief.TheVariants.{Breaks}
 use Rattle.bt_top.specs.States.{IsStateJudged, IsStateChecked}
 use Rattle.std.proofs.Common.{alloc_error}
 use Rattle.bt_designs.proofs.InTurns.{weaker}

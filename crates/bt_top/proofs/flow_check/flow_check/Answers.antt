@@ -2,7 +2,7 @@ use Rattle.std.proofs.Common.{refl, drop, subst, alloc_error}
 use Rattle.bt_text.specs.Answers.{UnlessMemory}
 use Rattle.bt_designs.specs.declared.fault.DesignFault.TheVariants.{Memory}
 use Rattle.bt_designs.specs.Designs.{IsDesign}
-use Rattle.bt_top.specs.Replies.{design_told}
+use Rattle.bt_print.specs.Replies.{design_told}
 use Rattle.bt_top.specs.States.{IsStateChecked}
 use Rattle.bt_designs.proofs.InTurns.{stops, went}
 use Rattle.bt_top.proofs.flow_check.flow_check.Goals as goal

@@ -1,6 +1,6 @@
 use Rattle.std.proofs.Common.{◌≡◌, ◌++◌, true, codes, refl}
 use Rattle.bt_flow.specs.Names.{property_name}
-use Rattle.bt_top.specs.declared.answer.Brief.TheVariants.{Yes}
+use Rattle.bt_print.specs.declared.answer.Brief.TheVariants.{Yes}
 use Rattle.bt_top.proofs.FlowFronts.{yes_is_front, state_is_front, other_is_front}
 use Rattle.bt_top.proofs.flow_front.behind_title.Goals as goal
 

@@ -2,7 +2,7 @@ use Rattle.std.proofs.Common.{◌≡◌, refl, alloc_error, Ok}
 use Rattle.bt_designs.specs.declared.fault.DesignFault.TheVariants.{Memory}
 use Rattle.bt_designs.specs.Alone.{IsLoneNet}
 use Rattle.bt_top.specs.Formulas.{flow_formula_told}
-use Rattle.bt_top.specs.Replies.{design_told}
+use Rattle.bt_print.specs.Replies.{design_told}
 use Rattle.bt_designs.proofs.InTurns.{stops, went}
 use Rattle.bt_top.proofs.formula.flow_formula.Goals as goal
 

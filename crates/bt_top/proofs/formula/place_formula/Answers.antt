@@ -1,7 +1,7 @@
 use Rattle.std.proofs.Common.{◌≡◌, refl, alloc_error, Ok}
 use Rattle.bt_designs.specs.declared.fault.DesignFault.TheVariants.{Memory}
 use Rattle.bt_top.specs.Formulas.{place_formula_told}
-use Rattle.bt_top.specs.Replies.{UnlessLarge, design_told}
+use Rattle.bt_print.specs.Replies.{UnlessLarge, design_told}
 use Rattle.bt_designs.specs.Requested.{IsLoneRequest}
 use Rattle.bt_designs.proofs.InTurns.{stops, went}
 use Rattle.bt_top.proofs.formula.place_formula.Goals as goal

@@ -1,6 +1,6 @@
 use Rattle.std.proofs.Common.{◌≡◌, Ok, inl, inr, refl, alloc_error}
 use Rattle.bt_top.specs.Formulas.{place_formula_told}
-use Rattle.bt_top.specs.Replies.{UnlessLarge}
+use Rattle.bt_print.specs.Replies.{UnlessLarge}
 use Rattle.bt_designs.proofs.InTurns.{weaker}
 use Rattle.bt_top.proofs.AskedOfAny.{has_formula_then, has_none_else}
 use Rattle.bt_top.proofs.formula.place_formula_unless_large.Goals as goal

@@ -1,6 +1,6 @@
 use Rattle.std.proofs.Common.{◌≡◌, Ok, subst, sym}
 use Rattle.bt_io.specs.Passages.{passage}
-use Rattle.bt_top.specs.declared.answer.Answer.TheVariants.{Brief}
+use Rattle.bt_print.specs.declared.answer.Answer.TheVariants.{Brief}
 use Rattle.bt_top.specs.inner.Fronts.{AnswersRest}
 use Rattle.bt_top.proofs.Fronts.{known_left}
 use Rattle.bt_top.proofs.front_answer.known_from.Goals as goal

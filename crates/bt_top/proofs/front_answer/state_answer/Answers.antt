@@ -1,5 +1,5 @@
 use Rattle.std.proofs.Common.{◌∙◌}
-use Rattle.bt_top.specs.declared.answer.Brief.TheVariants.{No}
+use Rattle.bt_print.specs.declared.answer.Brief.TheVariants.{No}
 use Rattle.bt_top.specs.States.{IsStateJudged}
 use Rattle.bt_top.proofs.Fronts.{text_answered}
 use Rattle.bt_top.proofs.front_answer.state_answer.Goals as goal

@@ -2,7 +2,7 @@ use Rattle.std.proofs.Common.{Err, refl, subst}
 use Rattle.bt_text.specs.Answers.{UnlessMemory}
 use Rattle.bt_designs.specs.declared.fault.DesignFault.TheVariants.{Memory, Refused}
 use Rattle.bt_top.specs.NoneCertificates.{IsNoneCertificateChecked}
-use Rattle.bt_top.specs.Replies.{UnlessLarge}
+use Rattle.bt_print.specs.Replies.{UnlessLarge}
 use Rattle.bt_designs.specs.Requested.{IsRequestFor}
 use Rattle.bt_designs.specs.Steps.{stopped, went_on}
 use Rattle.bt_designs.specs.Found.{pinned_of}

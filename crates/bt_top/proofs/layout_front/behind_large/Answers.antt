@@ -2,7 +2,7 @@ use Rattle.std.proofs.Common.{inl, inr, sym, ap}
 use Rattle.bt_designs.specs.declared.fault.DesignFault.TheVariants.{Refused}
 use Rattle.bt_designs.specs.declared.refusal.Refusal.TheVariants.{TooLarge}
 use Rattle.bt_top.specs.NoneCertificates.{IsNoneCertificateChecked}
-use Rattle.bt_top.specs.Replies.{UnlessLarge, design_told}
+use Rattle.bt_print.specs.Replies.{UnlessLarge, design_told}
 use Rattle.bt_top.proofs.AskedOfAny.{has_formula_then, has_none_else}
 use Rattle.bt_top.proofs.Fronts.{gives_weaker, tells_refusal}
 use Rattle.bt_top.proofs.layout_front.behind_large.Goals as goal

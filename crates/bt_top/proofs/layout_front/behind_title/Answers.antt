@@ -1,6 +1,6 @@
 use Rattle.std.proofs.Common.{◌≡◌, true, refl}
-use Rattle.bt_top.specs.declared.answer.Brief.TheVariants.{NoLayout}
-use Rattle.bt_top.specs.Answers.{none_word}
+use Rattle.bt_print.specs.declared.answer.Brief.TheVariants.{NoLayout}
+use Rattle.bt_print.specs.Answers.{none_word}
 use Rattle.bt_top.proofs.LayoutFronts.{none_is_front, other_is_front}
 use Rattle.bt_top.proofs.layout_front.behind_title.Goals as goal
 

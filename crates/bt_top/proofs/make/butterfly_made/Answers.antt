@@ -3,8 +3,9 @@ use Rattle.bt_gen.specs.declared.butterflies.TheConstants.{MOST_STAGES}
 use Rattle.bt_gen.specs.declared.fault.GenFault.TheVariants.{Memory}
 use Rattle.bt_gen.specs.Butterfly.{butterfly_net}
 use Rattle.bt_gen.specs.Orders.{IsGenerated}
-use Rattle.bt_top.specs.Making.{IsSaidBalanced, gen_told}
+use Rattle.bt_top.specs.Making.{IsSaidBalanced}
 use Rattle.bt_designs.proofs.InTurns.{stops, went}
+use Rattle.bt_print.specs.Replies.{gen_told}
 use Rattle.bt_top.proofs.make.butterfly_made.Goals as goal
 
 pub returns-in-Ok : goal.returns-in-Ok

@@ -3,8 +3,9 @@ use Rattle.bt_gen.specs.declared.chains.TheConstants.{MOST_IN_CHAIN}
 use Rattle.bt_gen.specs.declared.fault.GenFault.TheVariants.{Memory}
 use Rattle.bt_gen.specs.Chain.{chain_net}
 use Rattle.bt_gen.specs.Orders.{IsGenerated}
-use Rattle.bt_top.specs.Making.{IsBalanceDecided, gen_told}
+use Rattle.bt_top.specs.Making.{IsBalanceDecided}
 use Rattle.bt_designs.proofs.InTurns.{stops, went}
+use Rattle.bt_print.specs.Replies.{gen_told}
 use Rattle.bt_top.proofs.make.chain_made.Goals as goal
 
 pub returns-in-Ok : goal.returns-in-Ok

@@ -1,8 +1,8 @@
 use Rattle.std.proofs.Common.{◌≡◌, refl, alloc_error, Ok}
-use Rattle.bt_top.specs.declared.answer.Answer.TheVariants.{Recovered}
+use Rattle.bt_print.specs.declared.answer.Answer.TheVariants.{Recovered}
 use Rattle.bt_designs.specs.declared.fault.DesignFault.TheVariants.{Memory}
 use Rattle.bt_designs.specs.Alone.{IsLoneNet}
-use Rattle.bt_top.specs.Replies.{design_told}
+use Rattle.bt_print.specs.Replies.{design_told}
 use Rattle.bt_designs.specs.Steps.{went_on}
 use Rattle.bt_designs.proofs.InTurns.{stops}
 use Rattle.bt_top.proofs.recover.recover.Goals as goal

@@ -1,7 +1,7 @@
 use Rattle.std.proofs.Common.{refl, alloc_error}
 use Rattle.bt_designs.specs.declared.fault.DesignFault.TheVariants.{Memory}
 use Rattle.bt_top.specs.Comparing.{IsCompared}
-use Rattle.bt_top.specs.Replies.{design_told}
+use Rattle.bt_print.specs.Replies.{design_told}
 use Rattle.bt_designs.specs.TwoDesigns.{IsTwoNets}
 use Rattle.bt_designs.proofs.InTurns.{stops, went}
 use Rattle.bt_top.proofs.same.same.Goals as goal

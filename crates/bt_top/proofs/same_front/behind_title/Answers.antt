@@ -1,5 +1,5 @@
 use Rattle.std.proofs.Common.{◌≡◌, true, codes, refl}
-use Rattle.bt_top.specs.declared.answer.Brief.TheVariants.{ShownSame}
+use Rattle.bt_print.specs.declared.answer.Brief.TheVariants.{ShownSame}
 use Rattle.bt_top.proofs.SameFronts.{same_is_front, pair_is_front, other_is_front}
 use Rattle.bt_top.proofs.same_front.behind_title.Goals as goal
 

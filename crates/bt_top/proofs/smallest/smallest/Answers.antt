@@ -3,7 +3,7 @@ use Rattle.bt_designs.specs.declared.fault.DesignFault.TheVariants.{Memory}
 use Rattle.bt_parts.specs.declared.part.Rect.{Rect}
 use Rattle.bt_model.specs.declared.request.TheConstants.{MOST_CELLS}
 use Rattle.bt_grids.specs.Grids.{area_of}
-use Rattle.bt_top.specs.Replies.{UnlessLarge, design_told}
+use Rattle.bt_print.specs.Replies.{UnlessLarge, design_told}
 use Rattle.bt_designs.specs.Requested.{IsSidedRequest}
 use Rattle.bt_top.specs.Searching.{IsSearched}
 use Rattle.bt_designs.proofs.InTurns.{stops, went}

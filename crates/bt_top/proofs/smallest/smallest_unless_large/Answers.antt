@@ -1,5 +1,5 @@
 use Rattle.std.proofs.Common.{inl, inr, refl, alloc_error}
-use Rattle.bt_top.specs.Replies.{UnlessLarge}
+use Rattle.bt_print.specs.Replies.{UnlessLarge}
 use Rattle.bt_top.specs.Searching.{IsSearched}
 use Rattle.bt_designs.proofs.InTurns.{weaker}
 use Rattle.bt_top.proofs.AskedOfAny.{has_formula_then, has_none_else}

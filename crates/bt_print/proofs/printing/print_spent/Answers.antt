@@ -1,0 +1,22 @@
+use Rattle.std.proofs.Common.{◌++◌, ◌∙◌, length, ap}
+use Rattle.std.specs.Prelude.{codes, decimal}
+use Rattle.std.proofs.lemmas.Result.{err_from_is_err_and}
+use Rattle.bt_text.specs.Lines.{line}
+use Rattle.bt_io.specs.Passages.{passage}
+use Rattle.bt_io.proofs.Written.{writes_both, writes_no_more}
+use Rattle.bt_print.specs.Answers.{extended_log_text}
+use Rattle.bt_print.proofs.printing.print_spent.Goals as goal
+
+pub returns-in_err-write_pieces : goal.returns-in_err-write_pieces
+returns-in_err-write_pieces g c =
+    let p = err_from_is_err_and c.from_residual.result c.from_residual.ensures.1 in
+    let steps = c.args.log.now.steps in
+    rw p.1
+    (writes_no_more _ _ (passage g.K.Sink.held g.K.Sink.faults c.args.sink.now c.write_pieces.new.sink) (line (codes "spent " ++ decimal (length steps))) (extended_log_text c.args.definitions.now steps)
+    (rw (c.as_bytes.ensures.value ∙ c.format.ensures.text ∙ ap decimal c.len.ensures) at c.in_err-write_pieces.ensures))
+
+pub returns : goal.returns
+returns g c =
+    let steps = c.args.log.now.steps in
+    writes_both g.K.Sink.held g.K.Sink.faults c.args.sink.now c.write_pieces.new.sink c.print_extended_log.new.sink (line (codes "spent " ++ decimal (length steps))) (extended_log_text c.args.definitions.now steps) tt
+    c.print_extended_log.result (rw (c.as_bytes.ensures.value ∙ c.format.ensures.text ∙ ap decimal c.len.ensures) at c.in_ok-write_pieces.ensures) c.print_extended_log.ensures

@@ -1,5 +1,0 @@
-use Rattle.bt_words.proofs.OneCommand.{same_command}
-use Rattle.bt_words.proofs.command.one_command.Goals as goal
-
-pub returns : goal.returns
-returns c = same_command
