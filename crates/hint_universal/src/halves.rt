@@ -165,14 +165,14 @@ impl<'a> Halves<'a> {
 
     /// Whether each splitter of the last stage behind which an end lies prefers one.
     fn prefers_ends(&self) -> bool {
-        let mut last = self.last.iter();
-        last.all(|splitter| !self.has_end(*splitter) || self.prefers_end(*splitter))
+        self.last.iter().all(|splitter| self.has_no_end(*splitter) || self.prefers_end(*splitter))
     }
 
-    /// Whether an end lies behind a splitter.
-    fn has_end(&self, splitter: usize) -> bool {
-        let mut behind = self.behind(splitter).iter();
-        behind.any(|edge| self.end(*edge).is_some())
+    /// Whether no end lies behind a splitter.
+    fn has_no_end(&self, splitter: usize) -> bool {
+        self.behind(splitter)
+            .iter()
+            .all(|edge| self.end(*edge).is_none())
     }
 
     /// Whether a splitter prefers an end behind it.
