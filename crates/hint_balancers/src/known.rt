@@ -4,17 +4,17 @@
 /// Networks as texts, and in front of each the names of properties that it has, in the order of inputs, outputs and
 /// splitters.
 pub const KNOWN: &str = "\
-balanced,drawn-evenly,unlimited,full
+balanced,drawn-evenly,unlimited,full,fair,drawn-fairly
 net 1 1 0
 edge i0 o0
 end
-balanced,drawn-evenly,unlimited,full
+balanced,drawn-evenly,unlimited,full,fair,drawn-fairly
 net 1 2 1
 edge i0 s0
 edge s0 o0
 edge s0 o1
 end
-balanced,drawn-evenly,full
+balanced,drawn-evenly,full,drawn-fairly
 net 1 3 3
 edge i0 s0
 edge s0 s1
@@ -24,7 +24,7 @@ edge s1 o0
 edge s2 o1
 edge s2 o2
 end
-balanced,drawn-evenly,unlimited,full
+balanced,drawn-evenly,unlimited,full,drawn-fairly
 net 1 3 3
 edge i0 s0
 edge s0 s1
@@ -35,7 +35,7 @@ edge s2 o1
 edge s2 o2
 take s0 0
 end
-balanced,drawn-evenly,unlimited,full
+balanced,drawn-evenly,unlimited,full,drawn-fairly
 net 1 3 4
 edge i0 s0
 edge s0 s1
@@ -47,7 +47,29 @@ edge s2 s3
 edge s3 s1
 edge s3 s2
 end
-balanced,drawn-evenly,unlimited,full
+balanced,drawn-evenly,unlimited,full,fair,drawn-fairly
+net 1 3 8
+edge i0 s3
+edge s0 s2
+edge s0 o1
+edge s1 o2
+edge s2 s6
+edge s2 s4
+edge s3 s4
+edge s3 s6
+edge s4 s0
+edge s4 s5
+edge s5 s7
+edge s5 o0
+edge s6 s1
+edge s6 s3
+edge s7 s1
+edge s7 s0
+give s0 2
+give s5 11
+take s6 7
+end
+balanced,drawn-evenly,unlimited,full,drawn-fairly
 net 1 4 3
 edge i0 s0
 edge s1 o0
@@ -57,7 +79,7 @@ edge s2 o3
 edge s0 s1
 edge s0 s2
 end
-balanced,drawn-evenly,full
+balanced,drawn-evenly,full,drawn-fairly
 net 1 5 7
 edge i0 s0
 edge s0 s1
@@ -75,7 +97,7 @@ edge s5 s6
 edge s6 s1
 edge s6 s3
 end
-balanced,drawn-evenly,unlimited,full
+balanced,drawn-evenly,unlimited,full,drawn-fairly
 net 1 5 7
 edge i0 s0
 edge s0 s1
@@ -94,7 +116,7 @@ edge s6 s1
 edge s6 s3
 take s1 1
 end
-balanced,drawn-evenly,unlimited,full
+balanced,drawn-evenly,unlimited,full,drawn-fairly
 net 1 5 8
 edge i0 s0
 edge s0 s1
@@ -114,7 +136,7 @@ edge s6 s7
 edge s7 s3
 edge s7 s4
 end
-balanced,drawn-evenly,full
+balanced,drawn-evenly,full,drawn-fairly
 net 1 6 6
 edge i0 s0
 edge s0 s1
@@ -130,7 +152,7 @@ edge s4 o3
 edge s5 o4
 edge s5 o5
 end
-balanced,drawn-evenly,unlimited,full
+balanced,drawn-evenly,unlimited,full,drawn-fairly
 net 1 6 6
 edge i0 s0
 edge s0 s1
@@ -147,7 +169,7 @@ edge s5 o4
 edge s5 o5
 take s0 0
 end
-balanced,drawn-evenly,unlimited,full
+balanced,drawn-evenly,unlimited,full,drawn-fairly
 net 1 6 7
 edge i0 s0
 edge s0 s1
@@ -165,7 +187,7 @@ edge s5 o3
 edge s6 o4
 edge s6 o5
 end
-balanced,drawn-evenly,full
+balanced,drawn-evenly,full,drawn-fairly
 net 1 7 7
 edge i0 s0
 edge s0 s1
@@ -183,7 +205,7 @@ edge s5 o4
 edge s6 o5
 edge s6 o6
 end
-balanced,drawn-evenly,unlimited,full
+balanced,drawn-evenly,unlimited,full,drawn-fairly
 net 1 7 7
 edge i0 s0
 edge s0 s1
@@ -202,7 +224,7 @@ edge s6 o5
 edge s6 o6
 take s0 0
 end
-balanced,drawn-evenly,unlimited,full
+balanced,drawn-evenly,unlimited,full,drawn-fairly
 net 1 7 9
 edge i0 s0
 edge s0 s1
@@ -224,7 +246,7 @@ edge s7 s8
 edge s8 s3
 edge s8 s4
 end
-balanced,drawn-evenly,unlimited,full
+balanced,drawn-evenly,unlimited,full,drawn-fairly
 net 1 8 7
 edge i0 s0
 edge s0 s1
@@ -242,13 +264,13 @@ edge s5 o5
 edge s6 o6
 edge s6 o7
 end
-balanced,drawn-evenly,unlimited,full
+balanced,drawn-evenly,unlimited,full,fair,drawn-fairly
 net 2 1 1
 edge i0 s0
 edge i1 s0
 edge s0 o0
 end
-balanced,drawn-evenly,unlimited,full
+balanced,drawn-evenly,unlimited,full,fair,drawn-fairly
 net 2 2 1
 edge i0 s0
 edge i1 s0
@@ -268,7 +290,7 @@ edge s2 o0
 edge s3 o1
 edge s3 o2
 end
-balanced,drawn-evenly,full
+balanced,drawn-evenly,full,drawn-fairly
 net 2 3 4
 edge i0 s0
 edge i1 s0
@@ -281,7 +303,7 @@ edge s2 s3
 edge s3 s1
 edge s3 s2
 end
-balanced,drawn-evenly,unlimited,full
+balanced,drawn-evenly,unlimited,full,drawn-fairly
 net 2 3 4
 edge i0 s0
 edge i1 s0
@@ -311,7 +333,7 @@ edge s3 o2
 edge s4 s2
 edge s4 s3
 end
-balanced,drawn-evenly,unlimited,full
+balanced,drawn-evenly,unlimited,full,drawn-fairly
 net 2 3 6
 edge i0 s0
 edge i1 s1
@@ -328,7 +350,35 @@ edge s4 o2
 edge s5 s0
 edge s5 s1
 end
-balanced,drawn-evenly,full
+balanced,drawn-evenly,unlimited,full,fair,drawn-fairly
+net 2 3 10
+edge i0 s4
+edge i1 s5
+edge s0 s9
+edge s0 s8
+edge s1 s5
+edge s1 o1
+edge s2 o0
+edge s3 s4
+edge s3 o2
+edge s4 s7
+edge s4 s6
+edge s5 s7
+edge s5 s6
+edge s6 s3
+edge s6 s1
+edge s7 s0
+edge s7 s2
+edge s8 s0
+edge s8 s2
+edge s9 s1
+edge s9 s3
+take s4 0
+take s5 1
+give s1 5
+give s3 8
+end
+balanced,drawn-evenly,full,drawn-fairly
 net 2 4 3
 edge i0 s0
 edge i1 s0
@@ -339,7 +389,7 @@ edge s2 o3
 edge s0 s1
 edge s0 s2
 end
-balanced,drawn-evenly,unlimited,full
+balanced,drawn-evenly,unlimited,full,drawn-fairly
 net 2 4 4
 edge i0 s0
 edge i1 s1
@@ -371,7 +421,7 @@ edge s5 o2
 edge s6 o3
 edge s6 o4
 end
-balanced,drawn-evenly,full
+balanced,drawn-evenly,full,drawn-fairly
 net 2 5 7
 edge i0 s0
 edge i1 s0
@@ -390,7 +440,7 @@ edge s5 s6
 edge s6 s1
 edge s6 s3
 end
-balanced,drawn-evenly,unlimited,full
+balanced,drawn-evenly,unlimited,full,drawn-fairly
 net 2 5 15
 edge i0 s0
 edge i1 s1
@@ -425,7 +475,7 @@ edge s13 o3
 edge s14 o4
 edge s14 s4
 end
-balanced,drawn-evenly,full
+balanced,drawn-evenly,full,drawn-fairly
 net 2 6 7
 edge i0 s0
 edge i1 s0
@@ -444,7 +494,7 @@ edge s5 o3
 edge s6 o4
 edge s6 o5
 end
-balanced,drawn-evenly,unlimited,full
+balanced,drawn-evenly,unlimited,full,drawn-fairly
 net 2 6 11
 edge i0 s0
 edge i1 s1
@@ -471,7 +521,7 @@ edge s5 o3
 edge s6 o4
 edge s6 o5
 end
-balanced,drawn-evenly,full
+balanced,drawn-evenly,full,drawn-fairly
 net 2 7 8
 edge i0 s0
 edge i1 s0
@@ -492,7 +542,7 @@ edge s6 s7
 edge s7 s1
 edge s7 s2
 end
-balanced,drawn-evenly,unlimited,full
+balanced,drawn-evenly,unlimited,full,drawn-fairly
 net 2 7 14
 edge i0 s0
 edge i1 s0
@@ -525,7 +575,7 @@ edge s10 o5
 edge s11 o6
 edge s11 s3
 end
-balanced,drawn-evenly,full
+balanced,drawn-evenly,full,drawn-fairly
 net 2 8 7
 edge i0 s0
 edge i1 s0
@@ -544,7 +594,7 @@ edge s5 o5
 edge s6 o6
 edge s6 o7
 end
-balanced,drawn-evenly,unlimited,full
+balanced,drawn-evenly,unlimited,full,drawn-fairly
 net 2 8 10
 edge i0 s0
 edge i1 s1
@@ -569,7 +619,7 @@ edge s8 o5
 edge s9 o6
 edge s9 o7
 end
-balanced,unlimited,full
+balanced,unlimited,full,fair
 net 3 1 2
 edge i0 s0
 edge i1 s0
@@ -577,7 +627,7 @@ edge i2 s1
 edge s0 s1
 edge s1 o0
 end
-balanced,drawn-evenly,full
+balanced,drawn-evenly,full,fair
 net 3 1 3
 edge i0 s0
 edge i1 s1
@@ -587,7 +637,7 @@ edge s0 s2
 edge s1 s2
 edge s2 s0
 end
-balanced,drawn-evenly,unlimited,full
+balanced,drawn-evenly,unlimited,full,fair
 net 3 1 4
 edge i0 s0
 edge i1 s0
@@ -599,7 +649,29 @@ edge s3 s1
 edge s0 s3
 edge s1 s3
 end
-balanced,full
+balanced,drawn-evenly,unlimited,full,fair,drawn-fairly
+net 3 1 8
+edge s3 o0
+edge s2 s0
+edge i1 s0
+edge i2 s1
+edge s6 s2
+edge s4 s2
+edge s4 s3
+edge s6 s3
+edge s0 s4
+edge s5 s4
+edge s7 s5
+edge i0 s5
+edge s1 s6
+edge s3 s6
+edge s1 s7
+edge s0 s7
+give s6 7
+take s0 2
+take s5 11
+end
+balanced,full,fair
 net 3 2 2
 edge i0 s0
 edge i1 s0
@@ -608,7 +680,7 @@ edge s0 s1
 edge s1 o0
 edge s1 o1
 end
-balanced,drawn-evenly,full
+balanced,drawn-evenly,full,fair
 net 3 2 4
 edge i0 s0
 edge i1 s0
@@ -621,7 +693,7 @@ edge s3 s1
 edge s0 s3
 edge s1 s3
 end
-balanced,unlimited,full
+balanced,unlimited,full,fair
 net 3 2 4
 edge i0 s0
 edge i1 s0
@@ -633,7 +705,7 @@ edge s1 s3
 edge s2 o0
 edge s3 o1
 end
-balanced,drawn-evenly,unlimited,full
+balanced,drawn-evenly,unlimited,full,fair
 net 3 2 6
 edge i0 s0
 edge i1 s1
@@ -649,6 +721,34 @@ edge s1 s4
 edge s5 s4
 edge s2 s5
 edge s3 s5
+end
+balanced,drawn-evenly,unlimited,full,fair,drawn-fairly
+net 3 2 10
+edge s4 o0
+edge s5 o1
+edge s9 s0
+edge s8 s0
+edge s5 s1
+edge i1 s1
+edge i0 s2
+edge s4 s3
+edge i2 s3
+edge s7 s4
+edge s6 s4
+edge s7 s5
+edge s6 s5
+edge s3 s6
+edge s1 s6
+edge s0 s7
+edge s2 s7
+edge s0 s8
+edge s2 s8
+edge s1 s9
+edge s3 s9
+give s4 0
+give s5 1
+take s1 5
+take s3 8
 end
 balanced,drawn-evenly,full
 net 3 3 4
@@ -681,6 +781,37 @@ edge s4 s3
 edge s4 o0
 edge s5 o1
 edge s5 o2
+end
+balanced,drawn-evenly,unlimited,full,fair,drawn-fairly
+net 3 3 11
+edge i0 s4
+edge i1 s5
+edge i2 s6
+edge s0 s10
+edge s0 s9
+edge s1 s6
+edge s1 o1
+edge s2 o0
+edge s3 o2
+edge s3 s5
+edge s4 s10
+edge s4 s9
+edge s5 s8
+edge s5 s7
+edge s6 s8
+edge s6 s7
+edge s7 s3
+edge s7 s1
+edge s8 s0
+edge s8 s2
+edge s9 s0
+edge s9 s2
+edge s10 s1
+edge s10 s3
+give s1 6
+give s3 8
+take s5 1
+take s6 2
 end
 balanced,full
 net 3 4 4
@@ -1158,7 +1289,7 @@ edge s15 o5
 edge s16 o6
 edge s16 o7
 end
-balanced,unlimited,full
+balanced,unlimited,full,fair
 net 4 1 3
 edge i0 s0
 edge i1 s0
@@ -1168,7 +1299,7 @@ edge s0 s1
 edge s1 s2
 edge s2 o0
 end
-balanced,drawn-evenly,unlimited,full
+balanced,drawn-evenly,unlimited,full,fair
 net 4 1 3
 edge i0 s0
 edge i1 s0
@@ -1178,7 +1309,7 @@ edge s0 s2
 edge s1 s2
 edge s2 o0
 end
-balanced,full
+balanced,full,fair
 net 4 2 3
 edge i0 s0
 edge i1 s0
@@ -1189,7 +1320,7 @@ edge s1 o0
 edge s1 o1
 edge s2 s1
 end
-balanced,drawn-evenly,full
+balanced,drawn-evenly,full,fair
 net 4 2 3
 edge i0 s0
 edge i1 s0
@@ -1200,7 +1331,7 @@ edge s1 s2
 edge s2 o0
 edge s2 o1
 end
-balanced,drawn-evenly,unlimited,full
+balanced,drawn-evenly,unlimited,full,fair
 net 4 2 4
 edge i0 s0
 edge i1 s0
@@ -1821,7 +1952,7 @@ edge s10 o5
 edge s11 o6
 edge s11 o7
 end
-balanced,unlimited,full
+balanced,unlimited,full,fair
 net 5 1 4
 edge i0 s0
 edge i1 s0
@@ -1833,7 +1964,7 @@ edge s1 s2
 edge s2 s3
 edge s3 o0
 end
-balanced,drawn-evenly,full
+balanced,drawn-evenly,full,fair
 net 5 1 7
 edge i0 s0
 edge i1 s0
@@ -1851,7 +1982,7 @@ edge s6 s2
 edge s4 s6
 edge s0 s6
 end
-balanced,drawn-evenly,unlimited,full
+balanced,drawn-evenly,unlimited,full,fair
 net 5 1 8
 edge i0 s0
 edge i1 s1
@@ -1871,7 +2002,7 @@ edge s7 s6
 edge s0 s7
 edge s1 s7
 end
-balanced,full
+balanced,full,fair
 net 5 2 4
 edge i0 s0
 edge i1 s0
@@ -1884,7 +2015,7 @@ edge s1 o1
 edge s2 s3
 edge s3 s1
 end
-balanced,drawn-evenly,full
+balanced,drawn-evenly,full,fair
 net 5 2 7
 edge i0 s0
 edge i1 s0
@@ -1903,7 +2034,7 @@ edge s6 s2
 edge s4 s6
 edge s0 s6
 end
-balanced,unlimited,full
+balanced,unlimited,full,fair
 net 5 2 7
 edge i0 s0
 edge i1 s0
@@ -1921,7 +2052,7 @@ edge s6 o1
 edge s2 s6
 edge s2 s4
 end
-balanced,drawn-evenly,unlimited,full
+balanced,drawn-evenly,unlimited,full,fair
 net 5 2 15
 edge i0 s0
 edge i1 s1
@@ -2877,7 +3008,7 @@ edge s29 o5
 edge s30 o6
 edge s30 o7
 end
-balanced,unlimited,full
+balanced,unlimited,full,fair
 net 6 1 5
 edge i0 s0
 edge i1 s0
@@ -2891,7 +3022,7 @@ edge s2 s3
 edge s3 s4
 edge s4 o0
 end
-balanced,drawn-evenly,full
+balanced,drawn-evenly,full,fair
 net 6 1 6
 edge i0 s0
 edge i1 s0
@@ -2907,7 +3038,7 @@ edge s0 s4
 edge s1 s5
 edge s2 s5
 end
-balanced,drawn-evenly,unlimited,full
+balanced,drawn-evenly,unlimited,full,fair
 net 6 1 7
 edge i0 s0
 edge i1 s0
@@ -2925,7 +3056,7 @@ edge s2 s5
 edge s4 s6
 edge s5 s6
 end
-balanced,full
+balanced,full,fair
 net 6 2 5
 edge i0 s0
 edge i1 s0
@@ -2940,7 +3071,7 @@ edge s2 s3
 edge s3 s4
 edge s4 s1
 end
-balanced,drawn-evenly,full
+balanced,drawn-evenly,full,fair
 net 6 2 7
 edge i0 s0
 edge i1 s0
@@ -2959,7 +3090,7 @@ edge s2 s5
 edge s4 s6
 edge s5 s6
 end
-balanced,unlimited,full
+balanced,unlimited,full,fair
 net 6 2 7
 edge i0 s0
 edge i1 s0
@@ -2978,7 +3109,7 @@ edge s6 o1
 edge s2 s6
 edge s2 s4
 end
-balanced,drawn-evenly,unlimited,full
+balanced,drawn-evenly,unlimited,full,fair
 net 6 2 11
 edge i0 s0
 edge i1 s0
@@ -3865,7 +3996,7 @@ edge s28 o5
 edge s29 o6
 edge s29 o7
 end
-balanced,unlimited,full
+balanced,unlimited,full,fair
 net 7 1 6
 edge i0 s0
 edge i1 s0
@@ -3881,7 +4012,7 @@ edge s0 s5
 edge s1 s5
 edge s2 s3
 end
-balanced,drawn-evenly,full
+balanced,drawn-evenly,full,fair
 net 7 1 7
 edge i0 s0
 edge i1 s1
@@ -3899,7 +4030,7 @@ edge s2 s6
 edge s3 s6
 edge s4 s0
 end
-balanced,drawn-evenly,unlimited,full
+balanced,drawn-evenly,unlimited,full,fair
 net 7 1 9
 edge i0 s0
 edge i1 s0
@@ -3921,7 +4052,7 @@ edge s8 s7
 edge s0 s8
 edge s1 s8
 end
-balanced,full
+balanced,full,fair
 net 7 2 6
 edge i0 s0
 edge i1 s0
@@ -3938,7 +4069,7 @@ edge s0 s5
 edge s1 s5
 edge s2 s3
 end
-balanced,drawn-evenly,full
+balanced,drawn-evenly,full,fair
 net 7 2 8
 edge i0 s0
 edge i1 s0
@@ -3959,7 +4090,7 @@ edge s7 s3
 edge s5 s7
 edge s6 s7
 end
-balanced,unlimited,full
+balanced,unlimited,full,fair
 net 7 2 10
 edge i0 s0
 edge i1 s0
@@ -3983,7 +4114,7 @@ edge s3 s9
 edge s5 o0
 edge s8 o1
 end
-balanced,drawn-evenly,unlimited,full
+balanced,drawn-evenly,unlimited,full,fair
 net 7 2 14
 edge i0 s0
 edge i1 s0
@@ -4857,7 +4988,7 @@ edge s31 o5
 edge s32 o6
 edge s32 o7
 end
-balanced,drawn-evenly,unlimited,full
+balanced,drawn-evenly,unlimited,full,fair
 net 8 1 7
 edge i0 s0
 edge i1 s0
@@ -4875,7 +5006,7 @@ edge s1 s5
 edge s2 s6
 edge s3 s6
 end
-balanced,drawn-evenly,full
+balanced,drawn-evenly,full,fair
 net 8 2 7
 edge i0 s0
 edge i1 s0
@@ -4894,7 +5025,7 @@ edge s1 s5
 edge s2 s6
 edge s3 s6
 end
-balanced,drawn-evenly,unlimited,full
+balanced,drawn-evenly,unlimited,full,fair
 net 8 2 10
 edge i0 s0
 edge i1 s0

@@ -7,7 +7,7 @@ use crate::pruning::{Doubled, prune};
 use crate::reading::{net_of, net_preferring_ends};
 use crate::stages::{benes, butterfly};
 use crate::tabled::{MOST_TABLED, push_tabled, tabled};
-use crate::universal::{MOST_UNIVERSAL, universal};
+use crate::universal::universal;
 use bt_gen::Wish;
 use bt_net::Net;
 use std::alloc::{AllocError, Global};
@@ -25,16 +25,6 @@ const EVEN: Wish = Wish {
     drawn_evenly: true,
     unlimited: false,
     full: true,
-    fair: false,
-    drawn_fairly: false,
-};
-
-/// What every network of the table has.
-const NOTHING: Wish = Wish {
-    balanced: false,
-    drawn_evenly: false,
-    unlimited: false,
-    full: false,
     fair: false,
     drawn_fairly: false,
 };
@@ -61,6 +51,7 @@ pub fn candidates(
         push_block(&mut nets, alloc, brought_to(alloc, inputs, outputs)?)?;
     }
     if asks_fairness(wish) {
+        push_tabled(&mut nets, alloc, wish, inputs, outputs)?;
         push_universal(&mut nets, alloc, inputs, outputs)?;
     } else if inputs <= MOST_TABLED && outputs <= MOST_TABLED {
         push_tabled(&mut nets, alloc, wish, inputs, outputs)?;
@@ -81,16 +72,14 @@ fn asks_fairness(wish: Wish) -> bool {
     wish.fair || wish.drawn_fairly
 }
 
-/// Adds the universal network of which as many ends are left as are wanted, and that of one splitter.
+/// Adds the universal network of which as many ends are left as are wanted.
 fn push_universal(
     nets: &mut Vec<Net>,
     alloc: Global,
     inputs: u32,
     outputs: u32,
 ) -> Result<(), AllocError> {
-    push_tabled(nets, alloc, NOTHING, inputs, outputs)?;
-    let size = power_from(inputs.max(outputs));
-    let whole = universal(alloc, size.min(MOST_UNIVERSAL))?;
+    let whole = universal(alloc, power_from(inputs.max(outputs)))?;
     let few_in = with_inputs(alloc, &whole, inputs)?;
     let turned_round = mirrored(alloc, &few_in)?;
     let few_both = with_inputs(alloc, &turned_round, outputs)?;

@@ -5,12 +5,12 @@ use bt_net::Start;
 use std::alloc::{AllocError, Global};
 
 /// How far the lines of a splitter lie apart, stage by stage.
-const APART: [usize; 6] = [1, 2, 4, 8, 16, 32];
+const APART: [usize; 7] = [1, 2, 4, 8, 16, 32, 64];
 
 /// How far the lines of a splitter lie apart in a butterfly that goes on backward.
 const BACKWARD: [usize; 6] = [32, 16, 8, 4, 2, 1];
 
-/// The butterfly of this many lines, which are a power of two, 64 at most.
+/// The butterfly of this many lines, which are a power of two, 128 at most.
 pub fn butterfly(alloc: Global, lines: u32) -> Result<Block, AllocError> {
     let mut block = Block::new(alloc, lines, 0);
     let mut ends = inputs_of(alloc, lines)?;

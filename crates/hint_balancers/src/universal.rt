@@ -7,11 +7,8 @@ use crate::stages::butterfly;
 use bt_net::{Start, Target};
 use std::alloc::{AllocError, Global};
 
-/// The most lines of a universal network.
-pub const MOST_UNIVERSAL: u32 = 32;
-
-/// The universal network of this many lines, which are a power of two, `MOST_UNIVERSAL` at most: of each two ends of a
-/// splitter the second output is led back to the second input.
+/// The universal network of this many lines, which are a power of two, 64 at most: of each two ends of a splitter the
+/// second output is led back to the second input.
 pub fn universal(alloc: Global, lines: u32) -> Result<Block, AllocError> {
     let whole = butterfly(alloc, lines.saturating_mul(2))?;
     let mut block = Block::new(alloc, lines, lines);

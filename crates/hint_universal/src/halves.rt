@@ -30,27 +30,46 @@ pub struct Halves<'a> {
     pub share: Vec<Term>,
 }
 
-/// For each edge whether it leads from one splitter to another beside an edge that is given first, or taken first.
-pub fn spare_edges(alloc: Global, graph: &Graph, by_gives: bool) -> Result<Vec<bool>, AllocError> {
+/// Which edges that lead from one splitter to another are cut.
+#[derive(Clone, Copy)]
+pub enum Spare {
+    /// Those beside an edge that is given first.
+    BesideGiven,
+    /// Those beside an edge that is taken first.
+    BesideTaken,
+    /// Both of these, and those that are alone at both of their splitters: there the ends are left out that the splitters
+    /// would prefer. Such an end carries nothing, as one that is blocked or has no load.
+    BesideAny,
+}
+
+/// For each edge whether it is cut.
+pub fn spare_edges(alloc: Global, graph: &Graph, spare: Spare) -> Result<Vec<bool>, AllocError> {
     let mut cut = Vec::new(alloc);
     for edge in 0..graph.edges() {
-        cut.push(is_spare(graph, edge, by_gives))?;
+        cut.push(is_spare(graph, edge, spare))?;
     }
     Ok(cut)
 }
 
-/// Whether an edge leads from one splitter to another beside one that is given first, or taken first.
-fn is_spare(graph: &Graph, edge: usize, by_gives: bool) -> bool {
+/// Whether an edge leads from one splitter to another and is cut.
+fn is_spare(graph: &Graph, edge: usize, spare: Spare) -> bool {
     let (Some(start), Some(target)) = (graph.start(edge), graph.target(edge)) else {
         return false;
     };
-    let first = if by_gives {
-        graph.net.give(start)
-    } else {
-        graph.net.take(target)
-    };
-    match first {
-        Some(first) => first != edge,
+    let is_beside_given = is_other(graph.net.give(start), edge);
+    let is_beside_taken = is_other(graph.net.take(target), edge);
+    let is_alone = graph.outs(start).len() == 1 && graph.ins(target).len() == 1;
+    match spare {
+        Spare::BesideGiven => is_beside_given,
+        Spare::BesideTaken => is_beside_taken,
+        Spare::BesideAny => is_beside_given || is_beside_taken || is_alone,
+    }
+}
+
+/// Whether an edge is preferred, and it is another one.
+fn is_other(preferred: Option<usize>, edge: usize) -> bool {
+    match preferred {
+        Some(preferred) => preferred != edge,
         None => false,
     }
 }
@@ -89,7 +108,7 @@ fn no_means(alloc: Global, count: usize) -> Result<Vec<Vec<Term>>, AllocError> {
 
 impl<'a> Halves<'a> {
     /// A network seen from one side, where these edges are cut. Columns that are defined begin with this one. None where not
-    /// all that begins is dealt evenly to the splitters of the last stage, or one of these prefers no end.
+    /// all that begins is dealt evenly to the splitters of the last stage, or one of these prefers no end of those behind it.
     pub fn of(
         alloc: Global,
         graph: &'a Graph<'a>,
@@ -144,9 +163,16 @@ impl<'a> Halves<'a> {
         self.graph.end(edge, !self.from_outputs)
     }
 
-    /// Whether each splitter of the last stage prefers an end behind it.
+    /// Whether each splitter of the last stage behind which an end lies prefers one.
     fn prefers_ends(&self) -> bool {
-        self.last.iter().all(|splitter| self.prefers_end(*splitter))
+        self.last.iter().all(|splitter| self.has_no_end(*splitter) || self.prefers_end(*splitter))
+    }
+
+    /// Whether no end lies behind a splitter.
+    fn has_no_end(&self, splitter: usize) -> bool {
+        self.behind(splitter)
+            .iter()
+            .all(|edge| self.end(*edge).is_none())
     }
 
     /// Whether a splitter prefers an end behind it.

@@ -8,7 +8,7 @@
 //! image. Of the flows through the network it follows that where an output is short each edge that leads back is free, and
 //! where an input is short each is backed.
 use crate::dealing::{Base, Dealing, NOTHING_TO_SHOW};
-use crate::halves::{Halves, spare_edges};
+use crate::halves::{Halves, Spare, spare_edges};
 use crate::sharing::{Sharing, negated};
 use bt_cnf::{Formula, Lit};
 use bt_extend::NamedLit;
@@ -22,6 +22,9 @@ use std::alloc::{AllocError, Global};
 /// Of fewer splitters than this nothing is defined: the logs are shorter so.
 const LEAST_SPLITTERS: u32 = 8;
 
+/// Which edges are cut, by what is tried first.
+const SPARES: [Spare; 3] = [Spare::BesideGiven, Spare::BesideTaken, Spare::BesideAny];
+
 /// Adds the argument that the outputs, or the inputs, share fairly, and tells whether there is one.
 pub fn add_fair(
     alloc: Global,
@@ -31,8 +34,8 @@ pub fn add_fair(
     of_inputs: bool,
 ) -> Result<bool, AllocError> {
     let graph = Graph::of(alloc, net)?;
-    for by_gives in [true, false] {
-        let cut = spares_of(alloc, &graph, by_gives)?;
+    for spare in SPARES {
+        let cut = spares_of(alloc, &graph, spare)?;
         if add_fair_by(alloc, &graph, &cut, formula, line, of_inputs)? {
             return Ok(true);
         }
@@ -49,8 +52,8 @@ pub fn add_even(
     of_inputs: bool,
 ) -> Result<bool, AllocError> {
     let graph = Graph::of(alloc, net)?;
-    for by_gives in [true, false] {
-        let cut = spares_of(alloc, &graph, by_gives)?;
+    for spare in SPARES {
+        let cut = spares_of(alloc, &graph, spare)?;
         if add_even_by(alloc, &graph, &cut, formula, line, of_inputs)? {
             return Ok(true);
         }
@@ -66,8 +69,8 @@ pub fn add_through(
     line: &mut Line,
 ) -> Result<bool, AllocError> {
     let graph = Graph::of(alloc, net)?;
-    for by_gives in [true, false] {
-        let cut = spares_of(alloc, &graph, by_gives)?;
+    for spare in SPARES {
+        let cut = spares_of(alloc, &graph, spare)?;
         if add_through_by(alloc, &graph, &cut, formula, line)? {
             return Ok(true);
         }
@@ -77,10 +80,10 @@ pub fn add_through(
 
 /// For each edge whether it is cut, as one that leads back beside an edge that is preferred. None is where splitters are few
 /// or a cap isn't 1.
-fn spares_of(alloc: Global, graph: &Graph, by_gives: bool) -> Result<Vec<bool>, AllocError> {
+fn spares_of(alloc: Global, graph: &Graph, spare: Spare) -> Result<Vec<bool>, AllocError> {
     let large = graph.net.splitters() >= LEAST_SPLITTERS;
     if large && graph.net.edges().iter().all(|edge| edge.cap == 1) {
-        spare_edges(alloc, graph, by_gives)
+        spare_edges(alloc, graph, spare)
     } else {
         Ok(Vec::new(alloc))
     }
