@@ -7,9 +7,9 @@
 #     bench/layout.sh [NAME ...]
 #
 # measures the requests whose names begin so, by default all, each under three numberings of its network, of which
-# solvers get the first. It takes those of cadical, minisat and cryptominisat5 that it finds (`apt-get install minisat
-# cryptominisat`). Behind them come designs that `smallest --found` makes smaller, whose names begin with `smaller`: the
-# grid that was found and the rows and seconds that are wanted.
+# solvers get the first. It takes those of cadical, minisat and cryptominisat5 that it finds, and tells memory where
+# there is GNU time (`apt-get install minisat cryptominisat time`). Behind them come designs that `smallest --found`
+# makes smaller, whose names begin with `smaller`: the grid that was found and the rows and seconds that are wanted.
 set -euo pipefail
 bench=$(cd "$(dirname "${BASH_SOURCE[0]}")" && pwd)
 top=$(dirname "$bench")
@@ -17,7 +17,7 @@ work=$(mktemp -d)
 trap 'rm -rf "$work"' EXIT
 program=$("$top/tools/program")
 PYTHONDONTWRITEBYTECODE=1 PYTHONPATH=$bench python3 - "$program" "$top/examples" "$work" "$@" <<'PYTHON'
-import os, re, shutil, signal, subprocess, sys, threading
+import os, re, shutil, signal, subprocess, sys
 from pathlib import Path
 
 import networks
@@ -155,28 +155,40 @@ MADE = {
 }
 
 
+def launched(words, limit):
+    """Words that end a command after so many seconds and write down the most memory that it takes. Asked of the system
+    by this script, that would be no less than what this script takes itself, which begins each command as its copy."""
+    bounded = ["timeout", "--foreground", "-s", "KILL", str(limit), *words]
+    return [*(["time", "-q", "-f", "%M", "-o", f"{work}/memory"] if shutil.which("time") else []), *bounded]
+
+
 def run(words, text, rounds, limit):
     """The least processor seconds of some runs and the most memory in MB, what was printed, or None where it takes too
-    long."""
-    path = Path(work) / "input"
+    long, and of memory where there is no GNU time."""
+    path, memory = Path(work) / "input", Path(work) / "memory"
     path.write_text(text)
-    best, most, printed = None, 0, ""
+    best, most, printed = None, None, ""
     for _ in range(rounds):
         with path.open("rb") as file:
-            process = subprocess.Popen(words, stdin=file, stdout=subprocess.PIPE, stderr=subprocess.DEVNULL)
-            timer = threading.Timer(limit, lambda: process.send_signal(signal.SIGKILL))
-            timer.start()
+            process = subprocess.Popen(
+                launched(words, limit), stdin=file, stdout=subprocess.PIPE, stderr=subprocess.DEVNULL
+            )
             printed = process.stdout.read().decode()
             _, status, usage = os.wait4(process.pid, 0)
-            timer.cancel()
             process.returncode = status
-        if os.WIFSIGNALED(status):
-            return None, usage.ru_maxrss / 1024, ""
+        if memory.exists():
+            most = max(most or 0, int(memory.read_text().split()[-1]) / 1024)
+        if os.waitstatus_to_exitcode(status) == 128 + signal.SIGKILL:
+            return None, most, ""
         seconds = usage.ru_utime + usage.ru_stime
-        best, most = seconds if best is None else min(best, seconds), max(most, usage.ru_maxrss / 1024)
+        best = seconds if best is None else min(best, seconds)
         if seconds > 3:
             break
     return best, most, printed
+
+
+def in_mb(memory):
+    return "" if memory is None else f"{memory:.0f}"
 
 
 def told(seconds, limit):
@@ -212,7 +224,7 @@ for name, grids, wanted, most_seconds, most_times in CASES:
             most_times is not None
         )
         print(
-            f"| {name} | {grid} | {answer} | {told(ours, SECONDS)} | {memory:.0f} | "
+            f"| {name} | {grid} | {answer} | {told(ours, SECONDS)} | {in_mb(memory)} | "
             f"{''.join(rivals)}{', '.join(goal)} |",
             flush=True,
         )
@@ -236,7 +248,7 @@ for name, request, grid, words, goals in SMALLER:
         seconds, memory, printed = run(asked, text, 1, SECONDS)
         found = printed.split("\n", 1)[0].removeprefix("grid ") or "no answer"
         print(
-            f"| {name} | {' '.join(words)} | {steps} | {found} | {told(seconds, SECONDS)} | {memory:.0f} | "
+            f"| {name} | {' '.join(words)} | {steps} | {found} | {told(seconds, SECONDS)} | {in_mb(memory)} | "
             f"{most_cells} cells, {most_seconds} s |",
             flush=True,
         )

@@ -47,11 +47,11 @@ pub struct Searched {
 /// answer.
 ///
 /// Of one that has a formula, at first the formula is searched by few steps, where it is small. Then a network with
-/// stages is laid stage by stage; then a sketch of a layout is made, which may show one; then a layout is searched
-/// where one is likely, by at most 65,536 steps; where none is found, the log of that search is dropped, and the
-/// formula is searched from the start. It has no atoms, so a model of its clauses meets it. Of a log that refutes it
-/// the steps that the last one doesn't need are left out. What splitters prefer isn't asked here: `priorities_of` gives
-/// it to what was laid.
+/// stages is laid stage by stage, and one whose ends are to stand in a row by a router between splitters on ranks or
+/// seats; then a sketch of a layout is made, which may show one; then a layout is searched where one is likely, by at
+/// most 65,536 steps; where none is found, the log of that search is dropped, and the formula is searched from the
+/// start. It has no atoms, so a model of its clauses meets it. Of a log that refutes it the steps that the last one
+/// doesn't need are left out. What splitters prefer isn't asked here: `priorities_of` gives it to what was laid.
 pub fn layout<C: Chooser>(
     alloc: Global,
     request: &Request,
@@ -180,8 +180,9 @@ fn searched_of(
     Ok(Searched { layout, steps })
 }
 
-/// A layout of a request that is laid stage by stage, that a sketch shows, or that is found where one is likely. What
-/// has stages is told at once, and a search finds such layouts in small rectangles alone.
+/// A layout of a request that is laid stage by stage, or by a router where ends are to stand in a row, that a sketch
+/// shows, or that is found where one is likely. What has stages is told at once, and so are mostly ends in a row; a
+/// search finds such layouts in small rectangles alone.
 fn early_layout(
     alloc: Global,
     request: &Request,

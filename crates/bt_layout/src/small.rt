@@ -30,7 +30,8 @@ const MOST_PROPOSED: usize = 20;
 ///
 /// Where the network, or the number of cells of such grids, is beyond those of which formulas are written, it is what
 /// hints propose that is tested, and there may be no answer. There, and where a network is large, what is tested first
-/// are the own parts of a design that is laid out, made smaller by windows and seams; of other designs there are none.
+/// is made of the own parts of a design that is laid out, or of the network laid anew stage by stage, where it has
+/// stages and that takes fewer cells or there are no parts: both are made smaller by windows and seams.
 ///
 /// The request names no cells.
 pub fn find_small(
@@ -52,12 +53,12 @@ pub fn find_small(
     small_anew(alloc, request, cells, learnt)
 }
 
-/// Whether a search begins with the own parts of a design: where its network is large, or the grids are.
+/// Whether a search begins with the own parts of a design, or its stages: where its network is large, or the grids are.
 fn begins_with_own(request: &Request, cells: Option<u64>) -> bool {
     request.net().splitters() >= MANY_SPLITTERS || is_beyond(request, cells)
 }
 
-/// A layout on a small grid that isn't made of a design's own parts.
+/// A layout on a small grid that is made neither of a design's own parts nor of its stages.
 fn small_anew(
     alloc: Global,
     request: &Request,
@@ -109,7 +110,7 @@ fn sought_small(
     Ok(small_of(&requests, early))
 }
 
-/// A layout that hints make of the own parts of a design.
+/// A layout that hints make of the own parts of a design, or of its network laid anew stage by stage.
 fn narrowed_small(
     alloc: Global,
     request: &Request,

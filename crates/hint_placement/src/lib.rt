@@ -6,6 +6,7 @@
 #![tactic(auto)]
 
 mod climbing;
+mod leading;
 mod lines;
 mod ordering;
 mod seating;
@@ -13,6 +14,7 @@ mod seats;
 mod sketching;
 mod spans;
 
+pub use leading::{BLOCK_SEATS, BlockSeat, lead_round};
 pub use sketching::{Sketch, find_sketch};
-pub use spans::{middle_spans, wants_rows};
+pub use spans::wants_rows;
 pub use std::alloc::AllocError as Memory;

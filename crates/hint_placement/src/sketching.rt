@@ -31,7 +31,21 @@ const MOVES: usize = 4096;
 const EFFORT: Effort = Effort {
     rounds: 50,
     patience: 8,
+    trial: usize::MAX,
 };
+
+/// How long they do in a rectangle that isn't narrow, where most placings are tried in vain.
+const WIDE_EFFORT: Effort = Effort {
+    rounds: 50,
+    patience: 8,
+    trial: 7,
+};
+
+/// In such a rectangle no more than so many placings are tried, and none is moved, where at best more than so small a part as
+/// the second says of all edges shared a claim: of placings that were found later the best of the first four came to less.
+const WIDE_TRIALS: usize = 4;
+
+const WIDE_PART: usize = 20;
 
 /// The state of the generator that moves splitters.
 const FIRST_STATE: u64 = 5;
@@ -44,6 +58,9 @@ const WIDE_ROOM: u64 = 20;
 
 /// How many percent more seats there are than splitters, by turns.
 const SPARE: [usize; 3] = [30, 0, 70];
+
+/// The same in a rectangle that isn't narrow: where room is scarce there, nearly all that settle have none more.
+const WIDE_SPARE: [usize; 2] = [30, 0];
 
 /// A plan of a layout.
 #[derive(Drop)]
@@ -166,7 +183,7 @@ fn sketch_with(
         request,
         &network.edges,
         places,
-        EFFORT,
+        effort_of(request),
         &mut progress.left,
     )? {
         Negotiated::Settled(chains) => Ok(Some(Sketch {
@@ -242,12 +259,20 @@ fn side_of(cells: usize) -> usize {
     side
 }
 
+/// How many percent more seats there are than splitters for a seed, and how many seeds before it had as many.
+fn spare_of(is_wide: bool, seed: usize) -> (usize, usize) {
+    let spares: &[usize] = if is_wide { &WIDE_SPARE } else { &SPARE };
+    let count = spares.len().max(1);
+    let spare = spares.get(seed % count).copied().unwrap_or(0);
+    (spare, seed / count)
+}
+
 /// The seats of a seed: in about as many lines as make them as far apart both ways, or some more or fewer.
-fn seats_of(view: View, splitters: usize, seed: usize) -> Option<Seats> {
-    let spare = SPARE.get(seed % SPARE.len()).copied().unwrap_or(0);
+fn seats_of(view: View, splitters: usize, spare: (usize, usize)) -> Option<Seats> {
+    let (spare, before) = spare;
     let high = splitters.saturating_mul(view.along()) / view.across().max(1);
     let lines = side_of(high);
-    let other = seed / SPARE.len() % 4;
+    let other = before % 4;
     let lines = if other < 2 {
         lines.saturating_add(other)
     } else {
@@ -266,7 +291,7 @@ fn placed_on_seats(
     let view = view_of(request, seed);
     let spans = spans_of(request, view, seed / 4);
     let splitters = network.splitters.len();
-    match seats_of(view, splitters, seed) {
+    match seats_of(view, splitters, spare_of(is_wide(request), seed)) {
         Some(seats) => Ok(Some(Placing {
             stands: seated(alloc, &network.edges, splitters, seats, spans, seed)?,
             spans,
@@ -281,12 +306,38 @@ fn cells_of(request: &Request) -> u32 {
     rect.width.saturating_mul(rect.height)
 }
 
+/// Whether splitters are placed on seats alone.
+fn is_wide(request: &Request) -> bool {
+    cells_of(request) > NARROW
+}
+
+/// How long the chains of one placing negotiate.
+fn effort_of(request: &Request) -> Effort {
+    if is_wide(request) {
+        WIDE_EFFORT
+    } else {
+        EFFORT
+    }
+}
+
+/// Whether more placings are in vain after those of so many seeds.
+fn is_vain(request: &Request, network: &Numbered, progress: &Progress, seeds: usize) -> bool {
+    is_wide(request)
+        && seeds >= WIDE_TRIALS
+        && progress.shared.saturating_mul(WIDE_PART) > network.edges.len()
+}
+
 /// How many chains are laid at most: the more cells there are, the longer one takes.
 fn chains_of(request: &Request) -> u32 {
     let more = cells_of(request).saturating_sub(SMALL);
     let all = u64::from(MOST_CHAINS).saturating_mul(u64::from(NARROW));
     let chains = all / u64::from(NARROW.saturating_add(more)).max(1);
-    chains.min(u64::from(MOST_CHAINS)) as u32
+    let chains = chains.min(u64::from(MOST_CHAINS)) as u32;
+    if is_wide(request) {
+        chains / 4 * 3
+    } else {
+        chains
+    }
 }
 
 /// Whether splitters are placed on seats: where a request asks for ends in a row, or the rectangle isn't small.
@@ -305,7 +356,7 @@ fn placed(
     let splitters = network.splitters.len();
     if !may_be_seated(request) {
         placed_by_ranks(alloc, request, orders, splitters, seed)
-    } else if cells_of(request) > NARROW {
+    } else if is_wide(request) {
         placed_on_seats(alloc, request, network, seed)
     } else if seed % 2 == 0 {
         placed_by_ranks(alloc, request, orders, splitters, seed / 2)
@@ -343,7 +394,7 @@ fn sketch_by_seeds(
         SEEDS
     };
     for seed in 0..seeds {
-        if progress.left <= progress.climbing {
+        if progress.left <= progress.climbing || is_vain(request, network, progress, seed) {
             break;
         }
         let found = sketch_by(alloc, request, network, orders, progress, seed)?;
@@ -379,6 +430,31 @@ fn sketch_by_moves(
     Ok(None)
 }
 
+/// How many of so many chains are kept for moves of the best placing.
+fn climbing_of(request: &Request, chains: u32) -> u32 {
+    if is_wide(request) {
+        chains / 3
+    } else if may_be_seated(request) {
+        chains / 2
+    } else {
+        chains / 4 * 3
+    }
+}
+
+/// Before any splitters are placed.
+fn first_progress(alloc: Global, request: &Request) -> Progress {
+    let chains = chains_of(request);
+    Progress {
+        left: chains,
+        climbing: climbing_of(request, chains),
+        shared: usize::MAX,
+        placing: Placing {
+            stands: Vec::new(alloc),
+            spans: Spans::none(),
+        },
+    }
+}
+
 /// A plan by a seed, or else by moves of the best placing that seeds came to.
 fn sketch_of(
     alloc: Global,
@@ -386,23 +462,13 @@ fn sketch_of(
     network: &Numbered,
     orders: &[Rows],
 ) -> Result<Option<Sketch>, AllocError> {
-    let chains = chains_of(request);
-    let mut progress = Progress {
-        left: chains,
-        climbing: if may_be_seated(request) {
-            chains / 2
-        } else {
-            chains / 4 * 3
-        },
-        shared: usize::MAX,
-        placing: Placing {
-            stands: Vec::new(alloc),
-            spans: Spans::none(),
-        },
-    };
+    let mut progress = first_progress(alloc, request);
     let found = sketch_by_seeds(alloc, request, network, orders, &mut progress)?;
     if found.is_some() {
         return Ok(found);
+    }
+    if is_vain(request, network, &progress, SEEDS) {
+        return Ok(None);
     }
     sketch_by_moves(alloc, request, network, &mut progress)
 }

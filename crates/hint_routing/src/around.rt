@@ -16,3 +16,12 @@ pub fn is_upright(dir: Dir) -> bool {
         Dir::East | Dir::West => false,
     }
 }
+
+/// The cell so many steps on.
+pub fn ahead(cell: Cell, dir: Dir, steps: u32) -> Cell {
+    let mut cell = cell;
+    for _ in 0..steps {
+        cell = cell.next(dir);
+    }
+    cell
+}

@@ -12,7 +12,7 @@ mod poses;
 mod spans;
 mod stand;
 
-pub use around::is_upright;
+pub use around::{ahead, is_upright};
 pub use ends::Places;
 pub use finding::{Chain, Step};
 pub use negotiating::{Effort, Negotiated, negotiate};

@@ -18,6 +18,54 @@ pub struct Effort {
     pub rounds: usize,
     /// After so many rounds in which no fewer claims are shared than in an earlier one no more are made.
     pub patience: usize,
+    /// After so many rounds no more are made where the least number of claims that were shared isn't a small part of those
+    /// that the first round left shared.
+    pub trial: usize,
+}
+
+/// That part: of 30 placings that settled each came to a seventh of the first round in seven rounds, most to a twentieth.
+const SMALL_PART: usize = 5;
+
+/// How far rounds came: how many were made, after how many no fewer claims were shared, how many were shared after the first
+/// one, and the least number.
+#[derive(Clone, Copy)]
+struct Course {
+    rounds: usize,
+    idle: usize,
+    first: usize,
+    least: usize,
+}
+
+impl Course {
+    /// Before the first round.
+    fn new() -> Course {
+        Course {
+            rounds: 0,
+            idle: 0,
+            first: usize::MAX,
+            least: usize::MAX,
+        }
+    }
+
+    /// After one more round, which left so many claims shared.
+    fn after(self, shared: usize) -> Course {
+        Course {
+            rounds: self.rounds.saturating_add(1),
+            idle: if shared < self.least {
+                0
+            } else {
+                self.idle.saturating_add(1)
+            },
+            first: if self.rounds == 0 { shared } else { self.first },
+            least: self.least.min(shared),
+        }
+    }
+
+    /// Whether no more rounds are made.
+    fn is_over(self, effort: Effort) -> bool {
+        let is_far = self.least.saturating_mul(SMALL_PART) > self.first;
+        self.least == 0 || self.idle >= effort.patience || self.rounds >= effort.trial && is_far
+    }
 }
 
 /// What a round comes to.
@@ -161,24 +209,19 @@ fn rounds(
     chains: &mut [Option<Chain>],
     effort: Effort,
 ) -> Result<usize, AllocError> {
-    let (mut least, mut idle) = (usize::MAX, 0usize);
+    let mut course = Course::new();
     for _ in 0..effort.rounds {
         let shared = match lay_round(alloc, ledger, ground, ends, chains)? {
             Round::Settled => 0,
             Round::Shared(count) => count,
             Round::Stuck => break,
         };
-        idle = if shared < least {
-            0
-        } else {
-            idle.saturating_add(1)
-        };
-        least = least.min(shared);
-        if least == 0 || idle >= effort.patience {
+        course = course.after(shared);
+        if course.is_over(effort) {
             break;
         }
     }
-    Ok(least)
+    Ok(course.least)
 }
 
 /// No chain for each of so many edges.

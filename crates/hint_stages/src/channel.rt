@@ -22,6 +22,7 @@ const MOST_CHAINS: u32 = 40_000;
 const EFFORT: Effort = Effort {
     rounds: 600,
     patience: 150,
+    trial: usize::MAX,
 };
 
 /// The fewest rows in which the router is likely to lead so many lines: half of the lines cross the middle, and hardly more

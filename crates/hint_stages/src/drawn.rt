@@ -1,8 +1,7 @@
 //! Channels, and those that a router found once, as drawings: so they need no search, and have fewer rows than one has time to look for.
-use crate::cells::ahead;
 use crate::eight::piece;
 use bt_parts::{Cell, Dir, Kind};
-use hint_routing::{Chain, Step};
+use hint_routing::{Chain, Step, ahead};
 use std::alloc::{AllocError, Global};
 
 /// The chains of a channel, in cells of which (0, 0) is the first one of the upper row.

@@ -5,11 +5,9 @@
 #![tactic(auto)]
 
 mod arranging;
-mod cells;
 mod channel;
 mod drawn;
 mod eight;
-mod leading;
 mod sense;
 mod stack;
 mod stacking;

@@ -1,11 +1,10 @@
 //! A plan that grows from row to row, from the south to the north.
-use crate::cells::ahead;
 use crate::drawn::Channel;
 use crate::eight::{CORE_ACROSS, CORE_LINES, CORE_RANKS, CORE_ROWS, drawing, piece, seat};
 use crate::sense::Sense;
 use bt_parts::{Cell, Dir, Kind, Part, Tier};
 use hint_placement::Sketch;
-use hint_routing::{Chain, Step};
+use hint_routing::{Chain, Step, ahead};
 use std::alloc::{AllocError, Global};
 
 /// A plan that grows from row to row.

@@ -1,10 +1,8 @@
 //! The parts of a plan, rank by rank from the south to the north.
 use crate::arranging::{Arranged, arrange, shape_of};
-use crate::cells::ahead;
 use crate::channel::find_channel;
 use crate::drawn::Channel;
 use crate::eight::{CORE_LINES, CORE_RANKS, CORE_ROWS};
-use crate::leading::{SEATS, lead_round};
 use crate::sense::Sense;
 use crate::stack::Stack;
 use crate::wiring::wiring_of;
@@ -12,7 +10,8 @@ use bt_model::{MOST_ACROSS, Request};
 use bt_net::Edge;
 use bt_parts::{Cell, Dir, Rect, Tier};
 use hint_numbering::goes_north;
-use hint_placement::Sketch;
+use hint_placement::{BLOCK_SEATS, Sketch, lead_round};
+use hint_routing::ahead;
 use std::alloc::{AllocError, Global};
 
 /// The most channels: a grid holds no more.
@@ -238,7 +237,7 @@ fn stack_with_loops(
         width: lines_of(arranged),
         height: channels.rows_of(arranged).saturating_sub(2),
     };
-    for seat in &SEATS {
+    for seat in &BLOCK_SEATS {
         let Some(first) = seat.first_cell(request.rect(), block) else {
             continue;
         };

@@ -1,10 +1,10 @@
 //! Plans turned by quarters, so that they go in the direction in which a request wants them to.
-use crate::cells::ahead;
 use crate::stacking::{LeastPlan, find_upright};
 use bt_model::Request;
 use bt_net::{Demand, End, Ends};
 use bt_parts::{Cell, DIRS, Dir, Kind, Part, Rect};
 use hint_placement::Sketch;
+use hint_routing::ahead;
 use std::alloc::{AllocError, Global};
 
 /// Whether a demand lets all go in a direction: inputs come in at the side behind, and outputs leave at the side ahead.

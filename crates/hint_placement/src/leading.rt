@@ -1,11 +1,11 @@
 //! Edges that lead back round a block of stages, and its ends to the border.
-use crate::cells::ahead;
+use crate::sketching::Sketch;
+use crate::spans::middle_spans;
 use bt_model::Request;
 use bt_net::Edge;
 use bt_parts::{Cell, Dir, Rect};
 use hint_numbering::joined;
-use hint_placement::{Sketch, middle_spans};
-use hint_routing::{Chain, Effort, Negotiated, Places, Stand, negotiate};
+use hint_routing::{Chain, Effort, Negotiated, Places, Stand, ahead, negotiate};
 use std::alloc::{AllocError, Global};
 
 /// How many chains may be laid.
@@ -15,50 +15,51 @@ const MOST_CHAINS: u32 = 10_000;
 const EFFORT: Effort = Effort {
     rounds: 300,
     patience: 100,
+    trial: usize::MAX,
 };
 
 /// Where a block stands in a rectangle: how many quarters of the columns and of the rows that are left lie before it.
 #[derive(Clone, Copy)]
-pub struct Seat {
+pub struct BlockSeat {
     columns: u32,
     rows: u32,
 }
 
 /// The seats that are tried: in the middle first.
-pub const SEATS: [Seat; 9] = [
-    Seat {
+pub const BLOCK_SEATS: [BlockSeat; 9] = [
+    BlockSeat {
         columns: 2,
         rows: 2,
     },
-    Seat {
+    BlockSeat {
         columns: 1,
         rows: 2,
     },
-    Seat {
+    BlockSeat {
         columns: 3,
         rows: 2,
     },
-    Seat {
+    BlockSeat {
         columns: 2,
         rows: 3,
     },
-    Seat {
+    BlockSeat {
         columns: 2,
         rows: 1,
     },
-    Seat {
+    BlockSeat {
         columns: 0,
         rows: 2,
     },
-    Seat {
+    BlockSeat {
         columns: 4,
         rows: 2,
     },
-    Seat {
+    BlockSeat {
         columns: 1,
         rows: 3,
     },
-    Seat {
+    BlockSeat {
         columns: 3,
         rows: 1,
     },
@@ -72,7 +73,7 @@ fn quarters(number: u32, count: u32) -> u32 {
 /// Where a rectangle has no more cells, a search of a placement formula finds more than the router round a block, and as soon.
 const SMALL: u32 = 256;
 
-impl Seat {
+impl BlockSeat {
     /// The first cell of a block here, where the rectangle isn't small and has room round the block.
     pub fn first_cell(self, rect: Rect, block: Rect) -> Option<Cell> {
         let wide = rect.width.checked_sub(block.width)?;
