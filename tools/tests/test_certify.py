@@ -1,9 +1,11 @@
 """Tests of tools/certify and tools/least. BELTPROOF_PROGRAM and CERTIFY_PROGRAM may name other programs than those of
 these sources."""
 
+import contextlib
 import importlib.machinery
 import importlib.util
 import io
+import json
 import os
 import resource
 import subprocess
@@ -117,6 +119,44 @@ class CertifyTest(unittest.TestCase):
                 )
                 with self.subTest(kind=kind):
                     self.assertEqual((ended.returncode, ended.stderr), (8, "tools/certify: memory is wanting\n"))
+
+    def ended(self, *words):
+        """The status of the tool, and what it says."""
+        env = {**os.environ, "CERTIFY_PROGRAM": certify.certify_program()}
+        done = subprocess.run(
+            [TOOLS / "certify", *words], stdout=subprocess.DEVNULL, stderr=subprocess.PIPE, text=True, env=env
+        )
+        return done.returncode, done.stderr
+
+    def test_says_which_file_it_lacks_or_what_is_wrong_with_it(self):
+        with tempfile.TemporaryDirectory() as room:
+            formula, proof, none = (Path(room, name) for name in ("formula", "proof", "none"))
+            formula.write_text(FORMULA)
+            proof.write_text("1 0\n0\n")
+            self.assertEqual(self.ended(formula, proof), (0, ""))
+            for words, status, reason in (
+                ((none, proof), 2, f"{none}: No such file or directory"),
+                ((formula, none), 2, f"{none}: No such file or directory"),
+                ((formula, room), 2, f"{room}: Is a directory"),
+                ((formula, proof, "Yes"), 2, "tools/certify FORMULA PROOF [KIND] > CERTIFICATE"),
+                ((proof, formula), 3, f"tools/certify: {proof} is no formula in DIMACS"),
+                ((formula, formula), 3, "tools/certify: step 1 is no clause"),
+            ):
+                with self.subTest(words=words):
+                    ended, said = self.ended(*words)
+                    self.assertEqual((ended, reason in said), (status, True), said)
+
+    def test_refuses_a_great_proof_of_nothing_without_reading_it_whole(self):
+        # A file of a gigabyte of which the end was never written: it takes no room, and reads as zeros.
+        with tempfile.TemporaryDirectory() as room:
+            formula, proof = Path(room, "formula"), Path(room, "proof")
+            formula.write_text(FORMULA)
+            for first, reason in (("", "is a binary proof"), ("1 2 0\n", "step 2 is no clause")):
+                proof.write_text(first)
+                os.truncate(proof, 1024 * MEGABYTE)
+                with self.subTest(first=first):
+                    status, said = self.ended(formula, proof)
+                    self.assertEqual((status, reason in said), (3, True), said)
 
     def test_says_how_it_is_used(self):
         ended = subprocess.run([TOOLS / "certify"], stderr=subprocess.PIPE, text=True)
@@ -233,6 +273,49 @@ class LeastTest(unittest.TestCase):
             layout = Path(room, "least-layout.json")
             layout.write_text(layout.read_text().replace("splitter", "transport-belt"))
             self.assertEqual(self.least("--again", room)[::2], (3, "the layout isn't one of the network in 2x5\n"))
+            layout.unlink()
+            self.assertEqual(self.least("--again", room)[0], 2)
+
+    def again(self, room):
+        """What the tool comes to that checks a folder anew, and what it says."""
+        said = io.StringIO()
+        with contextlib.redirect_stdout(io.StringIO()), contextlib.redirect_stderr(said):
+            status = least.main(["--again", room, "--program", program()])
+        return status, said.getvalue()
+
+    def test_takes_no_certificate_of_another_network_and_no_other_record(self):
+        names = "chain-1-to-3", "splitter-on-splitter-2-to-3"
+        with tempfile.TemporaryDirectory() as one, tempfile.TemporaryDirectory() as other:
+            for name, room in zip(names, (one, other)):
+                words = (EXAMPLES / f"{name}.net", room, "--without-cadical", "--learnt", "500")
+                self.assertEqual(self.least(*words)[:2], (0, "least: 10 cells, by 3 certificates"))
+            certificate = Path(one, "2x4.none")
+            whole = certificate.read_text()
+            for text in (Path(other, "2x4.none").read_text(), whole + "end\n"):
+                certificate.write_text(text)
+                self.assertEqual(self.again(one), (3, "2x4: not accepted\n"))
+            certificate.write_text(whole)
+            record = Path(one, "least.json")
+            known, another = (json.loads(Path(room, "least.json").read_text()) for room in (one, other))
+            no_record = f"tools/least: {record} is no record of a network\n"
+            for changed, status, reason in (
+                (known, 0, ""),
+                ({**known, "grid": "2x4"}, 3, "the layout isn't one of the network in 2x4\n"),
+                ({**known, "grid": "9x9"}, 3, "8x10: no certificate\n"),
+                ({**known, "network": another["network"]}, 3, "2x4: not accepted\n"),
+                ({**known, "grid": "2by5"}, 3, no_record),
+                ({**known, "network": 1}, 3, no_record),
+                ({**known, "tier": "slow"}, 3, no_record),
+                ({}, 3, no_record),
+                ([], 3, no_record),
+                ({**known, "grid": None}, 3, f"tools/least: {one} has no layout\n"),
+            ):
+                record.write_text(json.dumps(changed))
+                with self.subTest(changed=changed):
+                    ended, said = self.again(one)
+                    self.assertEqual((ended, reason in said), (status, True), said)
+            record.write_text(json.dumps(known)[:-1])
+            self.assertEqual(self.again(one)[0], 2)
 
 
 if __name__ == "__main__":
