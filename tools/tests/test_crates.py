@@ -30,15 +30,10 @@ class Cycles(unittest.TestCase):
     def test_none(self):
         self.assertEqual(crates.cycles({"a": {"b", "c"}, "b": {"c"}, "c": set()}), [])
 
-    def test_listed(self):
+    def test_of_a_crate(self):
         ring = {"base": {"binding"}, "binding": {"base"}}
-        self.assertEqual(list(crates.new_cycles({"bt_theory": []}, lambda _: ring)), [])
-        self.assertEqual(list(crates.new_cycles({"bt_net": []}, lambda _: ring)), [("bt_net", ["base", "binding"])])
-
-    def test_wider_than_listed(self):
-        ring = {"base": {"binding"}, "binding": {"base", "round"}, "round": {"base"}}
-        wider = [("bt_theory", ["base", "binding", "round"])]
-        self.assertEqual(list(crates.new_cycles({"bt_theory": []}, lambda _: ring)), wider)
+        self.assertEqual(crates.rings_in({"bt_net": []}, lambda _: ring), [("bt_net", ["base", "binding"])])
+        self.assertEqual(crates.rings_in({"bt_net": []}, lambda _: {"base": {"binding"}, "binding": set()}), [])
 
 
 class Pages(unittest.TestCase):
