@@ -13,8 +13,8 @@ use Rattle.bt_sat.specs.declared.answer.Assumed.TheVariants as assumed
 use Rattle.bt_theory.specs.Outcomes.{Fits}
 use Rattle.bt_theory.specs.declared.base.Base.{Base}
 use Rattle.bt_theory.specs.inner.Goals.{AllFit, GoesOn, IsOfSame, IsPossible, IsGrown, IsTry}
-use Rattle.bt_theory.specs.inner.Rounds.{HasModel, IsEnd, IsReady, IsRound}
-use Rattle.bt_theory.specs.inner.Scopes.{IsConflict, IsConflictIn, IsScopeOf}
+use Rattle.bt_theory.specs.inner.Rounds.{IsEnd, IsRound}
+use Rattle.bt_theory.specs.inner.Scopes.{IsConflictIn, IsScopeOf}
 use Rattle.bt_theory.specs.declared.goal.Tried.{Tried}
 use Rattle.bt_theory.specs.declared.goal.Tried.TheVariants as tried
 use Rattle.bt_theory.specs.declared.lemma.Conflict.{Conflict}
@@ -94,15 +94,9 @@ then_try pivots old mid new tried.Again on is =
     (goes_next old mid new on is.0, (let l : length old.steps < length new.steps = omega (arith, first, second) in l))
 then_try pivots old mid new (tried.Ends e) on is = (same_next old mid new on.same is.0, is.1)
 
--- the lemma of a conflict under the model that the search keeps was added, or the log is full
-module _ (pivots : ℕ) (s s' : SolverParts) (model : List Bool) (conflict : Conflict) (fits : AllFit s) (has : HasModel s model) (is : IsConflict s.formula model conflict) where
-
 -- the conflict that scopes have is one of the formula
 pub possible : (f : FormulaParts) (truths : List Bool) (conflict : Conflict) (scopes : List (List ℕ × List RowParts)) → All (IsScopeOf f) scopes → Any (IsConflictIn truths conflict) scopes → IsPossible f conflict
 possible f truths conflict scopes are found = record { assignment = truths; is = conflict_among f truths conflict scopes are found }
-
--- a round that begins when goals were tried
-module _ (b : Base) (old mid : SolverParts) (t : TableauParts) (ready : IsReady b old t) (on : GoesOn old mid) where
 
 -- the search is at an end by a goal
 pub goals_end : (pivots : ℕ) (b : Base) (old new : SolverParts) (t : TableauParts) (e : End) → IsOfSame old new × ((b : Base) → IsEnd pivots b new e) → IsRound pivots b old new t (Some e)
