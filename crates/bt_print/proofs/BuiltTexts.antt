@@ -36,12 +36,19 @@ abbrev row_words : List (List ℕ)
 row_words = codes "side inputs south" ∷ codes "side outputs north" ∷ codes "row inputs" ∷ codes "row outputs" ∷ []
 
 rows_are : (n : Network) (number : ℕ) → AreLinesFrom (IsDemandHere All n) number row_words (facing_rows number)
-rows_are n number =
-    ((tt, record { text = refl; has_ends = tt; line = refl }),
-    ((tt, record { text = refl; has_ends = tt; line = refl }),
-    ((tt, record { text = refl; line = omega arith }),
-    ((tt, record { text = refl; line = omega arith }),
-    tt))))
+rows_are n number = (
+  (tt, record { text = refl; has_ends = tt; line = refl }),
+  (
+    (tt, record { text = refl; has_ends = tt; line = refl }),
+    (
+      (tt, record { text = refl; line = omega arith }),
+      (
+        (tt, record { text = refl; line = omega arith }),
+        tt,
+      ),
+    ),
+  ),
+)
 
 -- an `n` is no blank
 not_blank : IsBlank 110 → ⊥

@@ -7,8 +7,10 @@ use Rattle.bt_top.proofs.smallest_found.read_asked.Goals as goal
 
 pub returns-in-Ok-read_sided_request-clause-request : goal.returns-in-Ok-read_sided_request-clause-request
 returns-in-Ok-read_sided_request-clause-request c =
-    inr (λ j. let f : false ≡ true = c.if-is_json.ensures.1 j in cc,
-    subst (λ rect. IsSidedRequest rect c.args.tier c.args.bytes.now (Ok c.in-Ok-read_sided_request.request)) c.unwrap_or-else-is_json.ensures c.in-Ok-read_sided_request.ensures)
+    inr (
+      λ j. let f : false ≡ true = c.if-is_json.ensures.1 j in cc,
+      subst (λ rect. IsSidedRequest rect c.args.tier c.args.bytes.now (Ok c.in-Ok-read_sided_request.request)) c.unwrap_or-else-is_json.ensures c.in-Ok-read_sided_request.ensures,
+    )
 
 pub returns-in-Err-read_sided_request-clause-request : goal.returns-in-Err-read_sided_request-clause-request
 returns-in-Err-read_sided_request-clause-request c =
