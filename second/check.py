@@ -1,7 +1,7 @@
 #!/usr/bin/env python3
 """A second opinion on what beltproof says, by Python's standard library alone. It was written
 from the formats and shares no code with the program. Words, statuses and texts are those of
-README.md and docs/REFUSALS.md. What it does stands in the folder opinion/, by subject.
+docs/ANSWERS.md and docs/REFUSALS.md. What it does stands in the folder opinion/, by subject.
 
     check.py check PROPERTY < BOTH        a design, and behind it a certificate or a state in
                                           which the property fails

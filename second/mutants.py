@@ -20,20 +20,22 @@ from pathlib import Path
 sys.dont_write_bytecode = True
 
 from opinion import words
+from opinion.parts import VERSION_TWO
 
-WAYS = ((0, -1), (1, 0), (0, 1), (-1, 0))  # north, east, south and west, whose directions are 0, 2, 4 and 6
-
-
-def is_upright(entity):
-    return entity.get("direction", 0) % 4 == 0
+WAYS = ((0, -1), (1, 0), (0, 1), (-1, 0))  # north, east, south and west
 
 
-def turned(entity, quarters):
-    """The entity turned to the right; of a splitter the half stays that is further to the north or to the west."""
-    direction = (entity.get("direction", 0) + 2 * quarters) % 8
+def is_upright(entity, turn):
+    return entity.get("direction", 0) % (2 * turn) == 0
+
+
+def turned(entity, quarters, turn):
+    """The entity turned to the right by quarters, each so many of its directions; of a splitter the half stays that is
+    further to the north or to the west."""
+    direction = (entity.get("direction", 0) + turn * quarters) % (4 * turn)
     changed = {**entity, "position": {**entity["position"]}, "direction": direction}
     if entity["name"].endswith("splitter") and quarters % 2:
-        further = 0.5 if is_upright(entity) else -0.5
+        further = 0.5 if is_upright(entity, turn) else -0.5
         changed["position"]["x"] -= further
         changed["position"]["y"] += further
     return changed
@@ -48,10 +50,11 @@ def moved(entity, way):
 def mutants(design, every):
     """What was done, and the text, of each mutant of a design."""
     entities = design["blueprint"]["entities"]
+    turn = 2 if design["blueprint"].get("version", 0) < VERSION_TWO else 4
     for place in range(0, len(entities), every):
-        entity, front, behind = entities[place], entities[:place], entities[place + 1:]
+        entity, front, behind = entities[place], entities[:place], entities[place + 1 :]
         changes = [("away", [])]
-        changes += [(f"turned by {quarters}", [turned(entity, quarters)]) for quarters in (1, 2, 3)]
+        changes += [(f"turned by {quarters}", [turned(entity, quarters, turn)]) for quarters in (1, 2, 3)]
         changes += [(f"moved by {way}", [moved(entity, way)]) for way in WAYS]
         for change, instead in changes:
             mutant = {"blueprint": {**design["blueprint"], "entities": [*front, *instead, *behind]}}

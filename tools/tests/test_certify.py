@@ -306,6 +306,9 @@ class LeastTest(unittest.TestCase):
                 ({**known, "grid": "2by5"}, 3, no_record),
                 ({**known, "network": 1}, 3, no_record),
                 ({**known, "tier": "slow"}, 3, no_record),
+                ({**known, "tier": []}, 3, no_record),
+                ({**known, "turned": []}, 3, no_record),
+                ({**known, "turned": {"1x9": "1"}}, 3, no_record),
                 ({}, 3, no_record),
                 ([], 3, no_record),
                 ({**known, "grid": None}, 3, f"tools/least: {one} has no layout\n"),
@@ -314,8 +317,9 @@ class LeastTest(unittest.TestCase):
                 with self.subTest(changed=changed):
                     ended, said = self.again(one)
                     self.assertEqual((ended, reason in said), (status, True), said)
-            record.write_text(json.dumps(known)[:-1])
-            self.assertEqual(self.again(one)[0], 2)
+            for broken in (json.dumps(known)[:-1].encode(), b"\xff"):
+                record.write_bytes(broken)
+                self.assertEqual(self.again(one)[0], 2)
 
 
 if __name__ == "__main__":
