@@ -48,7 +48,8 @@ fn side_of(part: &Part, kind: Kind) -> Dir {
     }
 }
 
-/// Whether a part stands where an end wants to, and looks as it is to.
+/// Whether the part of an end stands on the cell or at the side where the end is wanted, and looks in the wanted
+/// direction where one is named.
 fn stands(part: &Part, kind: Kind, wanted: Wanted) -> bool {
     match wanted {
         Wanted::Anywhere => true,
@@ -57,7 +58,7 @@ fn stands(part: &Part, kind: Kind, wanted: Wanted) -> bool {
     }
 }
 
-/// The number of an end, which fits.
+/// The place of an end in its list as its number, which fits.
 fn number_of(place: usize) -> u32 {
     u32::try_from(place).unwrap_or(u32::MAX)
 }
@@ -107,7 +108,7 @@ fn at_side(kind: Kind, side: Dir) -> u64 {
         .wrapping_add(code_of(side).wrapping_mul(16))
 }
 
-/// The part with an index in a list.
+/// The part whose index stands at a place of a list; none where there is no such.
 fn part_of<'a>(parts: &'a [Part], list: &[usize], place: usize) -> Option<&'a Part> {
     parts.get(list.get(place).copied()?)
 }
@@ -137,7 +138,7 @@ impl Naming<'_> {
         Ok(list)
     }
 
-    /// The parts of the layout's ends of a kind.
+    /// The indices of the parts at which the layout's ends of a kind stand.
     fn ends(&self, kind: Kind) -> &[usize] {
         match kind {
             Kind::Inputs => &self.own.inputs,
@@ -145,7 +146,8 @@ impl Naming<'_> {
         }
     }
 
-    /// Whether the part of an end of the layout suits one of the request.
+    /// Whether the layout's end with this node stands where the request wants its end with this number; both are of a
+    /// kind. False where the node is no end of the kind.
     fn suits_end(&self, kind: Kind, number: usize, node: usize) -> bool {
         let first = match kind {
             Kind::Inputs => self.found.input(0),
@@ -157,7 +159,8 @@ impl Naming<'_> {
         }
     }
 
-    /// Whether all ends of the layout suit those of the request.
+    /// Whether all ends of the layout suit those of the request, where `matched` has for each node of the request one
+    /// of the layout.
     fn suits(&self, matched: &[usize]) -> bool {
         for input in 0..self.asked.inputs {
             let node = matched.get(self.asked.input(input)).copied();
@@ -174,8 +177,8 @@ impl Naming<'_> {
         true
     }
 
-    /// The first colours of the layout's ends of a kind: by the cells that ends are pinned to, and where none may stand
-    /// anywhere, by their sides.
+    /// Adds the first colours of the layout's ends of a kind: by the cells that ends are pinned to, and where none may
+    /// stand anywhere, by their sides.
     fn add_ends(
         &self,
         colours: &mut Vec<u64>,
@@ -192,7 +195,8 @@ impl Naming<'_> {
         Ok(())
     }
 
-    /// The first colours: those of the three kinds of nodes, and for ends of where they are wanted.
+    /// The first colours of the request's nodes and then of the layout's: by their kinds, and of ends by where they are
+    /// wanted, or stand.
     fn colours(&self, alloc: Global) -> Result<Vec<u64>, AllocError> {
         let inputs = self.wanted(alloc, Kind::Inputs)?;
         let outputs = self.wanted(alloc, Kind::Outputs)?;
@@ -206,7 +210,7 @@ impl Naming<'_> {
         Ok(colours)
     }
 
-    /// For each node of the request's network one of the layout's.
+    /// For each node of the request's network one of the layout's, so that all ends suit; none where none are found.
     fn matched(&self, alloc: Global) -> Result<Option<Vec<usize>>, AllocError> {
         let mut joins = self.asked.joins(alloc, self.request.net())?;
         let others = self.found.joins(alloc, &self.own.net)?;
@@ -216,7 +220,8 @@ impl Naming<'_> {
         pair.matched(alloc, self.colours(alloc)?, |matched| self.suits(matched))
     }
 
-    /// The parts that bear the numbers from a node of the request's network on.
+    /// The parts that bear the numbers below `count` of inputs, outputs or splitters. `nodes` are the first node of
+    /// these in the request's network and that in the layout's, and `list` has the parts of the latter.
     fn names(
         &self,
         alloc: Global,
@@ -259,7 +264,8 @@ fn all_settled(wanted: &[Wanted]) -> bool {
     wanted.iter().all(|one| !matches!(one, Wanted::Anywhere))
 }
 
-/// The first colour of an end of the request.
+/// The first colour of an end of the request that is wanted there. `settled` says that each end of its kind is wanted
+/// on some cell or at some side.
 fn colour_wanted(kind: Kind, one: Wanted, settled: bool) -> u64 {
     match one {
         Wanted::On(cell, _) => on_cell(kind, cell),
@@ -268,7 +274,8 @@ fn colour_wanted(kind: Kind, one: Wanted, settled: bool) -> u64 {
     }
 }
 
-/// The first colour of an end of the layout.
+/// The first colour of an end of the layout, whose part this is: by its cell where one is wanted there, else by its
+/// side where each end of its kind is wanted on some cell or at some side.
 fn colour_found(kind: Kind, part: &Part, wanted: &[Wanted]) -> u64 {
     for one in wanted {
         if let Wanted::On(cell, _) = one {
@@ -284,7 +291,7 @@ fn colour_found(kind: Kind, part: &Part, wanted: &[Wanted]) -> u64 {
     }
 }
 
-/// The first colours of the request's ends of a kind.
+/// Adds the first colours of the request's ends of a kind.
 fn add_wanted(colours: &mut Vec<u64>, kind: Kind, wanted: &[Wanted]) -> Result<(), AllocError> {
     let settled = all_settled(wanted);
     for one in wanted {
@@ -293,7 +300,7 @@ fn add_wanted(colours: &mut Vec<u64>, kind: Kind, wanted: &[Wanted]) -> Result<(
     Ok(())
 }
 
-/// The first colours of so many splitters.
+/// Adds the first colours of so many splitters.
 fn add_splitters(colours: &mut Vec<u64>, count: usize) -> Result<(), AllocError> {
     for _ in 0..count {
         colours.push(SPLITTER)?;

@@ -39,8 +39,8 @@ fn does_lay(
     }
 }
 
-/// Parts with names that may lay a butterfly or a Benes network, in ascending order of y and then x of their cells, stage by
-/// stage, or, where a request wants ends in a row, another network by ranks. Else it says at once that it has none.
+/// Parts with names that may lay a butterfly or a Benes network, in ascending order of y and then x of their cells,
+/// stage by stage, or, where a request wants ends in a row, another network by ranks. None of all others.
 pub fn propose_stages(alloc: Global, request: &Request) -> Result<Option<Proposal>, AllocError> {
     let staged = find_stages(alloc, request)?;
     let proposal = proposal_of(alloc, request, staged)?;

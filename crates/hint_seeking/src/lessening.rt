@@ -89,7 +89,8 @@ fn names_cells(request: &Request) -> bool {
 }
 
 /// A plan of a layout that lies in the rectangle of a request, from the parts of one in a greater rectangle that is
-/// made smaller.
+/// made smaller for about as long as `effort` conflicts take. None where it doesn't get so small, or a search doesn't
+/// show it. Each number begins another search.
 fn lessened_into<S: Search>(
     alloc: Global,
     request: &Request,
@@ -173,7 +174,8 @@ fn beginnings(alloc: Global, request: &Request) -> Result<Vec<Beginning>, AllocE
 }
 
 /// Searches for a layout of a request by making one smaller that lies in a greater rectangle, more than once. Other
-/// places begin other searches.
+/// places begin other searches. None where the request names cells, its rectangle is the greatest or has too little
+/// room, or none is found.
 pub fn seek_by_lessening<S: Search>(
     alloc: Global,
     request: &Request,
@@ -217,7 +219,7 @@ pub fn seek_by_turning(alloc: Global, request: &Request) -> Result<Option<Sketch
     }
 }
 
-/// Whether the rectangle of a request is as wide as high, or one less.
+/// Whether the rectangle of a request is as high as wide, or a row higher.
 fn is_squarish(request: &Request) -> bool {
     let Rect { width, height } = request.rect();
     width == height || width.saturating_add(1) == height
@@ -228,8 +230,8 @@ fn is_wide(request: &Request) -> bool {
     taken_in(request).saturating_mul(2) <= cells_in(request.rect())
 }
 
-/// Of the first requests, of those whose rectangles are squarish, by turns one of the least that are wide; or the last
-/// one, where none is.
+/// Of the first `end` requests one whose rectangle is squarish: by turns, which the number gives, one of the first that
+/// are wide, or the last one where there aren't so many. None where none is squarish.
 fn to_turn(requests: &[Request], end: usize, number: u64) -> Option<&Request> {
     let mut last = None;
     let mut left = number % TURNS;
@@ -265,7 +267,8 @@ fn seek_turned_below(
     }
 }
 
-/// A plan in the greatest rectangle that is made smaller than the rectangles of some requests.
+/// A plan of a request in the greatest rectangle, made as small as it gets for about as long as `effort` conflicts
+/// take. None where no plan is found. Each number begins another search.
 fn seek_from_greatest(
     alloc: Global,
     request: &Request,
@@ -319,7 +322,7 @@ fn seek_shrunk(
 }
 
 /// Looks for a layout that half a turn maps onto itself; or makes the layout smaller that was found, or a plan where
-/// none was.
+/// none was, for about as long as `effort` conflicts take. Each number begins another search.
 pub fn seek_lesser(
     alloc: Global,
     requests: &[Request],

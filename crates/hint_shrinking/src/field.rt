@@ -42,7 +42,7 @@ pub struct Field {
     beside: u64,
 }
 
-/// Has cells stay empty where they can, which is chosen first.
+/// Has the search choose first that cells are empty.
 fn wish_empty(solver: &mut Solver, numbers: &Numbers, rect: Rect) {
     for place in 0..count(rect) {
         let fact = Fact::Kind(cell_of(rect, place), Content::Empty);
@@ -52,7 +52,8 @@ fn wish_empty(solver: &mut Solver, numbers: &Numbers, rect: Rect) {
     }
 }
 
-/// The search of a request's placement formula, with more clauses.
+/// The search of a request's placement formula, with the clauses that no pair passes empty cells alone and, where
+/// wanted, that half a turn maps layouts onto themselves.
 fn solver_of(
     alloc: Global,
     request: &Request,
@@ -85,7 +86,7 @@ fn field_of(alloc: Global, named: Named, likeness: Likeness) -> Result<Field, Al
 }
 
 impl Field {
-    /// The field of a request in a rectangle, where it has one there.
+    /// The field of a request in a rectangle; none where the request doesn't fit in it.
     pub fn new(
         alloc: Global,
         request: &Request,
@@ -103,7 +104,7 @@ impl Field {
         self.named.request.rect()
     }
 
-    /// The number of a splitter in the network of the first request.
+    /// The number in the network of the first request of a splitter that has this one here.
     pub fn first_number(&self, splitter: usize) -> usize {
         self.named.first_number(splitter)
     }
@@ -118,7 +119,7 @@ impl Field {
         Literal::new(self.numbers.find(fact)?, holds)
     }
 
-    /// Adds that a cell holds this, or that it doesn't.
+    /// Adds the literal that says that a cell holds this, or that it doesn't; nothing where it has no variable.
     pub fn push(
         &self,
         literals: &mut Vec<Literal>,
@@ -188,7 +189,8 @@ impl Field {
         self.solver.grant(alloc, literals)
     }
 
-    /// Whether a layout has what is taken for granted and these literals, as at most so many conflicts show.
+    /// Whether a search of at most so many conflicts finds a layout that has what is taken for granted and these
+    /// literals.
     pub fn has_layout(
         &mut self,
         alloc: Global,

@@ -19,7 +19,8 @@ fn push_not(clause: &mut Vec<Literal>, numbers: &Numbers, fact: Fact) -> Result<
     Ok(true)
 }
 
-/// Makes a clause that of a pair so far apart. Whether all cells between lie in the rectangle.
+/// Makes a clause the one by which a pair so far apart passes a cell that isn't empty. Whether all of its facts have
+/// variables.
 fn set_clause(
     clause: &mut Vec<Literal>,
     numbers: &Numbers,

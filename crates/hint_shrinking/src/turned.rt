@@ -26,7 +26,7 @@ fn from_end(many: u32, number: i32) -> i32 {
         .wrapping_sub(number)
 }
 
-/// What half a turn of a half of a splitter is.
+/// What half a turn makes of a shape: of a half of a splitter the other half.
 fn turned_shape(shape: Shape) -> Shape {
     match shape {
         Shape::Half(Half::Lesser) => Shape::Half(Half::Greater),
@@ -60,7 +60,7 @@ impl Given<'_> {
         }
     }
 
-    /// Adds that of two facts both hold or neither does.
+    /// Adds that of two facts both hold or neither does; nothing where one of them has no variable.
     fn add_same(self, solver: &mut Solver, one: Fact, other: Fact) -> Result<(), AllocError> {
         if let (Some(one), Some(other)) = (self.numbers.find(one), self.numbers.find(other)) {
             if one != other {

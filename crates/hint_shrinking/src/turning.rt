@@ -36,7 +36,7 @@ fn find(
     Ok(false)
 }
 
-/// The field in which a layout of a request was found that half a turn maps onto itself.
+/// The field in which a layout of a request was found that half a turn maps onto itself; none where none was.
 fn turned_field(
     alloc: Global,
     request: &Request,
@@ -54,7 +54,8 @@ fn turned_field(
     }
 }
 
-/// The plan of a layout.
+/// The plan of the layout on a board, with its rectangle and what it took; none where the splitters' numbers aren't
+/// found.
 fn shrunk_of(
     alloc: Global,
     field: &mut Field,
@@ -72,7 +73,7 @@ fn shrunk_of(
     }
 }
 
-/// A layout that half a turn maps onto itself.
+/// A layout that half a turn maps onto itself; none where none is found.
 fn find_whole(
     alloc: Global,
     request: &Request,
@@ -111,7 +112,8 @@ fn opened_board(
     }
 }
 
-/// A layout whose edge at a place is joined in the last rows, which half a turn maps onto itself without it.
+/// A layout in whose last rows the edge at a place is joined, and which half a turn maps onto itself without these and
+/// with the edge opened. None where none is found.
 fn find_joined(
     alloc: Global,
     request: &Request,
@@ -137,7 +139,7 @@ fn find_joined(
 }
 
 /// Whether half a turn may map a layout in a rectangle onto itself: where nothing is asked of its ends and cells, and
-/// splitters fill no more than that.
+/// there are two cells for each splitter.
 fn may_turn(request: &Request, rect: Rect) -> bool {
     let is_free = request.demands().is_empty() && request.blocks().is_empty();
     is_free && (request.net().splitters() as usize).saturating_mul(2) <= count(rect)

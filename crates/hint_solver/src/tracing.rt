@@ -31,7 +31,7 @@ pub struct Tracer {
 }
 
 impl Tracer {
-    /// For clauses over so many variables.
+    /// A tracer for clauses over so many variables.
     pub fn new(alloc: Global, variables: usize) -> Result<Tracer, AllocError> {
         Ok(Tracer {
             literals: Vec::new(alloc),
@@ -63,7 +63,8 @@ impl Tracer {
         }
     }
 
-    /// Sees a literal that is false, which is traced where it is of the present level, or else learnt.
+    /// Sees a literal that is false, which is traced where it is of the present level, or else learnt. One that was
+    /// seen or is false for good is passed over.
     fn see(
         &mut self,
         trail: &Trail,
@@ -85,7 +86,7 @@ impl Tracer {
         Ok(())
     }
 
-    /// Sees literals.
+    /// Sees each of these literals, which are false.
     fn see_all(
         &mut self,
         trail: &Trail,
@@ -113,7 +114,7 @@ impl Tracer {
         }
     }
 
-    /// Sees why a literal is true.
+    /// Sees the other literals of the clause that made a literal true, where it wasn't chosen.
     fn see_reason(
         &mut self,
         search: &Search,
@@ -129,7 +130,7 @@ impl Tracer {
         }
     }
 
-    /// Traces literals of the present level back until one is left.
+    /// Traces literals of the present level back until one is left, whose negation is learnt last.
     fn trace_back(&mut self, search: &Search, order: &mut Order) -> Result<(), AllocError> {
         for literal in search.trail.literals().iter().rev() {
             if !self.is_marked(*literal) {
@@ -150,7 +151,7 @@ impl Tracer {
         literal.variable() == variable || self.is_marked(literal) || trail.level_of(literal) == 0
     }
 
-    /// Whether literals are all covered.
+    /// Whether literals are each false for good, seen, or of this variable.
     fn are_covered(&self, trail: &Trail, literals: &[Literal], variable: usize) -> bool {
         for literal in literals {
             if !self.is_covered(trail, *literal, variable) {
@@ -160,7 +161,7 @@ impl Tracer {
         true
     }
 
-    /// Whether a literal is false because others of the clause are.
+    /// Whether a literal is false since others that were seen are, by its reason alone.
     fn is_redundant(&self, trail: &Trail, clauses: &Clauses, literal: Literal) -> bool {
         let variable = literal.variable();
         match trail.reason_of(literal) {
@@ -186,7 +187,8 @@ impl Tracer {
         Ok(())
     }
 
-    /// Puts the literal of the greatest level among all but the first in the second place. That level, or 0.
+    /// Puts the literal of the greatest level among all but the first in the second place. Gives that level, or 0 where
+    /// there is one literal alone.
     fn arrange(&mut self, trail: &Trail) -> usize {
         let (mut best, mut back) = (1usize, 0usize);
         for place in 1..self.literals.len() {
@@ -202,7 +204,7 @@ impl Tracer {
         back
     }
 
-    /// Whether a level wasn't counted in this lesson yet. It is now.
+    /// Whether a level wasn't counted in this lesson yet. From now on it is counted.
     fn is_new(&mut self, level: usize) -> bool {
         let lessons = self.lessons;
         match self.stamps.get_mut(level) {
@@ -239,7 +241,7 @@ impl Tracer {
         }
     }
 
-    /// Learns a clause from a conflict, which is not of what was taken for granted.
+    /// Learns a clause from a conflict, whose level comes behind what was taken for granted.
     pub fn learn(
         &mut self,
         alloc: Global,

@@ -26,8 +26,8 @@ fn add_pair(
     draft.add(&given, &[])
 }
 
-/// The two pieces of a pair aren't next to one another; and where a belt may stand on any cell, it passes one that
-/// isn't empty.
+/// A pair from this cell whose pieces are at most so far apart passes a cell that isn't empty; so its pieces aren't
+/// next to one another.
 fn add_pairs(
     alloc: Global,
     draft: &mut Draft,
@@ -41,7 +41,8 @@ fn add_pairs(
     Ok(())
 }
 
-/// No belt turns to a side and back to where the first one could have turned at once, unless an input begins there.
+/// No belts turn to a side and then back, to a belt beside the first of them to which that could have turned at once,
+/// unless an input begins there.
 fn add_turn(draft: &mut Draft, cell: Cell, dir: Dir, side: Dir) -> Result<(), AllocError> {
     let next = cell.next(dir);
     let given = [
@@ -131,7 +132,7 @@ fn add_endings(
     Ok(())
 }
 
-/// Of twins the one with the lesser number doesn't stand in a later row.
+/// Where the twin with the lesser number stands in this row, the other one stands in no row above.
 fn add_rows(draft: &mut Draft, one: usize, other: usize, row: usize) -> Result<(), AllocError> {
     for above in 0..row {
         draft.add(&[Fact::Row(one, row), Fact::Row(other, above)], &[])?;
@@ -139,7 +140,7 @@ fn add_rows(draft: &mut Draft, one: usize, other: usize, row: usize) -> Result<(
     Ok(())
 }
 
-/// In one row, it doesn't stand in a later column.
+/// Of twins in one row the one with the lesser number stands in an earlier column.
 fn add_columns(
     draft: &mut Draft,
     one: usize,

@@ -38,7 +38,7 @@ fn are_true(solver: &Solver, literals: &[Literal]) -> bool {
     literals.iter().all(|literal| solver.is_true(*literal))
 }
 
-/// What a trial comes to, and whether what it finds has these literals.
+/// The name of what a trial comes to, empty where what it finds lacks a literal that is wished.
 fn outcome(
     alloc: Global,
     solver: &mut Solver,
