@@ -3,7 +3,7 @@
 //! can't be read, with 7 where nothing can be written, and with 8 where memory is wanting.
 #![tactic(auto)]
 
-use bt_io::{Sink, StdSink, StdSource, read_all, write_all_of};
+use bt_io::{ReadAll, Sink, StdSink, StdSource, read_all, write_all_of};
 use hint_certify::{Refusal, print, refutation};
 use std::alloc::Global;
 use std::io::BufWriter;
@@ -53,8 +53,10 @@ fn certify<K: Sink>(alloc: Global, text: &[u8], sink: &mut K) -> u8 {
 fn main(rt: HostRuntime) -> ExitCode {
     let alloc = rt.alloc();
     let mut source = StdSource::new(rt.stdin());
-    let Ok(text) = read_all(alloc, &mut source, INPUT_LIMIT) else {
-        return ExitCode::from(UNREAD);
+    let text = match read_all(alloc, &mut source, INPUT_LIMIT) {
+        Ok(text) => text,
+        Err(ReadAll::Memory) => return ExitCode::from(NO_MEMORY),
+        Err(ReadAll::ReadFault | ReadAll::TooLong) => return ExitCode::from(UNREAD),
     };
     let Ok(output) = BufWriter::new(alloc, rt.stdout()) else {
         return ExitCode::from(NO_MEMORY);

@@ -341,7 +341,8 @@ impl Board {
         }
     }
 
-    /// Which cells don't fit their neighbours.
+    /// For each place whether its cell doesn't fit its neighbours: what leads from one to the other breaks off, or a
+    /// splitter lacks a half.
     pub fn damage(&self, alloc: Global) -> Result<Vec<bool>, AllocError> {
         let mut damaged = vec![in alloc; false; self.tiles.len()]?;
         for place in 0..self.tiles.len() {

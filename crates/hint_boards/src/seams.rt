@@ -17,7 +17,7 @@ const NEVER: u64 = 1 << 32;
 /// How much higher or lower the seam may lie in the next column.
 const STEEPEST: usize = 2;
 
-/// What cutting out a cell costs.
+/// What cutting out a cell costs: the more, the more is to be laid anew, and `NEVER` for ends and halves of splitters.
 fn cost(board: &Board, place: usize) -> u64 {
     let tile = board.tile(place);
     if tile.is_end || tile.piece.is_half() {

@@ -111,7 +111,7 @@ impl Piece {
         }
     }
 
-    /// Whether it is a half of a splitter.
+    /// Whether the piece is a half of a splitter.
     pub fn is_half(self) -> bool {
         match self {
             Piece::Lesser(_) | Piece::Greater(_) => true,

@@ -10,6 +10,7 @@ pub struct Tracer {
     /// For each variable, whether its value is to be traced back, and whether it is assumed.
     open: Vec<bool>,
     assumed: Vec<bool>,
+    /// How many values are to be traced back.
     count: usize,
 }
 

@@ -218,7 +218,8 @@ impl Reading {
     }
 }
 
-/// Takes a step's clause away again, and all that followed of it.
+/// Takes a step's clause away again, and all that followed of it; what follows of others all the same is made true
+/// anew.
 fn undo(
     alloc: Global,
     checker: &mut Checker,

@@ -11,7 +11,7 @@ use std::alloc::{AllocError, Global};
 const ROOM: u64 = 80;
 
 /// The router is asked in a part of a rectangle only where edges times cells are at most so many: beyond, it takes a minute.
-const MOST_ROUTED: u64 = 1 << 23;
+pub const MOST_ROUTED: u64 = 1 << 23;
 
 /// The least side of the part of a rectangle in which a plan is looked for.
 const LEAST_SIDE: u32 = 16;

@@ -1,14 +1,11 @@
 //! Names of a layout's parts.
-ghost use Rattle.std.specs.Prelude.{◌↔◌, IsTrue};
-ghost use Rattle.bt_parts.specs.Cells.{IsInRange};
-ghost use Rattle.bt_parts.specs.Layouts.{AreInRange};
-
 use crate::graph::Nodes;
 use crate::matching::Pair;
+use crate::placed::grid_of;
 use bt_lays::Names;
 use bt_model::Request;
 use bt_net::End;
-use bt_parts::{Cell, Dir, MOST_COORDINATE, Part};
+use bt_parts::{Cell, Dir, Part};
 use bt_recover::{Grid, RecoverFault, Traced, recover};
 use hint_numbering::{Wanted, place_wanted};
 use std::alloc::{AllocError, Global};
@@ -308,25 +305,6 @@ fn add_splitters(colours: &mut Vec<u64>, count: usize) -> Result<(), AllocError>
     Ok(())
 }
 
-/// Whether the coordinates of a part are in range.
-fn is_in_range(part: &Part) -> bool
-    ensures { IsTrue result ↔ IsInRange part.now.cell }
-{
-    part.cell.x.unsigned_abs() <= MOST_COORDINATE && part.cell.y.unsigned_abs() <= MOST_COORDINATE
-}
-
-/// Whether the coordinates of all parts are in range.
-fn are_in_range(parts: &[Part]) -> bool
-    ensures { IsTrue result → AreInRange parts.now }
-{
-    for part in parts {
-        if !is_in_range(part) {
-            return false;
-        }
-    }
-    true
-}
-
 /// Names of the parts by which they may lay the request, but for what its splitters prefer. None where there are none, or
 /// none are found.
 pub fn name_parts(
@@ -334,10 +312,7 @@ pub fn name_parts(
     request: &Request,
     parts: &[Part],
 ) -> Result<Option<Names>, AllocError> {
-    if !are_in_range(parts) {
-        return Ok(None);
-    }
-    let Ok(grid) = Grid::place(alloc, Vec::from_slice(alloc, parts)?) else {
+    let Some(grid) = grid_of(alloc, Vec::from_slice(alloc, parts)?)? else {
         return Ok(None);
     };
     let Some(own) = own_of(alloc, &grid)? else {

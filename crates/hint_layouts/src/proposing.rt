@@ -1,14 +1,11 @@
 //! Strategies that propose layouts.
-use crate::framed::{find_framed, routed};
+use crate::framed::{MOST_ROUTED, find_framed, routed};
 use crate::naming::{Proposal, name_sketch};
 use bt_lays::lays;
 use bt_model::Request;
 use hint_placement::{Sketch, find_sketch, wants_rows};
 use hint_stages::find_stages;
 use std::alloc::{AllocError, Global};
-
-/// A router is asked only where edges times cells are at most so many: beyond, it takes a minute.
-const MOST_ROUTED: u64 = 1 << 23;
 
 /// Whether a router may be asked.
 fn may_route(request: &Request) -> bool {

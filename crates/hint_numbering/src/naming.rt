@@ -154,8 +154,8 @@ fn text_of(
     Ok(text)
 }
 
-/// The network with these edges and so many splitters. It is read from a text, so that nobody has to know that it is
-/// one; none where it isn't.
+/// The network with these edges and so many splitters. It is read from a text, so that the reader shows that it is one;
+/// none where it isn't.
 fn net_of(
     alloc: Global,
     splitters: u32,

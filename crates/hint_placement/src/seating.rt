@@ -199,8 +199,7 @@ impl Seating<'_> {
         }
     }
 
-    /// Makes exchanges by chance, of which each may cost less more than those before; the last ones make nothing
-    /// dearer.
+    /// Makes exchanges by chance. What one may cost more gets less and less, and is nothing at the end.
     fn settle(&mut self, random: &mut Random) {
         let (splitters, seats) = (self.taken.len(), self.seats.count());
         let moves = splitters.saturating_mul(MOVES_EACH).min(MOST_MOVES);

@@ -36,7 +36,7 @@ fn is_free(request: &Request, stands: &[Option<Stand>], stand: Stand) -> bool {
     stand.is_within(request)
 }
 
-/// How far a place of a line is from a seat.
+/// How far a place of a line is from a seat, in places: a line counts as `LINE_COST` of them.
 fn distance(seat: Seat, place: usize, line: usize) -> usize {
     let lines = seat.line.abs_diff(line);
     lines

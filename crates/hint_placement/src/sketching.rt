@@ -42,8 +42,7 @@ const WIDE_EFFORT: Effort = Effort {
 };
 
 /// In such a rectangle no more than so many placings are tried, and none is moved, where at best more claims were
-/// shared than a part of the edges, one of `WIDE_PART`: where a plan was found later the best of the first four came to
-/// less.
+/// shared than one for every `WIDE_PART` edges: where a plan was found later the best of the first four came to less.
 const WIDE_TRIALS: usize = 4;
 
 const WIDE_PART: usize = 20;
@@ -51,8 +50,8 @@ const WIDE_PART: usize = 20;
 /// The state of the generator that moves splitters.
 const FIRST_STATE: u64 = 5;
 
-/// A plan is looked for only where there are so many cells for each splitter; in rectangles that aren't narrow none was found
-/// with less than the second.
+/// A plan is looked for only where there are so many cells for each splitter; in rectangles of more cells than `NARROW`
+/// none was found with less than `WIDE_ROOM`.
 const LEAST_ROOM: u64 = 8;
 
 const WIDE_ROOM: u64 = 20;
@@ -60,7 +59,8 @@ const WIDE_ROOM: u64 = 20;
 /// How many percent more seats there are than splitters, by turns.
 const SPARE: [usize; 3] = [30, 0, 70];
 
-/// The same in a rectangle that isn't narrow: where room is scarce there, nearly all that settle have none more.
+/// The same in a rectangle of more cells than `NARROW`: where room is scarce there, nearly all placings that settle
+/// have no more seats than splitters.
 const WIDE_SPARE: [usize; 2] = [30, 0];
 
 /// A plan of a layout.

@@ -13,7 +13,7 @@ use std::alloc::{AllocError, Global};
 #[derive(Clone, Copy)]
 pub struct Beginning {
     pub pose: Pose,
-    /// Whether its first part keeps the direction.
+    /// Whether its first part has to keep the direction.
     pub is_straight: bool,
     /// What it claims beside its cells: the half that it leaves, and the cell in front of an unused half.
     pub half: Option<Claim>,

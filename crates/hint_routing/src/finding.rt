@@ -247,7 +247,7 @@ fn go_below(
     Ok(())
 }
 
-/// Whether the part in the pose of this number keeps its direction.
+/// Whether the part in the pose of this number has to keep its direction: only where a chain begins so.
 fn is_straight(search: &Search, number: usize) -> bool {
     match search.origin(number) {
         Origin::Begun(beginning) => beginning.is_straight,

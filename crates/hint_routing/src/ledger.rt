@@ -48,7 +48,7 @@ const FIRST_PRESSURE: u64 = 8;
 /// The greatest pressure.
 const MOST_PRESSURE: u64 = 1 << 16;
 
-/// Who has a claim, and its history.
+/// A claim: what it costs at first, how many chains have it, its history, and whether none can have it.
 #[derive(Clone, Copy)]
 struct Share {
     base: u64,

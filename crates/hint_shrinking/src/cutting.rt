@@ -113,7 +113,8 @@ fn without_line(
     }
 }
 
-/// The board without one of the cheapest rows and columns, or of all; none where that isn't found.
+/// The board without the first of its cheapest rows and columns, or of all where all are tried, that is cut out with
+/// success; none where none is.
 pub fn cut_out(
     alloc: Global,
     request: &Request,

@@ -67,7 +67,7 @@ fn try_once(
     Ok(())
 }
 
-/// Lays a window by chance anew, more than once.
+/// Makes trials in a window that is chosen by chance.
 pub fn lay_anew(
     alloc: Global,
     field: &mut Field,

@@ -48,7 +48,8 @@ struct Shrinking {
 }
 
 impl Shrinking {
-    /// How the next line is cut out: the longer none was, the more may be laid anew.
+    /// How the next line is cut out: the longer none was, the more may be laid anew, and now and then all lines are
+    /// tried.
     fn cut(&self) -> Cut {
         Cut {
             goal: self.goal,

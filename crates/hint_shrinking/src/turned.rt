@@ -18,7 +18,7 @@ struct Given<'a> {
     most: usize,
 }
 
-/// A number from the other end of so many.
+/// What a number, from 0 on, is of so many where they are counted from the other end.
 fn from_end(many: u32, number: i32) -> i32 {
     i32::try_from(many)
         .unwrap_or(0)

@@ -7,8 +7,8 @@ use std::alloc::{AllocError, Global};
 pub const LAST_LEVEL: u64 = 5040;
 
 /// The level of a splitter up to which the shortest way from an input passes so many splitters, and the shortest way
-/// from it to an output so many, itself included: the part of the whole way that lies before it. Half where it is
-/// alone.
+/// from it to an output so many, itself included: the part of the whole way that lies before it. In the middle where it
+/// is alone.
 fn level(up_to: u32, from_it: u32) -> u64 {
     let before = u64::from(up_to).saturating_sub(1);
     let all = before + u64::from(from_it).saturating_sub(1);

@@ -180,7 +180,7 @@ struct RequestTraits {
     most: u32,
     /// Whether two edges leave each splitter, and no cell is blocked.
     is_free: bool,
-    /// Whether no end is pinned.
+    /// Whether nothing is asked of where ends stand.
     is_unpinned: bool,
 }
 
@@ -245,9 +245,9 @@ fn add_all_twins(alloc: Global, draft: &mut Draft, request: &Request) -> Result<
     Ok(())
 }
 
-/// Rules over the facts of a request that a layout keeps which has few underground pieces and belts, and whose splitters
-/// stand as near to the front and, of those that may change places, in the order of their numbers. They may speak of cells
-/// that the request doesn't have.
+/// Rules over the facts of a request that a layout keeps which has few underground pieces and belts, and whose
+/// splitters stand as far to the front as can be and, of those that may change places, in the order of their numbers.
+/// They may speak of cells that the request doesn't have.
 pub fn narrowings(alloc: Global, request: &Request) -> Result<Draft, AllocError> {
     let mut draft = Draft::new(alloc)?;
     add_around(alloc, &mut draft, request)?;
