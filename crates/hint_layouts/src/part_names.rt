@@ -98,7 +98,7 @@ fn on_cell(kind: Kind, cell: Cell) -> u64 {
         .wrapping_add(y.wrapping_mul(1 << 16))
 }
 
-/// The colour of an end of a kind at a side, where each of them is wanted at some side or on some cell.
+/// The colour of an end of a kind at a side, where each end of this kind is wanted at some side or on some cell.
 fn at_side(kind: Kind, side: Dir) -> u64 {
     plain(kind)
         .wrapping_add(AT_SIDE)

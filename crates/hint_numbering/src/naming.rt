@@ -279,7 +279,7 @@ fn opened_edges(alloc: Global, net: &Net, place: usize) -> Result<Vec<Edge>, All
 }
 
 /// The request in this rectangle, without demands, for the network whose edge at a place is opened to a new output and
-/// a new input. None where no request may have the rectangle, or blocks don't lie in it.
+/// a new input. None where no request may have the rectangle or one edge more, or blocks don't lie in it.
 pub fn open_edge(
     alloc: Global,
     request: &Request,

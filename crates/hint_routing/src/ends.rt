@@ -163,7 +163,7 @@ fn push_halves(
     push_half(beginnings, rect, stand, (second, first), is_only)
 }
 
-/// How a chain may begin that leaves a splitter; in no way where it stands nowhere.
+/// How a chain may begin that leaves a splitter, as the only one or not; in no way where the splitter stands nowhere.
 fn half_beginnings(
     alloc: Global,
     rect: Rect,

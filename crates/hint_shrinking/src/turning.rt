@@ -90,7 +90,10 @@ fn find_whole(
     }
 }
 
-/// What cells hold before the last row, in a layout that half a turn maps onto itself, of the network with an edge opened.
+/// The board of a rectangle whose last row, which is this line, is empty, and before which a layout stands that half a
+/// turn maps onto itself: that of the network whose edge at a place is opened, so that it leads to a new output, and
+/// another edge from a new input to where it led. None where none is found with about so many conflicts, or there is
+/// nothing before the line.
 fn opened_board(
     alloc: Global,
     request: &Request,

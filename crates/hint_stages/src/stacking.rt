@@ -1,4 +1,5 @@
-//! The parts of a plan, rank by rank from the south to the north.
+//! The parts of a plan, rank by rank from the south to the north. The first three ranks of a butterfly of at least eight
+//! lines are cores side by side: a core is the block of eight lines of `eight`.
 use crate::arranging::{Arranged, arrange, shape_of};
 use crate::channel::find_channel;
 use crate::drawn::Channel;
@@ -155,7 +156,8 @@ fn push_upper(
     Ok(())
 }
 
-/// Adds the cores of a butterfly against its edges, but for their first rank, which stands over them.
+/// Adds the cores of a butterfly that is laid against its edges, without their first rank, which it shares with the
+/// butterfly over it. Adds nothing where it has no cores.
 fn push_last(
     stack: &mut Stack,
     rows: &[Vec<usize>],

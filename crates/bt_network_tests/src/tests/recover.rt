@@ -163,7 +163,7 @@ fn placed(rt: &impl Abort, alloc: Global, parts: Vec<Part>) -> Grid
     Grid::place(alloc, parts).expect(rt, "no two parts share a cell")
 }
 
-/// What is recovered of the layout of parts.
+/// What is recovered of the layout of parts; want of memory, too, where two of them share a cell.
 fn recovered(alloc: Global, parts: Vec<Part>) -> Result<Traced, RecoverFault>
     requires { AreInRange parts.items }
 {
