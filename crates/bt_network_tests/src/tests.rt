@@ -5,6 +5,7 @@ mod fenc;
 mod grid;
 mod judgements;
 mod layout;
+mod lays;
 mod made;
 mod model;
 mod net;

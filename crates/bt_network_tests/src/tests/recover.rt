@@ -14,7 +14,7 @@ use std::test::Fail;
 const RING: &str = ">v/^<";
 
 /// A balancer of eight belts.
-const EIGHT: &str = "\
+pub(super) const EIGHT: &str = "\
      .....^^^^^^^^/\
      .....[][][][]/\
      .....u^u^u^u^/\
@@ -121,7 +121,7 @@ fn push_piece(parts: &mut Vec<Part>, letter: u8, speeds: &[u8], x: u8, y: u8) ->
 }
 
 /// The parts of a map, row by row, with tiers of these speeds in their order.
-fn parts_with_speeds(alloc: Global, map: &str, speeds: &str) -> Result<Vec<Part>, Memory>
+pub(super) fn parts_with_speeds(alloc: Global, map: &str, speeds: &str) -> Result<Vec<Part>, Memory>
     ensures { IfOk result (λ parts. AreInRange parts.items) }
 {
     let mut parts = Vec::new(alloc);
@@ -164,7 +164,7 @@ fn placed(rt: &impl Abort, alloc: Global, parts: Vec<Part>) -> Grid
 }
 
 /// What is recovered of the layout of parts; want of memory, too, where two of them share a cell.
-fn recovered(alloc: Global, parts: Vec<Part>) -> Result<Traced, RecoverFault>
+pub(super) fn recovered(alloc: Global, parts: Vec<Part>) -> Result<Traced, RecoverFault>
     requires { AreInRange parts.items }
 {
     match Grid::place(alloc, parts) {
