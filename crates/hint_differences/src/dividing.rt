@@ -1,48 +1,49 @@
 //! The state in which all edges are free and each splitter divides evenly what comes, or all are backed and it draws evenly.
+use crate::part::Part;
 use bt_frac::Frac;
 use hint_equations::Equations;
-use hint_graphs::{Graph, ends_of};
+use hint_graphs::Graph;
 use std::alloc::{AllocError, Global};
 
 /// The most edges times ends for which the state is looked for.
 const MOST_WORK: usize = 1 << 16;
 
-/// A state as sums: for each edge the loads, or where all are backed the rooms, with their coefficients. The columns
-/// ascend.
+/// A state of a part of a network as sums: for each edge the loads, or where all are backed the rooms, and what the edges
+/// carry that come from outside, with their coefficients. The columns ascend.
 #[derive(Drop)]
 pub struct Dividing {
     sums: Vec<Vec<(usize, Frac)>>,
 }
 
 impl Dividing {
-    /// The state in which all edges are free, or with `backed` all are backed. None where the network is too large, or
-    /// the equations aren't solved.
-    pub fn of(alloc: Global, graph: &Graph, backed: bool) -> Result<Option<Dividing>, AllocError> {
-        let ends = ends_of(alloc, graph, backed)?;
-        if ends.len().saturating_mul(graph.edges()) > MOST_WORK {
+    /// The state of a part in which all edges are free, or all are backed. None where the network is too large, or the
+    /// equations aren't solved.
+    pub fn of(alloc: Global, graph: &Graph, part: &Part) -> Result<Option<Dividing>, AllocError> {
+        let first = part.first(alloc)?;
+        if first.len().saturating_mul(graph.edges()) > MOST_WORK {
             return Ok(None);
         }
         let mut dividing = Dividing {
             sums: no_sums(alloc, graph.edges())?,
         };
-        if dividing.fill(alloc, graph, backed, &ends)? {
+        if dividing.fill(alloc, graph, part, &first)? {
             Ok(Some(dividing))
         } else {
             Ok(None)
         }
     }
 
-    /// Adds to each edge's sum what it carries of what comes at each end. False where that wasn't found.
+    /// Adds to each edge's sum what it carries of what comes at each first edge. False where that wasn't found.
     fn fill(
         &mut self,
         alloc: Global,
         graph: &Graph,
-        backed: bool,
-        ends: &[usize],
+        part: &Part,
+        first: &[usize],
     ) -> Result<bool, AllocError> {
-        for end in ends {
-            match numbers_of(alloc, graph, backed, *end)? {
-                Some(numbers) => self.add_all(end_column(graph, *end, backed), &numbers)?,
+        for edge in first {
+            match numbers_of(alloc, graph, part, *edge)? {
+                Some(numbers) => self.add_all(first_column(graph, part, *edge), &numbers)?,
                 None => return Ok(false),
             }
         }
@@ -102,11 +103,12 @@ fn are_same(first: &[(usize, Frac)], second: &[(usize, Frac)]) -> bool {
     true
 }
 
-/// The column of the load at an edge that begins at an input or, with `backed`, of the room at one that ends at an
-/// output.
-fn end_column(graph: &Graph, edge: usize, backed: bool) -> usize {
-    let number = graph.end(edge, backed).unwrap_or(0);
-    let before = if backed {
+/// The column of what comes at an edge: of the load, or of the room, or of its own flow where it comes from outside.
+pub fn first_column(graph: &Graph, part: &Part, edge: usize) -> usize {
+    let Some(number) = graph.end(edge, part.backed) else {
+        return edge;
+    };
+    let before = if part.backed {
         graph.net.inputs() as usize
     } else {
         0
@@ -114,18 +116,18 @@ fn end_column(graph: &Graph, edge: usize, backed: bool) -> usize {
     graph.edges().saturating_add(before).saturating_add(number)
 }
 
-/// What each edge carries where the one at this end carries 1, and those at the other ends where flows begin nothing.
-/// None where the equations aren't solved.
+/// What each edge carries where this one of the first edges carries 1, and the others nothing. None where the equations
+/// aren't solved.
 fn numbers_of(
     alloc: Global,
     graph: &Graph,
-    backed: bool,
-    end: usize,
+    part: &Part,
+    first: usize,
 ) -> Result<Option<Vec<Frac>>, AllocError> {
     let edges = graph.edges();
     let mut equations = Equations::new(alloc, edges)?;
     for edge in 0..edges {
-        let terms = terms_of(alloc, graph, backed, end, edge)?;
+        let terms = terms_of(alloc, graph, part, first, edge)?;
         equations.add(alloc, &terms)?;
     }
     equations.solve(alloc, vec![in alloc; Frac::whole(0); edges]?)
@@ -136,21 +138,16 @@ fn numbers_of(
 fn terms_of(
     alloc: Global,
     graph: &Graph,
-    backed: bool,
-    end: usize,
+    part: &Part,
+    first: usize,
     edge: usize,
 ) -> Result<Vec<(usize, Frac)>, AllocError> {
-    let splitter = if backed {
-        graph.target(edge)
-    } else {
-        graph.start(edge)
-    };
-    let Some(splitter) = splitter else {
-        return end_terms(alloc, graph.edges(), edge, edge == end);
+    let Some(splitter) = part.maker(graph, edge) else {
+        return first_terms(alloc, graph.edges(), edge, edge == first);
     };
     let ins = graph.ins(splitter);
     let outs = graph.outs(splitter);
-    if backed {
+    if part.backed {
         shared_terms(alloc, edge, outs, ins.len())
     } else {
         shared_terms(alloc, edge, ins, outs.len())
@@ -173,7 +170,7 @@ fn shared_terms(
 }
 
 /// The terms that say that an edge carries 1, which stands at the position past the columns, or nothing.
-fn end_terms(
+fn first_terms(
     alloc: Global,
     column: usize,
     edge: usize,

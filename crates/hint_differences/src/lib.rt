@@ -5,6 +5,7 @@
 mod dividing;
 mod looping;
 mod pairing;
+mod part;
 
 pub use looping::add_looping;
 pub use pairing::pairing_of;

@@ -3,7 +3,11 @@
 //! The edges out of a splitter fall behind no more together than those into it: behind a free edge that carries less all are
 //! free, so the sums are those of the flows. The inputs don't fall behind, so no output does, and as all that comes is what
 //! they carry there, none carries more. For `drawn-evenly` it is the other way round.
-use crate::dividing::Dividing;
+//!
+//! Where there are more inputs than outputs, some edge would carry more than its cap there. What lies behind the splitters
+//! that merge lines is looked at by itself then: what its first edges carry is what comes to it.
+use crate::dividing::{Dividing, first_column};
+use crate::part::Part;
 use bt_cnf::{Formula, Lit};
 use bt_extend::{Form, NamedLit};
 use bt_frac::{Frac, Relation};
@@ -53,9 +57,11 @@ struct Looping<'a> {
     /// Whether the state is that in which all are backed.
     backed: bool,
     next: Next,
-    shortfalls: Vec<Shortfall>,
-    /// For each splitter the comparison of both its sides.
-    sums: Vec<Comparison>,
+    /// For each edge its shortfall, where it is in the part.
+    shortfalls: Vec<Option<Shortfall>>,
+    /// For each splitter the comparison of both its sides, and then those of all ends and of all that flows.
+    sums: Vec<Option<Comparison>>,
+    part: &'a Part,
     /// The edges at which the argument begins, and those at which it ends.
     first: Vec<usize>,
     last: Vec<usize>,
@@ -74,33 +80,67 @@ pub fn add_looping(
         return Ok(());
     }
     let graph = Graph::of(alloc, net)?;
-    match Dividing::of(alloc, &graph, backed)? {
-        Some(state) => add_against(alloc, formula, line, &graph, backed, &state),
-        None => Ok(()),
+    if !add_behind(alloc, formula, line, &graph, backed)? {
+        let whole = Part::whole(alloc, &graph, backed)?;
+        add_of(alloc, formula, line, &graph, &whole)?;
     }
+    Ok(())
 }
 
-/// Adds the argument against a state, where it is even.
-fn add_against(
+/// Adds the argument of what lies behind merged lines, where more comes than can leave. Tells whether it did.
+fn add_behind(
     alloc: Global,
     formula: &Formula,
     line: &mut Line,
     graph: &Graph,
     backed: bool,
+) -> Result<bool, AllocError> {
+    let first = ends_of(alloc, graph, backed)?;
+    let last = ends_of(alloc, graph, !backed)?;
+    if first.len() <= last.len() {
+        return Ok(false);
+    }
+    let part = Part::behind_merging(alloc, graph, backed)?;
+    add_of(alloc, formula, line, graph, &part)
+}
+
+/// Adds the argument of a part of the network, where its state is even. Tells whether it did.
+fn add_of(
+    alloc: Global,
+    formula: &Formula,
+    line: &mut Line,
+    graph: &Graph,
+    part: &Part,
+) -> Result<bool, AllocError> {
+    let last = ends_of(alloc, graph, !part.backed)?;
+    match Dividing::of(alloc, graph, part)? {
+        Some(state) if state.are_even(&last) => {
+            add_against(alloc, formula, line, graph, part, &state)?;
+            Ok(true)
+        }
+        _ => Ok(false),
+    }
+}
+
+/// Adds the argument against a state.
+fn add_against(
+    alloc: Global,
+    formula: &Formula,
+    line: &mut Line,
+    graph: &Graph,
+    part: &Part,
     state: &Dividing,
 ) -> Result<(), AllocError> {
     let mut looping = Looping {
-        first: ends_of(alloc, graph, backed)?,
-        last: ends_of(alloc, graph, !backed)?,
+        first: part.first(alloc)?,
+        last: ends_of(alloc, graph, !part.backed)?,
         graph,
-        backed,
+        part,
+        backed: part.backed,
         next: Next::behind(formula),
         shortfalls: Vec::new(alloc),
         sums: Vec::new(alloc),
     };
-    if !state.are_even(&looping.last) {
-        return Ok(());
-    }
     looping.define(alloc, line, state)?;
     looping.argue(alloc, formula, line, state)
 }
@@ -125,8 +165,8 @@ fn add_full(
     }
 }
 
-/// The terms of a column with its coefficient, and behind it those of a sum, whose columns are above it: with their
-/// signs turned where `turned`.
+/// The terms of a column with its coefficient and of a sum that lacks it, in order: those of the sum with their signs
+/// turned where `turned`.
 fn with_column(
     alloc: Global,
     column: usize,
@@ -135,10 +175,17 @@ fn with_column(
     turned: bool,
 ) -> Result<Vec<(usize, Frac)>, AllocError> {
     let mut terms = Vec::new(alloc);
-    terms.push((column, coefficient))?;
+    let mut is_in = false;
     for (other, number) in sum {
+        if !is_in && *other > column {
+            terms.push((column, coefficient))?;
+            is_in = true;
+        }
         let number = if turned { number.negate() } else { *number };
         terms.push((*other, number))?;
+    }
+    if !is_in {
+        terms.push((column, coefficient))?;
     }
     Ok(terms)
 }
@@ -183,7 +230,7 @@ impl<'a> Looping<'a> {
 
     /// The shortfall of an edge, where it is defined.
     fn shortfall(&self, edge: usize) -> Option<Shortfall> {
-        self.shortfalls.get(edge).copied()
+        *self.shortfalls.get(edge)?
     }
 
     /// The literal that says that the edge has the mark with which its shortfall doesn't count.
@@ -211,7 +258,7 @@ impl<'a> Looping<'a> {
         self.define_sum(line, terms)
     }
 
-    /// Defines the shortfall of an edge, by its flow less what it is in the state, and the other way round.
+    /// Defines the shortfall of an edge, where it is in the part.
     fn define_shortfall(
         &mut self,
         alloc: Global,
@@ -219,39 +266,57 @@ impl<'a> Looping<'a> {
         state: &Dividing,
         edge: usize,
     ) -> Result<(), AllocError> {
+        let shortfall = if self.part.counts(self.graph, edge) {
+            self.shortfall_against(alloc, line, state, edge)?
+        } else {
+            None
+        };
+        self.shortfalls.push(shortfall)?;
+        Ok(())
+    }
+
+    /// The shortfall of an edge, by its flow less what it is in the state, and the other way round.
+    fn shortfall_against(
+        &mut self,
+        alloc: Global,
+        line: &mut Line,
+        state: &Dividing,
+        edge: usize,
+    ) -> Result<Option<Shortfall>, AllocError> {
         let sum = state.sum(edge);
         let over = sum_of(with_column(alloc, edge, Frac::whole(1), sum, true)?);
         let under = sum_of(with_column(alloc, edge, Frac::whole(-1), sum, false)?);
         match (over, under) {
-            (Some(over), Some(under)) => self.define_forms(alloc, line, edge, over, under),
-            _ => Ok(()),
+            (Some(over), Some(under)) => self.shortfall_of(alloc, line, edge, over, under),
+            _ => Ok(None),
         }
     }
 
-    /// Defines the shortfall of an edge by its forms: it counts where the edge carries less than in the state, and
+    /// The shortfall of an edge by its forms: it counts where the edge carries less than in the state, and
     /// [`Looping::is_out`] doesn't hold.
-    fn define_forms(
+    fn shortfall_of(
         &mut self,
         alloc: Global,
         line: &mut Line,
         edge: usize,
         over: Form,
         under: Form,
-    ) -> Result<(), AllocError> {
+    ) -> Result<Option<Shortfall>, AllocError> {
         let reached = self.next.compare(line, over)?;
         let lits = [self.is_out(edge), reached.is_some()];
         let none = self.next.disjoin(alloc, line, &lits)?;
-        if let Some(behind) = self.next.count(alloc, line, none, false, under)? {
-            self.shortfalls.push(Shortfall { reached, behind })?;
-        }
-        Ok(())
+        let counted = self.next.count(alloc, line, none, false, under)?;
+        Ok(counted.map(|behind| Shortfall { reached, behind }))
     }
 
-    /// Defines the comparison of a sum with nothing.
+    /// Defines the comparison of a sum with nothing, where it has terms.
     fn define_sum(&mut self, line: &mut Line, terms: Vec<(usize, Frac)>) -> Result<(), AllocError> {
-        if let Some(sum) = self.next.compare_sum(line, terms)? {
-            self.sums.push(sum)?;
-        }
+        let sum = if terms.is_empty() {
+            None
+        } else {
+            self.next.compare_sum(line, terms)?
+        };
+        self.sums.push(sum)?;
         Ok(())
     }
 
@@ -271,18 +336,12 @@ impl<'a> Looping<'a> {
         Ok(terms)
     }
 
-    /// The terms of all loads, or all rooms, less the flows at the other ends.
+    /// What comes, less the flows at the other ends.
     fn totals(&self, alloc: Global) -> Result<Vec<(usize, Frac)>, AllocError> {
-        let mut edges = Vec::from_slice(alloc, &self.last)?;
-        edges.sort()?;
-        let mut terms = Vec::new(alloc);
-        for edge in &edges {
-            terms.push((*edge, Frac::whole(-1)))?;
-        }
-        let before = if self.backed { self.last.len() } else { 0 };
-        let base = self.graph.edges().saturating_add(before);
-        for number in 0..self.first.len() {
-            terms.push((base.saturating_add(number), Frac::whole(1)))?;
+        let mut terms = apart(alloc, &self.part.joined, &self.last)?;
+        for edge in &self.part.ends {
+            let column = first_column(self.graph, self.part, *edge);
+            terms.push((column, Frac::whole(1)))?;
         }
         Ok(terms)
     }
@@ -404,8 +463,8 @@ impl<'a> Looping<'a> {
             self.add_rows_of(rows, *edge)?;
         }
         match self.sums.get(splitter) {
-            Some(sum) => sum.add_rows(rows),
-            None => Ok(()),
+            Some(Some(sum)) => sum.add_rows(rows),
+            _ => Ok(()),
         }
     }
 
@@ -450,7 +509,7 @@ impl<'a> Looping<'a> {
         splitter: usize,
         place: usize,
     ) -> Result<(), AllocError> {
-        let Some(sum) = self.sums.get(splitter) else {
+        let Some(Some(sum)) = self.sums.get(splitter) else {
             return Ok(());
         };
         let no_more = sum.is_some();
@@ -511,7 +570,7 @@ impl<'a> Looping<'a> {
 
     /// Adds that the last edges together fall behind no more than the first, and so that none of them does.
     fn argue_sum(&self, alloc: Global, line: &mut Line) -> Result<(), AllocError> {
-        let Some(sum) = self.sums.get(self.graph.splitters()).copied() else {
+        let Some(Some(sum)) = self.sums.get(self.graph.splitters()).copied() else {
             return Ok(());
         };
         let rows = self.sum_rows(alloc)?;
@@ -541,7 +600,9 @@ impl<'a> Looping<'a> {
     fn sum_rows(&self, alloc: Global) -> Result<Vec<usize>, AllocError> {
         let mut rows = Vec::new(alloc);
         for sum in &self.sums {
-            sum.add_rows(&mut rows)?;
+            if let Some(sum) = sum {
+                sum.add_rows(&mut rows)?;
+            }
         }
         Ok(rows)
     }
@@ -584,7 +645,7 @@ impl<'a> Looping<'a> {
         line: &mut Line,
         alone: &[Vec<usize>],
     ) -> Result<(), AllocError> {
-        let Some(sum) = self.sums.last().copied() else {
+        let Some(Some(sum)) = self.sums.last().copied() else {
             return Ok(());
         };
         let mut rows = equal_rows(alloc, formula)?;
@@ -615,7 +676,7 @@ impl<'a> Looping<'a> {
                 shortfall.reached.add_rows(&mut rows)?;
             }
         }
-        if let Some(sum) = self.sums.last() {
+        if let Some(Some(sum)) = self.sums.last() {
             sum.add_rows(&mut rows)?;
         }
         Ok(rows)
