@@ -11,6 +11,7 @@ mod cutting;
 mod field;
 mod fields;
 mod goal;
+mod joining;
 mod line;
 mod moving;
 mod pairing;
@@ -18,6 +19,7 @@ mod plan;
 mod shrinking;
 mod turned;
 mod turning;
+mod variables;
 mod window;
 
 pub use goal::Goal;

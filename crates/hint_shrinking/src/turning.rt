@@ -1,40 +1,20 @@
-//! Searches for layouts that half a turn maps onto themselves, or does but for a last row in which an output is led back.
+//! Searches for layouts that half a turn maps onto themselves, or does but for a last row in which an output is led
+//! back.
 use crate::around::count;
 use crate::board::Board;
-use crate::cutting::mended;
 use crate::field::{Field, Likeness};
-use crate::line::{Axis, Line, lines_in};
+use crate::joining::joined_in;
 use crate::plan::plan_of;
 use crate::shrinking::Shrunk;
 use bt_model::Request;
 use bt_parts::Rect;
 use bt_random::Random;
-use hint_numbering::{are_in_pairs, edge_to_open, open_edge};
+use hint_half_turns::open_loops;
+use hint_numbering::are_in_pairs;
 use std::alloc::{AllocError, Global};
 
-/// The most conflicts until a search begins anew with what it learnt.
-const CONFLICTS: u64 = 2_000;
-
-/// How many rows before the last one may be laid anew where an output is led back.
-const MARGIN: usize = 2;
-
-/// Looks for a layout, with at most about so many conflicts. Whether one was found.
-fn find(
-    alloc: Global,
-    field: &mut Field,
-    effort: u64,
-    random: &mut Random,
-) -> Result<bool, AllocError> {
-    for _ in 0..effort {
-        if field.effort() >= effort || !field.grant(alloc, &[])? {
-            break;
-        }
-        if field.has_layout(alloc, &[], CONFLICTS, random)? {
-            return Ok(true);
-        }
-    }
-    Ok(false)
-}
+/// In how many rectangles opened networks are laid by turns.
+const PLACES: u64 = 3;
 
 /// The field in which a layout of a request was found that half a turn maps onto itself.
 fn turned_field(
@@ -42,12 +22,14 @@ fn turned_field(
     request: &Request,
     rect: Rect,
     effort: u64,
-    random: &mut Random,
+    number: u64,
 ) -> Result<Option<Field>, AllocError> {
-    let Some(mut field) = Field::new(alloc, request, rect, Likeness::Turned)? else {
+    let likeness = Likeness::Turned(number);
+    let mut random = Random::new(number);
+    let Some(mut field) = Field::new(alloc, request, rect, likeness)? else {
         return Ok(None);
     };
-    if find(alloc, &mut field, effort, random)? {
+    if field.find_layout(alloc, effort, &mut random)? {
         Ok(Some(field))
     } else {
         Ok(None)
@@ -78,60 +60,71 @@ fn find_whole(
     request: &Request,
     rect: Rect,
     effort: u64,
-    random: &mut Random,
+    number: u64,
 ) -> Result<Option<Shrunk>, AllocError> {
-    match turned_field(alloc, request, rect, effort, random)? {
+    match turned_field(alloc, request, rect, effort, number)? {
         Some(mut field) => {
             let board = field.board(alloc)?;
-            shrunk_of(alloc, &mut field, request, &board, random)
+            shrunk_of(alloc, &mut field, request, &board, &mut Random::new(number))
         }
         None => Ok(None),
     }
 }
 
-/// What cells hold before the last row, in a layout that half a turn maps onto itself, of the network with an edge opened.
+/// The rectangle in which the opened network is laid, where edges are joined in one: by turns a row less, the same, and
+/// a column less.
+fn lesser_rect(rect: Rect, number: u64) -> Rect {
+    let Rect { width, height } = rect;
+    match number % PLACES {
+        0 => Rect {
+            width,
+            height: height.saturating_sub(1).max(1),
+        },
+        1 => rect,
+        _ => Rect {
+            width: width.saturating_sub(1).max(1),
+            height,
+        },
+    }
+}
+
+/// What cells hold in a layout that half a turn maps onto itself, of the network with its loops opened.
 fn opened_board(
     alloc: Global,
     request: &Request,
-    line: Line,
-    place: usize,
     rect: Rect,
+    lesser: Rect,
     effort: u64,
-    random: &mut Random,
+    number: u64,
 ) -> Result<Option<Board>, AllocError> {
-    let Some(lesser) = line.cut_from(rect) else {
+    let Some(opened) = open_loops(alloc, request, lesser)? else {
         return Ok(None);
     };
-    let Some(opened) = open_edge(alloc, request, lesser, place)? else {
-        return Ok(None);
-    };
-    match turned_field(alloc, &opened, lesser, effort, random)? {
+    match turned_field(alloc, &opened, lesser, effort, number)? {
         Some(field) => Ok(Some(field.board(alloc)?.within(alloc, rect)?)),
         None => Ok(None),
     }
 }
 
-/// A layout whose edge at a place is joined in the last rows, which half a turn maps onto itself without it.
+/// A layout whose loops are joined at the border, which half a turn maps onto itself without them.
 fn find_joined(
     alloc: Global,
     request: &Request,
     rect: Rect,
-    place: usize,
     effort: u64,
-    random: &mut Random,
+    number: u64,
 ) -> Result<Option<Shrunk>, AllocError> {
-    let line = Line {
-        axis: Axis::Level,
-        number: lines_in(rect, Axis::Level).saturating_sub(1),
-    };
-    let Some(rest) = opened_board(alloc, request, line, place, rect, effort, random)? else {
+    let lesser = lesser_rect(rect, number);
+    let turn = number / PLACES;
+    let Some(rest) = opened_board(alloc, request, rect, lesser, effort, turn)? else {
         return Ok(None);
     };
     let Some(mut field) = Field::new(alloc, request, rect, Likeness::Any)? else {
         return Ok(None);
     };
-    match mended(alloc, &mut field, &rest, line, MARGIN, random)? {
-        Some(board) => shrunk_of(alloc, &mut field, request, &board, random),
+    let mut random = Random::new(number);
+    match joined_in(alloc, &mut field, &rest, lesser, &mut random)? {
+        Some(board) => shrunk_of(alloc, &mut field, request, &board, &mut random),
         None => Ok(None),
     }
 }
@@ -144,8 +137,9 @@ fn may_turn(request: &Request, rect: Rect) -> bool {
 }
 
 /// A plan of a layout of a request in a rectangle that half a turn of it maps onto itself, where each splitter may be
-/// exchanged with another one; or where that is so without an edge, of one that half a turn so maps but for its last rows,
-/// in which the edge is joined. It is looked for as long as so many conflicts take. Other numbers begin other searches.
+/// exchanged with another one; or where that is so once its loops are opened, of one that half a turn so maps but for
+/// its border, at which they are joined. It is looked for as long as so many conflicts take. Other numbers begin other
+/// searches.
 pub fn find_turned(
     alloc: Global,
     request: &Request,
@@ -156,12 +150,8 @@ pub fn find_turned(
     if !may_turn(request, rect) {
         return Ok(None);
     }
-    let mut random = Random::new(number);
     if are_in_pairs(alloc, request)? {
-        return find_whole(alloc, request, rect, effort, &mut random);
+        return find_whole(alloc, request, rect, effort, number);
     }
-    match edge_to_open(alloc, request)? {
-        Some(place) => find_joined(alloc, request, rect, place, effort, &mut random),
-        None => Ok(None),
-    }
+    find_joined(alloc, request, rect, effort, number)
 }

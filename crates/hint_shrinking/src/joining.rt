@@ -1,0 +1,65 @@
+//! Layouts of networks with loops, from one of the network whose loops are opened: the ends of these are joined at the
+//! border, where cells are laid anew.
+use crate::around::{cell_of, count};
+use crate::board::Board;
+use crate::field::Field;
+use bt_parts::{Cell, Rect};
+use bt_random::Random;
+use hint_solver::Literal;
+use std::alloc::{AllocError, Global};
+
+/// The most conflicts of a trial.
+const CONFLICTS: u64 = 1_000;
+
+/// How many rows or columns before one that is added may be laid anew.
+const MARGIN: usize = 2;
+
+/// Whether a coordinate that is one of so many keeps what it holds: not at the ends, nor near what was added to so
+/// many.
+fn is_kept(coordinate: usize, many: u32, before: u32) -> bool {
+    let (many, before) = (many as usize, before as usize);
+    let is_within = coordinate > 0 && coordinate.saturating_add(1) < many;
+    is_within && (before >= many || coordinate.saturating_add(MARGIN) < before)
+}
+
+/// Whether a cell of a rectangle keeps what it holds, where a layout lies in a lesser one or in the same.
+fn keeps(cell: Cell, rect: Rect, lesser: Rect) -> bool {
+    let (x, y) = (
+        cell.x.unsigned_abs() as usize,
+        cell.y.unsigned_abs() as usize,
+    );
+    is_kept(x, rect.width, lesser.width) && is_kept(y, rect.height, lesser.height)
+}
+
+/// That cells keep what they hold.
+fn kept(
+    alloc: Global,
+    field: &Field,
+    board: &Board,
+    lesser: Rect,
+) -> Result<Vec<Literal>, AllocError> {
+    let mut literals = Vec::new(alloc);
+    let rect = board.rect();
+    for place in 0..count(rect) {
+        let cell = cell_of(rect, place);
+        if keeps(cell, rect, lesser) {
+            field.push(&mut literals, cell, board.get(cell), true)?;
+        }
+    }
+    Ok(literals)
+}
+
+/// A layout in the field of a network with loops, from one of the opened network in a lesser rectangle or the same.
+pub fn joined_in(
+    alloc: Global,
+    field: &mut Field,
+    board: &Board,
+    lesser: Rect,
+    random: &mut Random,
+) -> Result<Option<Board>, AllocError> {
+    let literals = kept(alloc, field, board, lesser)?;
+    if !field.grant(alloc, &literals)? || !field.has_layout(alloc, &[], CONFLICTS, random)? {
+        return Ok(None);
+    }
+    Ok(Some(field.board(alloc)?))
+}
