@@ -3,9 +3,13 @@
 #![tactic(auto)]
 
 mod dividing;
+mod equations;
 mod looping;
 mod pairing;
+mod sums;
 
+pub use bt_linear::Term;
+pub use equations::Equations;
 pub use looping::add_looping;
 pub use pairing::pairing_of;
 pub use std::alloc::AllocError as Memory;

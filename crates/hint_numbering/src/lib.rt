@@ -6,14 +6,18 @@
 #![tactic(auto)]
 
 mod distances;
+mod exchanging;
 mod naming;
 mod network;
 mod numbering;
+mod opening;
 mod wanted;
 
 pub use distances::{distance_at, from_inputs, to_outputs};
-pub use naming::{Named, name_by_structure, open_edge};
+pub use exchanging::{Exchange, exchange_by};
+pub use naming::{Named, name_by_structure};
 pub use network::{from, joined, leaving, to};
-pub use numbering::{Numbered, are_in_pairs, edge_to_open, number_by_structure};
+pub use numbering::{Numbered, are_in_pairs, number_by_structure};
+pub use opening::open_loops;
 pub use std::alloc::AllocError as Memory;
 pub use wanted::{Wanted, goes_north, is_blocked, place_wanted};

@@ -11,8 +11,7 @@ use bt_model::Request;
 use bt_parts::{Cell, DIRS, Dir, Rect};
 use bt_place::encode_place;
 use bt_random::Random;
-use hint_half_turns::exchange_by;
-use hint_numbering::{Named, name_by_structure};
+use hint_numbering::{Named, exchange_by, name_by_structure};
 use hint_solver::{Answer, Literal, Solver};
 use std::alloc::{AllocError, Global};
 

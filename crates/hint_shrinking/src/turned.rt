@@ -6,7 +6,7 @@ use crate::variables::Variables;
 use bt_facts::{Class, Content, Fact, Half, Shape};
 use bt_model::Request;
 use bt_parts::{Cell, DIRS, Dir, Rect};
-use hint_half_turns::Exchange;
+use hint_numbering::Exchange;
 use std::alloc::{AllocError, Global};
 
 /// What is turned.

@@ -9,8 +9,7 @@ use crate::shrinking::Shrunk;
 use bt_model::Request;
 use bt_parts::Rect;
 use bt_random::Random;
-use hint_half_turns::open_loops;
-use hint_numbering::are_in_pairs;
+use hint_numbering::{are_in_pairs, open_loops};
 use std::alloc::{AllocError, Global};
 
 /// In how many rectangles opened networks are laid by turns.

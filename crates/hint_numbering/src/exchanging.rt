@@ -1,8 +1,8 @@
 //! Exchanges of splitters by pairs that leave a network as it is: what half a turn of a layout does to its splitters,
 //! where it maps the layout onto itself.
+use crate::network::{from, to};
 use bt_model::Request;
 use bt_net::{Start, Target};
-use hint_numbering::{from, to};
 use std::alloc::{AllocError, Global};
 
 /// So many exchanges of some splitters are tried at most.

@@ -1,8 +1,10 @@
 //! Networks whose loops are opened: what is led back ends as an output, and begins as an input.
+use crate::naming::open_edge;
+use crate::network::joined;
+use crate::numbering::are_in_pairs;
 use bt_model::Request;
 use bt_net::Edge;
 use bt_parts::Rect;
-use hint_numbering::{are_in_pairs, joined, open_edge};
 use std::alloc::{AllocError, Global};
 
 /// So many edges are opened at most.
