@@ -73,7 +73,7 @@ fn far(
 }
 
 /// The board that is left in a field where a line is cut out or added, with its surroundings laid anew.
-pub fn mended(
+fn mended(
     alloc: Global,
     field: &mut Field,
     rest: &Board,
