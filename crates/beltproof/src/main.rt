@@ -50,6 +50,7 @@ fn status(rt: &HostRuntime, words: &[String]) -> Result<u8, AllocError> {
     }
 }
 
+/// Runs the program over its words, and ends with its status, or with that for want of memory.
 fn main(rt: HostRuntime) -> ExitCode {
     let Some(words) = words_of(&rt) else {
         return ExitCode::from(NO_MEMORY);

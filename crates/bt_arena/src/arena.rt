@@ -84,7 +84,7 @@ impl<T, K> Arena<T, K> {
 }
 
 impl<T: Drop, K> Arena<T, K> {
-    /// Appends an item, and gives its id.
+    /// Appends an item, and gives its id. Where memory runs out, nothing changes.
     pub fn add(&mut self, value: T) -> Result<Id<K>, AllocError>
         ensures added { Answers alloc_error (IsAdded self.old value) (seen (with_id self.new) result) }
         ensures same { OnErr result (self.new ≡ self.old) }

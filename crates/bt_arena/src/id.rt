@@ -31,7 +31,7 @@ impl<K> Id<K> {
         }
     }
 
-    /// Its number: so many items came before it.
+    /// The place of what it names, from 0: the number of items, or lists, that were added before it.
     pub fn place(self) -> usize
         ensures { result ≡ self }
     {

@@ -32,7 +32,7 @@ impl<T, K> Model for Pool<T, K> {
     ghost invariant = { λ p. AreEnds 0 p.ends.items p.items.items };
 }
 
-// Where the list at a place begins.
+// Where the list at a place begins among the items: where the one before it ends.
 fn start(ends: &[usize], place: usize) -> usize
     requires { place < length ends.now }
     ensures { result ≡ start_of 0 ends.now place }
@@ -43,7 +43,7 @@ fn start(ends: &[usize], place: usize) -> usize
     ends[place - 1]
 }
 
-// Where the list at a place begins and ends.
+// Where the list at a place begins and ends among the items, by where each list ends.
 fn span<T>(items: &[T], ends: &[usize], place: usize) -> (usize, usize)
     requires place { place < length ends.now }
     requires ends { AreEnds 0 ends.now items.now }
@@ -114,7 +114,7 @@ impl<T: Copy, K> Pool<T, K> {
         Id::new(place)
     }
 
-    /// Appends a list, and gives its id.
+    /// Appends a list, and gives its id. Where memory runs out, nothing changes.
     pub fn add_slice(&mut self, items: &[T]) -> Result<Id<K>, AllocError>
         ensures added { Answers alloc_error (IsAdded self.old items.now) (seen (with_id self.new) result) }
         ensures same { OnErr result (self.new ≡ self.old) }

@@ -39,7 +39,8 @@ fn formula_named(alloc: Global, name: &str) -> Option<Formula> {
     }
 }
 
-/// The formula of a network, where the text is that of one, and the property `unlimited`.
+/// The flow formula of the property `unlimited` of the network whose text this is; none where it is no such text, or
+/// memory runs out.
 pub fn flow_formula(alloc: Global, text: &[u8]) -> Option<Formula> {
     match read(alloc, Admitted::Nothing, text) {
         Ok(read) => encode(alloc, &read.net, Property::Unlimited).ok(),

@@ -5,7 +5,8 @@ use std::alloc::{AllocError, Global};
 /// How many fractions a round adds.
 const TERMS: u32 = 1000;
 
-/// The sum of the fractions of this name, as often as there are rounds.
+/// The sum of the small fractions for `add-small`, else of the wide ones, as often as there are rounds; none where a
+/// sum doesn't fit.
 pub fn sum_named(alloc: Global, name: &str, rounds: u64) -> Option<Frac> {
     let terms = match name {
         "add-small" => small_fractions(alloc),
@@ -42,6 +43,7 @@ fn wide_fractions(alloc: Global) -> Result<Vec<Frac>, AllocError> {
     Ok(terms)
 }
 
+/// Adds a quotient to the fractions, where it is one.
 fn push_quotient(terms: &mut Vec<Frac>, over: i128, under: i128) -> Result<(), AllocError> {
     if under != 0 {
         if let Some(term) = Frac::new(over, under) {
@@ -51,6 +53,7 @@ fn push_quotient(terms: &mut Vec<Frac>, over: i128, under: i128) -> Result<(), A
     Ok(())
 }
 
+/// A power of a number, without looking at overflow.
 fn power(base: i128, exponent: u32) -> i128 {
     let mut product: i128 = 1;
     for _ in 0..exponent {

@@ -87,7 +87,8 @@ fn runs_over<S: Sink>(alloc: Global, name: &str, rounds: u64, text: &[u8], sink:
     }
 }
 
-/// Writes what the loop of this name comes to. Whether it comes to anything, and that is written whole.
+/// Writes what the loop of this name comes to, where the second word is the number of rounds, or for `check` names the
+/// formula. Whether it comes to anything, and that is written whole.
 fn runs<R: Source, S: Sink>(
     alloc: Global,
     words: (&str, &str),
@@ -107,6 +108,7 @@ fn runs<R: Source, S: Sink>(
     }
 }
 
+/// Runs the loop that the words name, and says where it fails or the words are too few.
 fn main(rt: HostRuntime) -> io::Result<()> {
     let mut words = env::args(&rt)?.skip(1);
     let (Some(name), Some(rounds)) = (words.next(), words.next()) else {

@@ -41,7 +41,8 @@ fn change_some(tableau: &mut Tableau, seed: u64) -> u64 {
     next
 }
 
-/// A tableau of the formula's rows, of which those at the front are bound, where its columns hold them.
+/// A tableau of the formula's rows, of which the first `ALWAYS` are bound. None where a row names a column that the
+/// formula lacks, or memory runs out.
 fn tableau_of(alloc: Global, formula: &Formula) -> Option<Tableau> {
     if !are_over(formula.rows(), formula.columns()) {
         return None;

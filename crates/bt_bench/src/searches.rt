@@ -43,7 +43,7 @@ fn formula_of(alloc: Global, text: &str) -> Result<Formula, AllocError> {
     Ok(formula)
 }
 
-/// Searches for a model of a formula with the program's choosers, in turn.
+/// Searches for a model of a formula with three choosers, in turn.
 fn search_of(alloc: Global, formula: Formula) -> Result<Found, AllocError> {
     let lowest: Box<dyn Chooser> = Box::new(alloc, Lowest::new())?;
     let recent: Box<dyn Chooser> = Box::new(alloc, Recent::new(alloc)?)?;
@@ -64,8 +64,8 @@ fn search(alloc: Global, text: &str) -> Result<Found, AllocError> {
     search_of(alloc, formula_of(alloc, text)?)
 }
 
-/// What the last of so many searches comes to, for each of which the formula is read anew. In no rounds it
-/// is read alone.
+/// What the last of so many searches comes to, for each of which the formula is read anew; none where the text isn't
+/// UTF-8 or memory runs out. In no rounds it is read alone.
 pub fn found_often(alloc: Global, text: &[u8], rounds: u64) -> Option<Found> {
     let Ok(text) = std::str::from_utf8(text) else {
         return None;

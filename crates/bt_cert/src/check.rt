@@ -23,8 +23,8 @@ const BLOCK: usize = 65536;
 /// the definitions extend it in place.
 ///
 /// `ReadFault` comes only where the source's count of faults rose, and `TooLong` exactly where one byte
-/// past the limit was taken. Both come before any other fault. It holds the clauses of the steps so far,
-/// and one line.
+/// past the limit was taken. Both come before any other fault. What is held meanwhile is the clauses of the steps
+/// so far, and one line.
 pub fn check_log<S: Source>(
     alloc: Global,
     mut formula: Formula,

@@ -70,6 +70,7 @@ impl<'a> Checker<'a> {
         }
     }
 
+    /// Judges a lemma, keeps its clause where it is valid, and tells whether that is empty.
     fn judge_lemma(&mut self, lits: &[WrittenLit], weights: &[Frac]) -> Result<bool, StepFault>
         requires { All IsLowest weights.now }
         ensures { JudgesStep self.old (Lemma lits.now weights.now) self.new result }
@@ -84,6 +85,7 @@ impl<'a> Checker<'a> {
         Ok(self.known.add(&self.lits)?)
     }
 
+    /// Judges a learnt clause, keeps it where it is valid, and tells whether it is empty.
     fn judge_learnt(&mut self, lits: &[WrittenLit], hints: &[u64]) -> Result<bool, StepFault>
         ensures { JudgesStep self.old (Learnt lits.now hints.now) self.new result }
     {
@@ -99,8 +101,8 @@ impl<'a> Checker<'a> {
     }
 }
 
-/// Puts the literals of a formula that are written into `lits`, and tells whether each is of a variable
-/// of it.
+/// Puts the literals of a formula that are written into `lits`, and tells whether the formula has the variable of each.
+/// Where it lacks one, those before it are put there.
 pub fn read_lits(
     formula: &Formula,
     written: &[WrittenLit],

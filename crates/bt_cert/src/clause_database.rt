@@ -51,7 +51,7 @@ impl<'a> ClauseDatabase<'a> {
         self.formula
     }
 
-    /// The clause at a place, where there is one.
+    /// The clause at a place, from 0, where there is one: those of the formula come first, then those of the steps.
     pub fn get(&self, place: usize) -> Option<&[Lit]>
         ensures some { IfSome result (λ clause. IsClauseAt self.now place clause.now) }
         ensures none { IfNone result (length self.now.clauses ≤ place) }

@@ -49,7 +49,7 @@ impl Model for Defining {
 }
 
 impl Defining {
-    /// A certificate for a formula of which no byte was read.
+    /// The definitions of a certificate for a formula, of which no byte was read.
     pub fn new(alloc: Global, formula: &Formula) -> Defining
         ensures read { HasDefined formula.now [] formula.now result }
         ensures known { IsFormula formula.now }
@@ -62,7 +62,7 @@ impl Defining {
         }
     }
 
-    /// Reads one more piece.
+    /// Reads one more piece of the text, and keeps what comes behind the definitions.
     pub fn take(
         &mut self,
         alloc: Global,
@@ -84,8 +84,8 @@ impl Defining {
         self.keep(rest)
     }
 
-    /// Reads on what is left of a source, of which at most `limit` bytes are read, up to a line that is of
-    /// no definition. How many bytes were read, or none where the source ended.
+    /// Reads on what is left of a source, of which at most `limit` bytes are read, up to a line that is of no
+    /// definition. Gives how many bytes were read, or None where the source ended.
     pub fn read_on<S: Source>(
         &mut self,
         alloc: Global,
@@ -173,7 +173,8 @@ impl Defining {
         Ok(())
     }
 
-    /// Reads the rest of a line, and whether it is that of a definition, which then extends the formula.
+    /// Reads the rest of a line, and tells whether the line is that of a definition, which then extends the formula.
+    /// Where it isn't, the rest isn't kept.
     fn take_line(
         &mut self,
         alloc: Global,
@@ -196,7 +197,7 @@ impl Defining {
     }
 }
 
-/// Extends the formula by the definition of a line, where it is that of one that may stand there.
+/// Extends the formula by the definition of a line, and tells whether the line is that of one that may stand there.
 fn define(alloc: Global, formula: &mut Formula, line: &[u8]) -> Result<bool, AllocError>
     ensures { IfOk result (DefinesLine formula.old line.now formula.new) }
 {
@@ -225,8 +226,8 @@ fn extend_in_place(
     Ok(())
 }
 
-/// Whether a definition that may be written may stand where this is the formula so far: where that has no
-/// rows, a variable alone may be defined.
+/// Whether a definition may come next where this is the formula so far: where that has no rows, only a variable may be
+/// defined.
 fn may_stand(formula: &Formula, definition: &Definition) -> bool
     ensures { IsTrue result ↔ MaySo formula.now definition.now }
 {
@@ -236,7 +237,7 @@ fn may_stand(formula: &Formula, definition: &Definition) -> bool
     is_definition(formula, definition)
 }
 
-/// Whether a definition is of a variable.
+/// Whether a definition is of a variable, which is that of a disjunction.
 fn is_of_variable(definition: &Definition) -> bool
     ensures { IsTrue result ↔ IsOfVariable definition.now }
 {

@@ -11,7 +11,7 @@ use crate::units::{are_hints, refute};
 use bt_cnf::Lit;
 use std::alloc::AllocError;
 
-/// Whether a learnt clause follows from the hinted clauses, and if not, why. It may leave assumptions.
+/// Whether a learnt clause follows from the hinted clauses, and if not, why. `assumed` may hold assumptions afterwards.
 pub fn judge_learnt(
     known: &ClauseDatabase,
     lits: &[Lit],

@@ -72,7 +72,7 @@ impl<'a> Reading<'a> {
         })
     }
 
-    /// Reads one more piece.
+    /// Reads one more piece of the text. Nothing is done with it where the text was refused.
     pub fn take(&mut self, piece: &[u8])
         requires { self.old.line + length piece.now < 2 ^ 64 }
         ensures line { self.new.line ≤ self.old.line + length piece.now }
@@ -182,7 +182,7 @@ impl<'a> Reading<'a> {
         self.advance(found);
     }
 
-    /// Finds what the line is that goes on with these bytes.
+    /// Finds what the line is that begins with what was kept of it and ends with these bytes.
     fn find(&mut self, line: &[u8]) -> Found
         ensures found { IsFound self.old.known (self.old.part ++ line.now) self.new.known result }
         ensures same { self.new ≡ record self.old { known = self.new.known; part = [] } }
@@ -198,7 +198,7 @@ impl<'a> Reading<'a> {
         found
     }
 
-    /// Goes on after a whole line.
+    /// Goes on after a whole line that is this: to the next one, to the blanks after the line `end`, or to a fault.
     fn advance(&mut self, found: Found)
         requires { self.old.line + 1 < 2 ^ 64 }
         ensures { self.new ≡ advanced self.old found }
@@ -221,7 +221,7 @@ impl<'a> Reading<'a> {
         }
     }
 
-    /// Keeps the front of a line that goes on.
+    /// Keeps the front of a line that goes on. Where memory runs out, the text is refused.
     fn keep(&mut self, part: &[u8])
         requires stage { self.old.stage ≡ Steps }
         requires lacks { Lacks 10 part.now }

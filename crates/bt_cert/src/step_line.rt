@@ -72,7 +72,7 @@ impl StepLine {
         }
     }
 
-    /// Reads a lemma, whose line begins with `f` and goes on so.
+    /// Reads a lemma, whose line begins with `f` and goes on with this text, and tells whether it is one.
     fn read_lemma(&mut self, text: &[u8]) -> Result<bool, AllocError>
         ensures { IfOk result (IsStepRead (102 ∷ text.now) self.new) }
     {
@@ -85,7 +85,7 @@ impl StepLine {
         Ok(rest.is_empty())
     }
 
-    /// Reads a learnt clause, whose line begins with `r` and goes on so.
+    /// Reads a learnt clause, whose line begins with `r` and goes on with this text, and tells whether it is one.
     fn read_learnt(&mut self, text: &[u8]) -> Result<bool, AllocError>
         ensures { IfOk result (IsStepRead (114 ∷ text.now) self.new) }
     {

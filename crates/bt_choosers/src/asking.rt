@@ -5,8 +5,8 @@ ghost use Rattle.bt_choosers.specs.Picks.{AsksFirst};
 
 use bt_cnf::{Chooser, Pick, Var};
 
-/// Asks the first chooser, which is the one that serves. Where there is none, the lowest variable is set to
-/// false.
+/// Asks which of the unset variables is set next, and how, of the first chooser, which is the one that serves. Where
+/// there is no chooser, the lowest variable is set to false.
 pub fn ask<C: Chooser>(choosers: &mut [C], unset: &[Var]) -> Pick
     requires some { 0 < length unset.now }
     requires ascending { Ascends unset.now }

@@ -1,4 +1,4 @@
-//! Three choosers, none of which tells a list.
+//! Three simple choosers: of the lowest variable, of the highest, and of the last clause.
 ghost use Rattle.std.specs.Prelude.{◌≡◌, ◌<◌, Contains, IfNone, IfSome, None, OnOk, Some, length, slice_get};
 ghost use Rattle.bt_cnf.specs.Choosing.{Ascends};
 ghost use Rattle.bt_choosers.specs.Picks.{PicksHighest, PicksLowest, PicksRecent};
@@ -119,7 +119,7 @@ pub fn place_of(unset: &[Var], var: Var) -> Option<usize>
     None
 }
 
-/// The place among the unset variables of the first one that a literal has, or 0.
+/// The place among the unset variables of the clause's first variable that is unset; 0 where none is.
 fn first_unset(clause: &[Lit], unset: &[Var]) -> usize
     requires some { 0 < length unset.now }
     requires ascending { Ascends unset.now }

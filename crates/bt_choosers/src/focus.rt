@@ -24,7 +24,7 @@ pub struct Focus {
 }
 
 impl Focus {
-    /// Over so many variables, before the first conflict.
+    /// A focus over so many variables, before the first conflict.
     pub fn new(alloc: Global, variables: usize) -> Result<Focus, AllocError> {
         Ok(Focus {
             waiting: Waiting::new(alloc, variables)?,
@@ -34,7 +34,8 @@ impl Focus {
         })
     }
 
-    /// A literal of the first variable that waits and has no value.
+    /// A literal of the first waiting variable that has no value, set as it was set last. None where there is none. The
+    /// variables up to it wait no longer.
     pub fn pick(&mut self, values: &Values) -> Option<Lit>
         ensures { IfSome result (λ l. LacksValue values.now l.var) }
     {
@@ -51,7 +52,8 @@ impl Focus {
         None
     }
 
-    /// Lets the variables of literals wait that are going to have no value any more, and remembers how they were set.
+    /// Remembers how the variables of the trail from a place on are set, and lets them wait again, since they are going
+    /// to be unset.
     pub fn release(&mut self, trail: &[Lit], from: usize) {
         for place in from..trail.len() {
             let lit = trail[place];
@@ -62,7 +64,8 @@ impl Focus {
         }
     }
 
-    /// Takes what a conflict met, and at how many levels the literals of the clause became false that is learnt from it.
+    /// Takes which variables a conflict met, by their numbers, and at how many levels the literals of the clause became
+    /// false that is learnt from it.
     pub fn learn(&mut self, met: &[usize], levels: u32) {
         for variable in met {
             self.waiting.raise(*variable, self.bump);
@@ -71,7 +74,7 @@ impl Focus {
         self.pace.count(levels);
     }
 
-    /// Whether a restart is due.
+    /// Whether a restart is due. Where it is, the clauses up to the next one are counted anew.
     pub fn is_restart_due(&mut self) -> bool {
         self.pace.is_due()
     }

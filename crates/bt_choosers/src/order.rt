@@ -1,5 +1,7 @@
 //! The order in which variables are decided, which lasts from one conflict to the next: a scan for the greatest score at
 //! each choice took 57 % of the time of a search, and a heap would have to be told of all that a backjump unsets.
+//!
+//! The chooser that serves is the first of the choosers, where there is one.
 ghost use Rattle.std.specs.Prelude.{◌≡◌, ◌≤◌, ℕ, [], drop, length, map, IfOk, OnOk, Contains};
 ghost use Rattle.std.specs.List.Sorted.{IsPermutation};
 ghost use Rattle.bt_cnf.specs.Choosing.{Ascends};
@@ -86,7 +88,7 @@ impl Order {
         Ok(asked(choosers, &self.unset))
     }
 
-    /// Whether the chooser that serves has an order, into which the variables were put then.
+    /// Whether the chooser that serves has an order. The first time after a conflict, the variables are put in it.
     fn is_arranged<C: Chooser>(&mut self, choosers: &[C]) -> bool
         ensures { (v : ℕ) → Contains self.old v → Contains self.new v }
     {
@@ -95,7 +97,7 @@ impl Order {
     }
 }
 
-/// Appends the variables that are not there yet.
+/// Appends the variables of these values that are not there yet.
 fn cover(vars: &mut Vec<Var>, values: &Values) -> Result<(), AllocError>
     requires { HasFirst (length vars.old.items) vars.old.items }
     ensures each { HasFirst (length vars.new.items) vars.new.items }
@@ -107,7 +109,7 @@ fn cover(vars: &mut Vec<Var>, values: &Values) -> Result<(), AllocError>
     Ok(())
 }
 
-/// Has the chooser that serves put variables in its order, and tells whether it has one.
+/// Has the chooser that serves put variables in its order, and tells whether it has one; false where none serves.
 fn arrange<C: Chooser>(choosers: &[C], vars: &mut [Var]) -> bool
     ensures { IsPermutation vars.old vars.new }
 {
@@ -118,7 +120,7 @@ fn arrange<C: Chooser>(choosers: &[C], vars: &mut [Var]) -> bool
 }
 
 /// Where choices come from: where no chooser has been asked, the one that serves puts variables in its order, if it has
-/// one, and all of them are passed again.
+/// one, and the walk through them goes back to the first.
 #[tactic(auto, using(crate::proofs::Listing::left_permuted))]
 fn source_of<C: Chooser>(choosers: &[C], vars: &mut [Var], at: &mut usize, source: Source) -> Source
     ensures same { IsPermutation vars.old vars.new }
@@ -146,7 +148,7 @@ fn pass(vars: &[Var], from: usize, values: &Values) -> usize
     vars.len()
 }
 
-/// How the chooser that serves sets a variable.
+/// Whether the chooser that serves sets a variable to true; false where it says nothing of it.
 fn phase_of<C: Chooser>(choosers: &[C], var: Var) -> bool {
     match choosers.first() {
         Some(chooser) => chooser.phase(var).unwrap_or(false),

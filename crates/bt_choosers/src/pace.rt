@@ -24,7 +24,8 @@ pub struct Pace {
     steps: u64,
 }
 
-/// An average over so many with one more.
+/// The average over about `over` numbers, after a new one: one part in `over` of the average so far is replaced by one
+/// part in `over` of the new number.
 fn averaged(average: u64, new: u64, over: u64) -> u64 {
     let over = over.max(1);
     average
@@ -33,7 +34,7 @@ fn averaged(average: u64, new: u64, over: u64) -> u64 {
 }
 
 impl Pace {
-    /// Before the first clause.
+    /// The pace before the first clause.
     pub fn new() -> Pace {
         Pace {
             quick: 0,
@@ -52,7 +53,8 @@ impl Pace {
         self.steps = self.steps.saturating_add(1);
     }
 
-    /// Whether a restart is due, since the last clauses are worse than those before. Then it counts from there on.
+    /// Whether a restart is due, since the last clauses are worse than those before. Where it is, the clauses up to the
+    /// next restart are counted anew.
     pub fn is_due(&mut self) -> bool {
         if self.steps < LEAST_STEPS || self.quick <= self.slow {
             return false;

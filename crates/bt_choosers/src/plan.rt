@@ -17,7 +17,7 @@ pub struct Turn {
 }
 
 impl Turn {
-    /// Each stretch.
+    /// The turn of a part that always serves.
     pub fn always() -> Turn {
         Turn {
             steps: 1,
@@ -26,7 +26,7 @@ impl Turn {
         }
     }
 
-    /// Whether the part serves after so many steps.
+    /// Whether the part serves after so many steps of the log.
     fn serves(self, steps: u64) -> bool {
         steps / self.steps.max(1) % self.of.max(1) == self.number
     }
@@ -54,7 +54,8 @@ impl Part {
         }
     }
 
-    /// The first literal whose variable has no value, where there is one.
+    /// The first literal whose variable has no value, where there is one. A brittle part is given up where a literal
+    /// before that is false.
     fn pick(&mut self, values: &Values) -> Option<Lit>
         ensures { IfSome result (λ l. LacksValue values.now l.var) }
     {
@@ -76,7 +77,7 @@ impl Part {
     }
 }
 
-/// Whether a literal is false.
+/// Whether a literal is false. One of a variable that the formula lacks isn't.
 fn is_set_false(values: &Values, lit: &Lit) -> bool {
     lit.var.place() < values.len() && is_lit_false(values, lit)
 }
@@ -95,7 +96,7 @@ struct Restarts {
 }
 
 impl Restarts {
-    /// From the sequence's first number on.
+    /// Restarts by the numbers of Luby's sequence, from its first on, times a unit.
     fn by(unit: u64) -> Restarts {
         Restarts {
             unit,
@@ -141,7 +142,8 @@ impl Plan {
         }
     }
 
-    /// A plan without parts by which the conflicts of the search decide next, and when it restarts, over so many variables.
+    /// A plan without parts, over so many variables: what the conflicts of the search met decides which variable is set
+    /// next, and when the search restarts.
     pub fn by_conflicts(alloc: Global, variables: usize) -> Result<Plan, AllocError> {
         Ok(Plan {
             parts: Vec::new(alloc),
@@ -150,7 +152,7 @@ impl Plan {
         })
     }
 
-    /// Whether conflicts decide.
+    /// Whether conflicts decide which variable is set next.
     pub fn is_by_conflicts(&self) -> bool {
         self.focus.is_some()
     }
@@ -161,7 +163,8 @@ impl Plan {
         Ok(())
     }
 
-    /// The literal of the first part that has one after so many steps, or else the one that conflicts decide.
+    /// The literal of the first part that serves after so many steps of the log and has one, or else that which
+    /// conflicts decide. None where neither has any.
     pub fn pick(&mut self, steps: u64, values: &Values) -> Option<Lit>
         ensures { IfSome result (λ l. LacksValue values.now l.var) }
     {
@@ -178,8 +181,8 @@ impl Plan {
         }
     }
 
-    /// Takes which variables a conflict met, and at how many levels the literals of the clause became false that is learnt
-    /// from it.
+    /// Takes which variables a conflict met, by their numbers, and at how many levels the literals of the clause became
+    /// false that is learnt from it. Nothing is done with it where conflicts don't decide.
     pub fn learn(&mut self, met: &[usize], levels: u32) {
         if let Some(focus) = &mut self.focus {
             focus.learn(met, levels);

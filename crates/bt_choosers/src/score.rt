@@ -10,7 +10,7 @@ pub struct Score {
 }
 
 impl Score {
-    /// Nothing.
+    /// The score 0.
     pub fn zero() -> Score {
         Score { more: 0, digits: 0 }
     }
@@ -23,7 +23,7 @@ impl Score {
         }
     }
 
-    /// Whether it is greater than another.
+    /// Whether this score is greater than another.
     pub fn exceeds(self, other: Score) -> bool {
         self.more > other.more || (self.more == other.more && self.digits > other.digits)
     }
@@ -40,7 +40,7 @@ impl Score {
         )
     }
 
-    /// The sum with another.
+    /// The sum with another score, of which what stands behind the first 32 digits is dropped.
     pub fn plus(self, other: Score) -> Score {
         if other.exceeds(self) {
             other.with_lesser(self)
@@ -49,14 +49,14 @@ impl Score {
         }
     }
 
-    /// A ninth more.
+    /// The score and a ninth of it.
     pub fn grown(self) -> Score {
         let digits = u64::from(self.digits);
         first_digits(self.more, digits.saturating_add(digits / 9))
     }
 }
 
-/// A score of digits that may be one too many.
+/// The score of these digits with so many more behind them. Where the digits are 33, the last one is dropped.
 fn first_digits(more: u32, digits: u64) -> Score {
     match u32::try_from(digits) {
         Ok(digits) => Score { more, digits },

@@ -84,7 +84,7 @@ impl Waiting {
         self.put(place, variable);
     }
 
-    /// The first of the two variables below a place, and where it is.
+    /// The place and the variable of the first of the at most two below a place of the heap. None where there is none.
     fn first_below(&self, place: usize) -> Option<(usize, usize)> {
         let left = place.saturating_mul(2).saturating_add(1);
         let right = left.saturating_add(1);
@@ -110,7 +110,7 @@ impl Waiting {
         self.put(place, variable);
     }
 
-    /// Lets a variable wait, which may do so already.
+    /// Lets a variable wait. Nothing changes where it waits already, or there is no such variable.
     pub fn push(&mut self, variable: usize) {
         if let Some(None) = self.places.get(variable) {
             let place = self.count;
@@ -119,7 +119,7 @@ impl Waiting {
         }
     }
 
-    /// The first variable, which waits no longer.
+    /// The first variable, which waits no longer. None where none waits.
     pub fn pop(&mut self) -> Option<usize> {
         let first = self.at(0)?;
         self.count = self.count.saturating_sub(1);
@@ -134,7 +134,7 @@ impl Waiting {
         Some(first)
     }
 
-    /// Adds to the score of a variable.
+    /// Adds a bump to the score of a variable, and moves the variable towards the front where it waits.
     pub fn raise(&mut self, variable: usize, bump: Score) {
         if let Some(score) = self.scores.get_mut(variable) {
             *score = score.plus(bump);

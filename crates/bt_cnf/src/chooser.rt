@@ -12,7 +12,7 @@ use std::alloc::AllocError;
 /// Which of some unset variables is set next, and how.
 #[derive(Clone, Copy, PartialEq, Eq)]
 pub struct Pick {
-    /// The place of the variable among those.
+    /// The place of the variable among them, from 0.
     pub place: usize,
     /// Whether it is set to true.
     pub positive: bool,
@@ -29,7 +29,7 @@ pub trait Chooser: Drop {
     /// How it sets each variable, where it has an order of variables.
     ghost phase_of: { Self → ℕ → Bool } = { λ _ _. false };
 
-    /// Chooses among the unset variables, of which there is at least one, and which ascend.
+    /// Chooses which of the unset variables is set next, and how. There is at least one, and they ascend.
     fn pick(&mut self, unset: &[Var]) -> Pick
         requires some { 0 < length unset.now }
         requires ascending { Ascends unset.now }
@@ -37,14 +37,15 @@ pub trait Chooser: Drop {
         ensures picks { may_pick self.old unset.now result }
         ensures same { told_clauses self.new ≡ told_clauses self.old };
 
-    /// Is told of a clause that was learnt. A chooser that grows keeps its own allocator.
+    /// Is told of a clause that was learnt. Where memory runs out, the clause counts as not told. A chooser that grows
+    /// keeps an allocator of its own.
     fn told(&mut self, clause: &[Lit]) -> Result<(), AllocError>
         ensures gains { OnOk result
             (Gains (told_clauses self.old) (told_clauses self.new) (clause.now ∷ [])) }
         ensures keeps { OnErr result (told_clauses self.new ≡ told_clauses self.old) };
 
-    /// Puts variables in the order in which it picks them, and tells whether it has one: until it is told of
-    /// a clause, it may pick the first of them that is unset, whichever are. By default it has none.
+    /// Puts variables in the order in which the chooser picks them, and tells whether it has such an order: until it is
+    /// told of the next clause, it may pick the first of them that is unset, whichever are. By default it has none.
     fn arrange(&self, _vars: &mut [Var]) -> bool
         ensures same { IsPermutation _vars.old _vars.new }
         ensures picks { IsTrue result → AreInPickOrder (may_pick self.now) (phase_of self.now) _vars.new }
@@ -52,7 +53,7 @@ pub trait Chooser: Drop {
         false
     }
 
-    /// How it sets a variable of such an order, where it has one.
+    /// Whether the chooser sets a variable of its order to true. None where it has no order, as by default.
     fn phase(&self, _var: Var) -> Option<bool>
         ensures { IfSome result (λ phase. phase ≡ phase_of self.now _var) }
     {

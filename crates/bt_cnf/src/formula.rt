@@ -60,7 +60,7 @@ impl Formula {
         self.clauses.add_slice(lits)
     }
 
-    /// Gives a variable its row. The variable is to be above that of every atom so far.
+    /// Makes a variable an atom with this row. The variable is to come behind every atom so far.
     pub fn set_atom(&mut self, var: Var, row: Row) -> Result<(), AllocError>
         requires { IsNextAtom self.old var }
         ensures { AddsAtom self.old var row self.new result }
@@ -119,7 +119,7 @@ impl Formula {
         self.clauses.slice(id)
     }
 
-    /// The clause at a place, where there is one.
+    /// The id of the clause at a place, from 0. None where there are no more than so many clauses.
     pub fn clause_at(&self, place: usize) -> Option<ClauseId>
         ensures none { IsNone result ↔ (length self.now.clauses ≤ place) }
         ensures some { IfSome result (λ id. id ≡ place) }
@@ -127,7 +127,7 @@ impl Formula {
         self.clauses.id_at(place)
     }
 
-    /// The variable at a place, where there is one.
+    /// The variable at a place, from 0. None where there are no more than so many variables.
     pub fn var_at(&self, place: usize) -> Option<Var>
         ensures none { IsNone result ↔ (self.now.vars ≤ place) }
         ensures some { IfSome result (λ var. var ≡ place) }

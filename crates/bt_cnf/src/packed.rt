@@ -31,7 +31,7 @@ impl Model for Packed {
 /// Variables with numbers below this one can be packed.
 const LIMIT: usize = 1 << 31;
 
-/// The number of a literal: twice its variable's, and one more for the negation.
+/// The number of a literal of the variable at a place: twice the place, and one more for the negation.
 fn code(place: u32, positive: bool) -> u32
     requires { place < 2 ^ 31 }
     ensures { result ≡ code_of (record { var = place; positive = positive }) }
@@ -40,7 +40,7 @@ fn code(place: u32, positive: bool) -> u32
 }
 
 impl Packed {
-    /// The same literal, packed. A variable's number that doesn't fit is want of memory.
+    /// The same literal, packed. Memory counts as run out where the number of its variable is 2^31 or more.
     pub fn pack(lit: &Lit) -> Result<Packed, AllocError>
         ensures { IfOk result (λ packed. packed ≡ lit.now) }
     {
@@ -53,7 +53,7 @@ impl Packed {
         })
     }
 
-    /// The same literal.
+    /// The same literal, whose variable is one of those that these values are of.
     pub fn unpack(&self, values: &Values) -> Lit
         requires { self.now.var < length values.now }
         ensures { result ≡ self.now }
@@ -64,42 +64,42 @@ impl Packed {
         }
     }
 
-    /// The number of its variable.
+    /// The number of the literal's variable, from 0.
     pub fn place(&self) -> usize
         ensures { result ≡ self.now.var }
     {
         (self.code / 2) as usize
     }
 
-    /// Whether it is positive.
+    /// Whether the literal is its variable, not the negation.
     pub fn is_positive(&self) -> bool
         ensures { result ≡ self.now.positive }
     {
         self.code % 2 == 0
     }
 
-    /// Its number among the literals.
+    /// The literal's number among all literals: twice that of its variable, and one more for the negation.
     pub fn number(&self) -> usize
         ensures { result ≡ code_of self.now }
     {
         self.code as usize
     }
 
-    /// Whether it is the same as another.
+    /// Whether this literal is the same as another.
     pub fn is(&self, other: &Packed) -> bool
         ensures { IsTrue result ↔ (self.now ≡ other.now) }
     {
         self.code == other.code
     }
 
-    /// Whether it stands for this literal.
+    /// Whether this is the same literal as one that isn't packed.
     pub fn stands_for(&self, lit: &Lit) -> bool
         ensures { IsTrue result ↔ (self.now ≡ lit.now) }
     {
         self.place() == lit.var.place() && self.is_positive() == lit.positive
     }
 
-    /// Whether it is true.
+    /// Whether the literal is true by these values. Where its variable is unset, it is neither true nor false.
     pub fn is_true(&self, values: &Values) -> bool
         requires { self.now.var < length values.now }
         ensures { IsTrue result ↔ IsTrueIn values.now self.now }
@@ -107,7 +107,7 @@ impl Packed {
         is_lit_true(values, &self.unpack(values))
     }
 
-    /// Whether it is false.
+    /// Whether the literal is false by these values.
     pub fn is_false(&self, values: &Values) -> bool
         requires { self.now.var < length values.now }
         ensures { IsTrue result ↔ IsFalseIn values.now self.now }

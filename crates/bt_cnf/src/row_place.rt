@@ -4,7 +4,7 @@ ghost use Rattle.std.specs.Prelude.{◌≡◌, Some, None, IfOk};
 use std::alloc::AllocError;
 use std::marker::Model;
 
-/// The place of a row, where there is one. A formula keeps one for each variable, and so they are kept in four bytes each.
+/// The place of a row, where there is one, in four bytes, since a formula keeps one for each variable.
 #[derive(Drop)]
 pub struct RowPlace {
     /// One more than the place, or 0 where there is none.
@@ -21,14 +21,14 @@ impl Model for RowPlace {
 }
 
 impl RowPlace {
-    /// No place.
+    /// No place: that of a variable without a row.
     pub fn none() -> RowPlace
         ensures { result ≡ None }
     {
         RowPlace { end: 0 }
     }
 
-    /// The place. One that doesn't fit is want of memory.
+    /// This place of a row. Memory counts as run out where it is 2^32 - 1 or more.
     pub fn of(place: usize) -> Result<RowPlace, AllocError>
         ensures { IfOk result (λ kept. kept ≡ Some place) }
     {
@@ -38,7 +38,7 @@ impl RowPlace {
         }
     }
 
-    /// The place, where there is one.
+    /// The place of the row, where there is one.
     pub fn row(&self) -> Option<usize>
         ensures { result ≡ self.now }
     {

@@ -39,7 +39,7 @@ impl Model for Truth {
     ghost inverse_ok = { λ w h i. record { lbool = lbool_back w.lbool i } };
 }
 
-/// The value of a variable that is set.
+/// A truth value, as an `Lbool`.
 fn set_to(value: bool) -> Lbool
     ensures { result ≡ lbool_of (Some value) }
 {
@@ -47,7 +47,7 @@ fn set_to(value: bool) -> Lbool
 }
 
 impl Truth {
-    /// That of a variable without a value.
+    /// The value of a variable that is unset.
     pub fn unset() -> Truth
         ensures { result ≡ None }
     {
@@ -56,7 +56,7 @@ impl Truth {
         }
     }
 
-    /// That of a variable with a value.
+    /// The value of a variable that is set to true or false.
     pub fn set(value: bool) -> Truth
         ensures { result ≡ Some value }
     {
@@ -72,7 +72,7 @@ impl Truth {
         self.lbool == Lbool::Unset
     }
 
-    /// Whether there is this value.
+    /// Whether there is a value, and it is this one.
     pub fn is(&self, value: bool) -> bool
         ensures { IsTrue result ↔ (self.now ≡ Some value) }
     {
@@ -83,7 +83,7 @@ impl Truth {
 /// For each variable, its value.
 pub type Values = Arena<Truth, Variable>;
 
-/// Whether a literal is true.
+/// Whether a literal is true by these values. Where its variable is unset, it is neither true nor false.
 pub fn is_lit_true(values: &Values, lit: &Lit) -> bool
     requires { lit.now.var < length values.now }
     ensures { IsTrue result ↔ IsTrueIn values.now lit.now }
@@ -91,7 +91,7 @@ pub fn is_lit_true(values: &Values, lit: &Lit) -> bool
     values.get(lit.var).is(lit.positive)
 }
 
-/// Whether a literal is false.
+/// Whether a literal is false by these values.
 pub fn is_lit_false(values: &Values, lit: &Lit) -> bool
     requires { lit.now.var < length values.now }
     ensures { IsTrue result ↔ IsFalseIn values.now lit.now }

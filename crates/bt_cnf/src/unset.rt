@@ -8,7 +8,7 @@ use crate::literal::Var;
 use crate::truth::Values;
 use std::alloc::AllocError;
 
-/// Lists the variables that have no value, in ascending order.
+/// Lists the variables that have no value, in ascending order, in place of what `unset` held.
 pub fn list_unset(unset: &mut Vec<Var>, values: &Values) -> Result<(), AllocError>
     ensures { OnOk result (AreUnset values.now (length values.now) unset.new.items) }
 {
@@ -31,7 +31,7 @@ fn add_unset(unset: &mut Vec<Var>, values: &Values, place: usize) -> Result<(), 
     Ok(())
 }
 
-/// Whether there is such a variable, and it has no value.
+/// Whether a variable is among those that these values are of, and has no value.
 pub fn lacks_value(values: &Values, var: Var) -> bool
     ensures { IsTrue result ↔ LacksValue values.now var }
 {

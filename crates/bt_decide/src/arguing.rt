@@ -11,7 +11,7 @@ use bt_net::Net;
 use hint_arguments::{Argument, argument_of, argument_of_both};
 use std::alloc::{AllocError, Global};
 
-/// The argument for a property of a network, over its formula.
+/// The argument for a property of a network, over its formula, with no more definitions than a verdict may have.
 pub fn argument_for(
     alloc: Global,
     net: &Net,
@@ -25,7 +25,8 @@ pub fn argument_for(
     Ok(argument)
 }
 
-/// The argument that two networks behave the same, over the formula of both.
+/// The argument that two networks behave the same, over the formula of both, with no more definitions than a verdict
+/// may have.
 pub fn argument_for_both(
     alloc: Global,
     first: &Net,

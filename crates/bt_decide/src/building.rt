@@ -9,8 +9,8 @@ use bt_net::{Edge, Net};
 use hint_balancers::candidates;
 use std::alloc::{AllocError, Global};
 
-/// A network of so many inputs and outputs that has each wished property: of those that are known, up to 64 each way, and
-/// that are decided within the limits, the one of fewest splitters, where there is one.
+/// Of the networks of so many inputs and outputs, up to 64 each, that are likely to have each wished property, the one
+/// of fewest splitters that is decided within the limits to have them. None where none is.
 pub fn build(
     alloc: Global,
     wish: Wish,
@@ -32,7 +32,7 @@ pub fn build(
     Ok(None)
 }
 
-/// Takes the first network of those with fewest splitters.
+/// Takes the first network of those with fewest splitters out of the list. None where the list is empty.
 fn take_least(nets: &mut Vec<Net>) -> Option<Net> {
     let mut least = 0;
     let mut splitters = u32::MAX;
@@ -49,7 +49,8 @@ fn take_least(nets: &mut Vec<Net>) -> Option<Net> {
     }
 }
 
-/// Whether a network is as it is wanted, which is decided within the limits.
+/// Whether a network has so many inputs and outputs, edges of the cap 1 alone, and each wished property as far as is
+/// decided within the limits.
 fn is_built(
     alloc: Global,
     net: &Net,

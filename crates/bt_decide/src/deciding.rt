@@ -15,9 +15,9 @@ use bt_theory::{Outcome, solve};
 use hint_simulation::simplest;
 use std::alloc::{AllocError, Global};
 
-/// Decides within limits whether every steady state of a network has a property. A state that simulations show is looked
-/// for before the search, but where no turns are allowed. The choosers steer the search, which is right whatever they
-/// answer.
+/// Decides within limits whether every steady state of a network has a property. A state that simulations show is
+/// looked for before the search, but where no turns are allowed. The choosers steer the search, which is right whatever
+/// they answer.
 pub fn decide<C: Chooser>(
     alloc: Global,
     net: &Net,
@@ -33,7 +33,8 @@ pub fn decide<C: Chooser>(
     }
 }
 
-/// A state that simulations show and that breaks the property, where turns are allowed: they are asked for no state else.
+/// A state that simulations show and that breaks the property. None where they show none, or where no turns are
+/// allowed: simulations aren't asked then.
 fn shown(
     alloc: Global,
     net: &Net,
@@ -73,7 +74,7 @@ fn search<C: Chooser>(
     Ok(verdict)
 }
 
-/// The verdict on a property of the network, of what deciding its flow formula came to.
+/// The verdict on a property of the network, by what deciding its flow formula came to.
 fn verdict_of(
     alloc: Global,
     net: &Net,

@@ -13,7 +13,8 @@ use bt_gen::Wish;
 use bt_net::Net;
 use std::alloc::{AllocError, Global};
 
-/// Whether a network has each property of a wish, as far as is decided within the limits for each of them.
+/// Whether a network has each property of a wish. False too where one of them isn't decided within the limits, which
+/// hold for each alone.
 pub fn grants(alloc: Global, net: &Net, wish: Wish, limits: Limits) -> Result<bool, AllocError>
     ensures { IfOk result (λ granted. IsTrue granted → Grants wish net.now) }
 {
@@ -26,7 +27,8 @@ pub fn grants(alloc: Global, net: &Net, wish: Wish, limits: Limits) -> Result<bo
     )
 }
 
-/// Whether a network passes all that a wish asks it to. One that is unlimited is full, so this isn't decided then.
+/// Whether a network is unlimited, where a wish asks for that, or else full, where it asks for that. One that is
+/// unlimited is full, so full needn't be decided then. False too where it isn't decided within the limits.
 fn passes(alloc: Global, net: &Net, wish: Wish, limits: Limits) -> Result<bool, AllocError>
     ensures { IfOk result (λ held. IsTrue held → PassesWished wish net.now) }
 {
@@ -36,7 +38,8 @@ fn passes(alloc: Global, net: &Net, wish: Wish, limits: Limits) -> Result<bool, 
     has_if(alloc, net, wish.full, Property::Full, limits)
 }
 
-/// Whether a network has a property, where it is asked for.
+/// Whether a network has a property, where that is asked for; true where it isn't. False too where it isn't decided
+/// within the limits.
 fn has_if(
     alloc: Global,
     net: &Net,
@@ -53,7 +56,7 @@ fn has_if(
     }
 }
 
-/// Whether a network has a property, as far as is decided within the limits.
+/// Whether a network has a property. False too where that isn't decided within the limits.
 fn has(alloc: Global, net: &Net, property: Property, limits: Limits) -> Result<bool, AllocError>
     ensures { IfOk result (λ held. IsTrue held → Holds net.now property) }
 {

@@ -11,9 +11,9 @@ use std::alloc::{AllocError, Global};
 /// By how much the sides of a row may differ that a simulation shows as equal, in parts of `UNIT`.
 const TOLERANCE: i128 = 1024;
 
-/// Assignments that are likely to meet the formula of two networks, whose columns and marks are those of simulations of the
-/// one behind the other; those first that were found first. The marks are those of a simulation, and an atom is true where
-/// its row holds there but for little. Of a row and its strict opposite one is true.
+/// Assignments that are likely to meet the formula of two networks, by simulations in which these behave otherwise;
+/// those first that were found first. A mark is that of the simulation, and an atom is true where its row holds there
+/// but for little: of a row and its strict opposite one is true.
 pub fn guesses_of_both(
     alloc: Global,
     first: &Net,
@@ -30,7 +30,7 @@ pub fn guesses_of_both(
     Ok(guesses)
 }
 
-/// The assignment that a simulation shows.
+/// The assignment that a simulation shows: whether each variable of the formula is true.
 fn guess_of(alloc: Global, formula: &Formula, found: &Found) -> Result<Vec<bool>, AllocError>
     ensures { IfOk result (λ guess. length guess.items ≡ formula.now.vars) }
 {
@@ -41,7 +41,7 @@ fn guess_of(alloc: Global, formula: &Formula, found: &Found) -> Result<Vec<bool>
     Ok(guess)
 }
 
-/// Whether the variable at a place is true: the mark of an edge, or an atom.
+/// Whether the variable at a place is true: an atom by its row, any other by the mark of the edge of the same number.
 fn truth_of(formula: &Formula, found: &Found, place: usize) -> bool {
     match row_at(formula, place) {
         Some(row) => holds(row, found),
@@ -49,14 +49,14 @@ fn truth_of(formula: &Formula, found: &Found, place: usize) -> bool {
     }
 }
 
-/// The row of the variable at a place, where it is an atom.
+/// The row of the variable at a place. None where the variable is no atom.
 fn row_at(formula: &Formula, place: usize) -> Option<&Row> {
     let var = formula.var_at(place)?;
     let row = formula.row_of(var)?;
     formula.rows().get(row)
 }
 
-/// Whether the edge with a number is backed.
+/// Whether the edge with a number is backed in a simulation. False where there is no such edge.
 fn is_backed(found: &Found, edge: usize) -> bool {
     match found.simulated.backed.get(edge) {
         Some(backed) => *backed,
@@ -64,7 +64,8 @@ fn is_backed(found: &Found, edge: usize) -> bool {
     }
 }
 
-/// Whether a row holds, but for little.
+/// Whether a row holds in a simulation, but for little: a strict row only by more than that, so that of it and its
+/// opposite one holds.
 fn holds(row: &Row, found: &Found) -> bool {
     let excess = excess(row, found);
     match row.relation() {
@@ -74,7 +75,7 @@ fn holds(row: &Row, found: &Found) -> bool {
     }
 }
 
-/// By how much the sum of a row is above its bound, in parts of `UNIT`.
+/// By how much the sum of a row is above its bound in a simulation, in parts of `UNIT`.
 fn excess(row: &Row, found: &Found) -> i128 {
     let mut sum: i128 = 0;
     for (column, coefficient) in row.terms() {
@@ -88,7 +89,7 @@ fn product(fraction: &Frac, amount: u32) -> i128 {
     fraction.numerator().saturating_mul(i128::from(amount)) / fraction.denominator()
 }
 
-/// The value of a column: a flow, a load or a room.
+/// The value of a column in a simulation, in parts of `UNIT`: a flow, and behind these a load or a room.
 fn value_at(found: &Found, column: usize) -> u32 {
     let flows = &found.simulated.flows;
     if column < flows.len() {
@@ -98,7 +99,7 @@ fn value_at(found: &Found, column: usize) -> u32 {
     }
 }
 
-/// The load of an input or, in the numbers behind these, the room of an output.
+/// The load of an input or, in the numbers behind these, the room of an output, in parts of `UNIT`; 0 past the end.
 fn end_value_at(case: &Case, end: usize) -> u32 {
     if end < case.loads.len() {
         case.loads[end]

@@ -7,7 +7,8 @@ pub fn yes_is_certificate()
     ensures { YesIsCertificate }
 {}
 
-/// The same of the log of a yes that two networks behave the same.
+/// What is printed of the log of a yes that two networks behave the same is a certificate, which `bt_cert` accepts,
+/// where the log has fewer than 10 ^ 17 steps.
 pub fn same_is_certificate()
     ensures { SameIsCertificate }
 {}

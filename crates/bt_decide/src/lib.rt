@@ -1,5 +1,5 @@
-//! Decisions: whether every steady state of a network has a property, and whether two networks behave the same, with the
-//! evidence; and networks for wishes, each of which is decided.
+//! Decisions: whether every steady state of a network has a property, and whether two networks behave the same, with
+//! the evidence; and networks for wishes, each of which is decided.
 #![tactic(auto)]
 
 mod arguing;

@@ -33,7 +33,8 @@ pub fn decide_same<C: Chooser>(
     }
 }
 
-/// A pair of states that shows a difference, where simulations of both networks lead to one.
+/// A pair of states that shows a difference, found by at most `pivots` turns from each simulation of both networks.
+/// None where none leads to one.
 fn shown(
     alloc: Global,
     first: &Net,
@@ -82,7 +83,7 @@ fn search<C: Chooser>(
     Ok(verdict)
 }
 
-/// The verdict on two networks, of what deciding the formula of both came to.
+/// The verdict on two networks, by what deciding the formula of both came to.
 fn verdict_of_both(
     alloc: Global,
     first: &Net,

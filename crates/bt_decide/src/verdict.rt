@@ -8,7 +8,8 @@ use bt_theory::GaveUp;
 /// What deciding a property of a network comes to.
 #[derive(Drop)]
 pub enum Verdict {
-    /// The network has the property: the log refutes that a state breaks it, over the formula that the definitions extend.
+    /// The network has the property: the log refutes that a state breaks it, over the formula that the definitions
+    /// extend.
     Yes {
         definitions: Vec<Definition>,
         log: Log,

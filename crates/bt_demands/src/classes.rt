@@ -1,4 +1,5 @@
-//! The classes of a request's edges.
+//! The classes of a request's edges. A demand is a line of the request that says where ends stand: a pin, a side or a
+//! row.
 ghost use Rattle.std.specs.Prelude.{◌≡◌};
 ghost use Rattle.std.specs.List.{list_any};
 ghost use Rattle.bt_net.specs.Network as network;
@@ -20,7 +21,7 @@ fn is_end_input(input: u32, end: End) -> bool
     }
 }
 
-/// Whether this input is pinned by the line.
+/// Whether this demand pins this input.
 fn pins_input(input: u32, demand: Demand) -> bool
     ensures { result ≡ classes.pins_input input demand }
 {
@@ -42,14 +43,14 @@ fn is_pinned(demands: &[Demand], input: u32) -> bool
     false
 }
 
-/// Whether the end is one of those that are named.
+/// Whether the end is one of these ends.
 fn is_named(ends: Ends, end: End) -> bool
     ensures { result ≡ classes.names ends end }
 {
     names(ends, end)
 }
 
-/// The side at which the end is to stand by this line.
+/// The side at which the end is to stand by this demand; none where the demand names no side, or not this end.
 fn side_by(demand: Demand, end: End) -> Option<Dir>
     ensures { result ≡ classes.side_by demand end None }
 {
@@ -65,7 +66,7 @@ fn side_by(demand: Demand, end: End) -> Option<Dir>
     }
 }
 
-/// The side at which the end is to stand.
+/// The side at which the end is to stand by the first demand that says so; none where none does.
 fn side_of(demands: &[Demand], end: End) -> Option<Dir>
     ensures { result ≡ classes.side_of demands.now end }
 {
@@ -111,7 +112,7 @@ fn same_dir(one: Dir, other: Dir) -> bool
     }
 }
 
-/// Whether both are the same side, or none.
+/// Whether both are the same side, or both none.
 fn same_way(one: Option<Dir>, other: Option<Dir>) -> bool
     ensures { result ≡ classes.same_way one other }
 {
@@ -229,7 +230,7 @@ pub fn goes_to(request: &Request, class: Class, splitter: usize) -> bool
     some_goes_along(request.net().edges(), request.demands(), class, splitter)
 }
 
-/// Whether the splitter is the other one or some edge goes from the other one into it.
+/// Whether the splitter is `from`, or some edge goes from that one into it.
 pub fn goes_on(request: &Request, from: usize, splitter: usize) -> bool
     ensures { result ≡ tables.goes_on request.now from splitter }
 {

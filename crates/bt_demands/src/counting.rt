@@ -32,7 +32,8 @@ fn inputs_apart(request: &Request) -> usize
     count
 }
 
-/// The number of cells that ends need.
+/// The number of cells that ends need: one for each output, and one for each input that doesn't lead to an output. An
+/// input that does may begin on the cell on which its output ends.
 fn ends_apart(request: &Request) -> usize
     ensures count { result ≡ counting.ends_apart request.now }
     ensures few { result ≤ 4096 }
@@ -40,7 +41,8 @@ fn ends_apart(request: &Request) -> usize
     request.net().outputs() as usize + inputs_apart(request)
 }
 
-/// Whether so many cells, with so many on the border, are enough for so many halves and ends.
+/// Whether so many cells, of which so many are on the border, have room for the halves, and the border for the ends:
+/// each half and each end needs a cell of its own.
 fn are_enough(cells: usize, border: usize, halves: usize, ends: usize) -> bool
     requires halves { halves ≤ 4096 }
     requires ends { ends ≤ 4096 }
@@ -49,7 +51,7 @@ fn are_enough(cells: usize, border: usize, halves: usize, ends: usize) -> bool
     ends <= border && halves + ends <= cells
 }
 
-/// The number of halves.
+/// The number of halves: two for each splitter.
 fn halves_of(request: &Request) -> usize
     ensures count { result ≡ counting.halves_of request.now }
     ensures few { result ≤ 4096 }
@@ -68,7 +70,7 @@ pub fn has_room(alloc: Global, request: &Request, cells: &[Cell]) -> Result<bool
     Ok(are_enough(cells.len(), border.len(), halves, ends))
 }
 
-/// Adds that all halves are among the cells, where there is room.
+/// Adds that all halves are among the cells. Only called where the rectangle has room.
 pub fn add_counts(
     alloc: Global,
     draft: &mut Draft,

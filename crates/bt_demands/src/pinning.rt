@@ -1,4 +1,4 @@
-//! Rules of pins, and of blocks.
+//! Rules of pins, and of blocks: cells on which nothing may stand.
 ghost use Rattle.std.specs.Prelude.{◌≡◌, ◌<◌, ◌^◌, ◌++◌, ◌∷◌, [], map, flat_map, filter, IfOk, OnOk, if◌then◌else◌};
 ghost use Rattle.std.specs.List.{AllByRecursion};
 ghost use Rattle.bt_demands.specs.Classes.{class_of as class_of_edge};
@@ -29,7 +29,7 @@ pub fn is_edge_of(end: End, edge: Edge) -> bool
     }
 }
 
-/// Adds that the cell has the class of the edge, where it is that of this end.
+/// Adds that the cell has the class of the edge, where the edge is that of this end.
 fn add_pin_class(
     draft: &mut Draft,
     demands: &[Demand],
@@ -46,7 +46,7 @@ fn add_pin_class(
     Ok(())
 }
 
-/// Adds that the cell has the class of those of the edges that are those of this end.
+/// Adds that the cell has the class of the edge of this end, which is one of these edges.
 fn add_pin_classes(
     draft: &mut Draft,
     edges: &[Edge],
@@ -64,7 +64,8 @@ fn add_pin_classes(
     Ok(())
 }
 
-/// Adds a belt and an exit on the cell so turned, where what is in front of them is outside.
+/// Adds the facts that a belt and that an exit stands on the cell so turned. Adds nothing where the cell in front is
+/// inside.
 pub fn push_enders(
     facts: &mut Vec<Fact>,
     rect: Rect,
@@ -78,7 +79,8 @@ pub fn push_enders(
     push_outside(facts, rect, ahead(dir, cell), &parts)
 }
 
-/// The belts and exits on the cell in front of which the rectangle ends.
+/// The facts that a belt or an exit stands on the cell and faces the outside, for each direction in which the rectangle
+/// ends.
 pub fn enders(alloc: Global, rect: Rect, cell: Cell) -> Result<Vec<Fact>, AllocError>
     requires { IsNear cell }
     ensures { IfOk result (λ facts. facts.items ≡ all_enders rect cell) }
@@ -90,7 +92,7 @@ pub fn enders(alloc: Global, rect: Rect, cell: Cell) -> Result<Vec<Fact>, AllocE
     Ok(facts)
 }
 
-/// Adds that an input begins on the cell, or that an output ends there.
+/// Adds that an input begins on the cell, or that a belt or exit stands there which faces the outside, for an output.
 fn add_end(
     alloc: Global,
     draft: &mut Draft,
@@ -110,7 +112,7 @@ fn add_end(
     }
 }
 
-/// Adds that no part of this shape is turned any of these ways.
+/// Adds that no part of this shape stands on the cell turned any of these ways.
 fn add_not_turned(
     draft: &mut Draft,
     cell: Cell,
@@ -126,7 +128,8 @@ fn add_not_turned(
     Ok(())
 }
 
-/// Adds that the part of an end is turned this way.
+/// Adds that neither a belt nor the piece of an end, an entrance for an input and an exit for an output, stands on the
+/// cell turned another way than this.
 fn add_turned(draft: &mut Draft, cell: Cell, end: End, dir: Dir) -> Result<(), AllocError>
     ensures { OnOk result (draft.new ≡ draft.old
         ++ flat_map (λ of. map (λ other. not_all (told.holds cell of other ∷ [])) (others_of dir))
@@ -141,7 +144,7 @@ fn add_turned(draft: &mut Draft, cell: Cell, end: End, dir: Dir) -> Result<(), A
     add_not_turned(draft, cell, piece, &others)
 }
 
-/// Adds that the part of an end is turned no other way than this one, where there is one.
+/// Adds that the part of an end is turned no other way than this one; nothing where no direction is given.
 fn add_direction(
     draft: &mut Draft,
     cell: Cell,
@@ -190,7 +193,7 @@ fn pins_clash(one: Pin, other: Pin) -> bool
     same_kind(one.end, other.end) && one.x == other.x && one.y == other.y
 }
 
-/// Whether the two lines do.
+/// Whether the two demands are pins that put two inputs, or two outputs, on one cell.
 fn clashes(one: Demand, other: Demand) -> bool
     ensures { result ≡ pinning.clashes one other }
 {
@@ -200,7 +203,7 @@ fn clashes(one: Demand, other: Demand) -> bool
     }
 }
 
-/// Adds a rule that nothing keeps, where the two lines clash.
+/// Adds a rule that nothing keeps, where the two demands clash: a cell has room for one end of a kind.
 fn add_clash(draft: &mut Draft, one: Demand, other: Demand) -> Result<(), AllocError>
     ensures { OnOk result (draft.new ≡ draft.old
         ++ (if pinning.clashes one other then some_of [] ∷ [] else [])) }
@@ -211,7 +214,7 @@ fn add_clash(draft: &mut Draft, one: Demand, other: Demand) -> Result<(), AllocE
     Ok(())
 }
 
-/// Adds a rule that nothing keeps for each of the other lines with which the line clashes.
+/// Adds a rule that nothing keeps for each of the other demands with which the demand clashes.
 fn add_clashes_with(draft: &mut Draft, demand: Demand, others: &[Demand]) -> Result<(), AllocError>
     ensures { OnOk result (draft.new ≡ draft.old
         ++ map (λ other. some_of []) (filter (pinning.clashes demand) others.now)) }
@@ -222,7 +225,7 @@ fn add_clashes_with(draft: &mut Draft, demand: Demand, others: &[Demand]) -> Res
     Ok(())
 }
 
-/// Adds that no two lines clash.
+/// Adds a rule that nothing keeps for each two demands that clash.
 pub fn add_clashes(draft: &mut Draft, demands: &[Demand]) -> Result<(), AllocError>
     ensures { OnOk result (draft.new ≡ draft.old ++ pinning.clash_rules demands.now) }
 {

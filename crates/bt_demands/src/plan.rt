@@ -109,7 +109,7 @@ fn input_classes(alloc: Global, request: &Request) -> Result<Vec<Class>, AllocEr
     Ok(found)
 }
 
-/// The classes of the splitters.
+/// The class of the edges that leave each splitter.
 fn splitter_classes(alloc: Global, request: &Request) -> Result<Vec<Class>, AllocError>
     ensures { IfOk result (λ found. found.items ≡ map class.Split (classing.splitters_of request.now)) }
 {
@@ -118,7 +118,7 @@ fn splitter_classes(alloc: Global, request: &Request) -> Result<Vec<Class>, Allo
         .collect(alloc)
 }
 
-/// The classes, with those of edges from inputs at hand.
+/// All classes of a request: those of the splitters, and behind them `inputs`, those of edges from inputs.
 fn all_classes(alloc: Global, request: &Request, inputs: &[Class]) -> Result<Vec<Class>, AllocError>
     requires { inputs.now ≡ classing.input_classes request.now }
     ensures { IfOk result (λ found. found.items ≡ classing.classes_of request.now) }
@@ -212,7 +212,7 @@ fn sources(
     Ok(found)
 }
 
-/// Adds the splitter, where it is the other one or some edge goes from the other one into it.
+/// Adds the splitter, where it is `from` or some edge goes from that one into it.
 fn push_onward(
     found: &mut Vec<usize>,
     request: &Request,
@@ -295,7 +295,7 @@ fn edges_from(alloc: Global, edges: &[Edge], splitter: usize) -> Result<Vec<Edge
     Ok(found)
 }
 
-/// The way of a class.
+/// The way of a class: the class with the splitters into which edges of it go.
 fn way_of(alloc: Global, request: &Request, class: Class) -> Result<Way, AllocError>
     ensures is { IfOk result (λ way. IsWay request.now way) }
     ensures class { IfOk result (λ way. way.class ≡ class) }
@@ -317,7 +317,7 @@ fn ways_of(alloc: Global, request: &Request, classes: &[Class]) -> Result<Vec<Wa
     Ok(ways)
 }
 
-/// The gate of a splitter.
+/// The gate of a splitter: it, with what comes to it and what goes from it. `classes` are all of the request's.
 fn gate_of(
     alloc: Global,
     request: &Request,

@@ -1,4 +1,5 @@
-//! Rules of ends that stand in a row.
+//! Rules of ends that stand in a row: on consecutive cells to the east, or to the south. A place of a row is its first
+//! cell.
 ghost use Rattle.std.specs.Prelude.{◌≡◌, true, ◌<◌, ◌≤◌, ◌++◌, ◌∷◌, [], OnOk, if◌then◌else◌};
 ghost use Rattle.std.specs.List.{flat_map, list_any};
 ghost use Rattle.bt_facts.specs.Near.{IsNear};
@@ -17,7 +18,7 @@ use bt_net::{Demand, EndKind, Row};
 use bt_parts::{Cell, Dir, Rect};
 use std::alloc::{AllocError, Global};
 
-/// The rows in which ends of this kind may stand.
+/// The two rows in which ends of this kind may stand: one to the east, one to the south.
 fn lines_of(kind: EndKind) -> [Line; 2]
     ensures { result ≡ rows.lines_of kind }
 {
@@ -49,7 +50,7 @@ fn end_count(request: &Request, kind: EndKind) -> usize
     }
 }
 
-/// Whether the last one of so many cells from this one on lies in the rectangle.
+/// Whether a row of so many ends has room from this cell on: its last cell lies in the rectangle.
 fn has_place(rect: Rect, count: usize, line: Line, cell: Cell) -> bool
     requires near { IsNear cell }
     requires some { 1 ≤ count }
@@ -59,7 +60,7 @@ fn has_place(rect: Rect, count: usize, line: Line, cell: Cell) -> bool
     is_inside(rect, far(way_of(line), cell, count - 1))
 }
 
-/// Adds that the ends stand at this place, where it is one.
+/// Adds the fact that the ends stand in the row from this cell on; nothing where they have no room there.
 fn push_place(
     facts: &mut Vec<Fact>,
     rect: Rect,
@@ -79,7 +80,7 @@ fn push_place(
     Ok(())
 }
 
-/// Adds that the ends stand at each of the places of a row.
+/// Adds for each cell the fact that the ends stand in the row from it on, where they have room.
 fn push_places(
     facts: &mut Vec<Fact>,
     rect: Rect,
@@ -99,7 +100,7 @@ fn push_places(
     Ok(())
 }
 
-/// Adds that where the ends stand at a place, one of them stands on this cell.
+/// Adds that where `place` holds, which says where the ends stand, one of them stands on this cell.
 fn add_placed(
     alloc: Global,
     draft: &mut Draft,
@@ -120,7 +121,7 @@ fn add_placed(
     }
 }
 
-/// Adds that where the ends stand at this place, one of them stands on each of its cells.
+/// Adds that where the ends stand in the row from this cell on, one of them stands on each of their cells.
 fn add_all_placed(
     alloc: Global,
     draft: &mut Draft,
@@ -167,7 +168,7 @@ fn add_place(
     Ok(())
 }
 
-/// Adds the rules of all places of a row.
+/// Adds for each cell that where the ends stand in the row from it on, one of them stands on each of their cells.
 fn add_line(
     alloc: Global,
     draft: &mut Draft,
@@ -189,7 +190,7 @@ fn add_line(
     Ok(())
 }
 
-/// Adds that the ends stand at some place.
+/// Adds that the ends stand from some cell on, in a row to the east or to the south.
 fn add_some_place(
     alloc: Global,
     draft: &mut Draft,
@@ -212,7 +213,7 @@ fn add_some_place(
     draft.add(&[], &facts)
 }
 
-/// Adds that all ends of a kind stand in a row.
+/// Adds that all ends of a kind stand in a row: on consecutive cells, of which each has one of them.
 pub fn add_row(
     alloc: Global,
     draft: &mut Draft,
@@ -232,7 +233,7 @@ pub fn add_row(
     Ok(())
 }
 
-/// Whether the line says that ends stand in a row.
+/// Whether the demand says that ends stand in a row.
 fn is_row(demand: Demand) -> bool
     ensures { result ≡ is_row_line demand }
 {
@@ -242,7 +243,7 @@ fn is_row(demand: Demand) -> bool
     }
 }
 
-/// Whether some line does.
+/// Whether some demand says that ends stand in a row.
 fn some_is_row(demands: &[Demand]) -> bool
     ensures { result ≡ list_any is_row_line demands.now }
 {

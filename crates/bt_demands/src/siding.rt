@@ -1,4 +1,4 @@
-//! Rules of sides, and of all lines that say where ends stand.
+//! Rules of sides, and of all demands, which say where ends stand.
 ghost use Rattle.std.specs.Prelude.{◌≡◌, ◌++◌, ◌∷◌, [], map, flat_map, IfOk, OnOk};
 ghost use Rattle.std.specs.List.{All, AllByRecursion, list_any, range_with_len};
 ghost use Rattle.bt_demands.specs.Pinning as pinning;
@@ -19,7 +19,7 @@ use bt_net::{Demand, Edge, End, Ends, Pin, Side};
 use bt_parts::{Cell, Dir, Rect};
 use std::alloc::{AllocError, Global};
 
-/// Adds the class of the edge, where it is that of this end.
+/// Adds the class of the edge, where the edge is that of this end.
 fn push_end_class(
     found: &mut Vec<Class>,
     request: &Request,
@@ -35,7 +35,7 @@ fn push_end_class(
     Ok(())
 }
 
-/// The classes of the edge of an end.
+/// The class of the edge of an end, as a list of one.
 fn end_classes(alloc: Global, request: &Request, end: End) -> Result<Vec<Class>, AllocError>
     ensures { IfOk result (λ found. found.items ≡ pinning.end_classes request.now end) }
 {
@@ -47,7 +47,7 @@ fn end_classes(alloc: Global, request: &Request, end: End) -> Result<Vec<Class>,
     Ok(found)
 }
 
-/// Adds that no input of this class that begins on the cell is turned this way.
+/// Adds that no input of this class begins on the cell with a belt or an entrance that is turned this way.
 fn add_not_begun(draft: &mut Draft, class: Class, cell: Cell, other: Dir) -> Result<(), AllocError>
     ensures { OnOk result (draft.new ≡ draft.old ++ pinning.not_begun class cell other) }
 {
@@ -57,7 +57,7 @@ fn add_not_begun(draft: &mut Draft, class: Class, cell: Cell, other: Dir) -> Res
     draft.add(&[begins, carries, holds(cell, Shape::Entrance, other)], &[])
 }
 
-/// Adds that no input of this class that begins on the cell is turned any of these ways.
+/// Adds that no input of this class begins on the cell with a belt or an entrance that is turned any of these ways.
 fn add_none_begun(
     draft: &mut Draft,
     class: Class,
@@ -72,7 +72,7 @@ fn add_none_begun(
     Ok(())
 }
 
-/// Adds that inputs of this class begin on the border turned away from this side alone.
+/// Adds that an input of this class that begins on one of the border's cells is turned away from this side.
 fn add_begun(draft: &mut Draft, border: &[Cell], dir: Dir, class: Class) -> Result<(), AllocError>
     ensures { OnOk result (draft.new ≡ draft.old ++ parts.begun_on dir class border.now) }
 {
@@ -83,7 +83,8 @@ fn add_begun(draft: &mut Draft, border: &[Cell], dir: Dir, class: Class) -> Resu
     Ok(())
 }
 
-/// Adds that an input stands at this side.
+/// Adds that an input, whose edge has one of these classes, stands at this side: what comes in there is turned away
+/// from it.
 fn add_input_side(
     draft: &mut Draft,
     border: &[Cell],
@@ -117,7 +118,7 @@ fn add_stop_classes(
     Ok(())
 }
 
-/// The belt and the exit on the cell so turned, where what is in front of them is outside.
+/// The facts that a belt and that an exit stands on the cell so turned; none where the cell in front is inside.
 fn enders_towards(alloc: Global, rect: Rect, cell: Cell, dir: Dir) -> Result<Vec<Fact>, AllocError>
     requires { IsNear cell }
     ensures { IfOk result (λ facts. facts.items ≡ parts.enders_towards rect cell dir) }
@@ -127,7 +128,8 @@ fn enders_towards(alloc: Global, rect: Rect, cell: Cell, dir: Dir) -> Result<Vec
     Ok(facts)
 }
 
-/// Adds what stands on the cell where the output stops there.
+/// Adds that where the output stops on the cell, a belt or exit stands there that faces the outside on this side, and
+/// has these classes.
 fn add_stop(
     alloc: Global,
     draft: &mut Draft,
@@ -147,7 +149,8 @@ fn add_stop(
     add_stop_classes(draft, stops, cell, classes)
 }
 
-/// Adds what stands on cells of the border where the output stops there.
+/// Adds that where the output stops on a cell of the border, a belt or exit stands there that faces the outside on this
+/// side, and has these classes.
 fn add_stops(
     alloc: Global,
     draft: &mut Draft,
@@ -167,7 +170,7 @@ fn add_stops(
     Ok(())
 }
 
-/// Adds that the two outputs don't stop on one of these cells.
+/// Adds that the two outputs don't stop on the same one of these cells.
 fn add_apart(
     draft: &mut Draft,
     output: usize,
@@ -186,7 +189,7 @@ fn add_apart(
     Ok(())
 }
 
-/// Adds that the output and an earlier one don't stop on one of these cells.
+/// Adds that the output stops on none of these cells on which an output of a lower number stops.
 fn add_all_apart(draft: &mut Draft, output: usize, border: &[Cell]) -> Result<(), AllocError>
     ensures { OnOk result (draft.new ≡ draft.old
         ++ flat_map (λ other. map (λ c. not_all (fact.Stops c output ∷ fact.Stops c other ∷ [])) border.now)
@@ -257,7 +260,7 @@ fn add_output_side(
     add_all_unpinned(draft, output, request.demands())
 }
 
-/// Adds that an end stands at this side.
+/// Adds that an end stands at this side of the rectangle: of an input how it is turned, of an output where it stops.
 fn add_side_end(
     alloc: Global,
     draft: &mut Draft,
@@ -332,7 +335,7 @@ fn add_outputs_side(
     Ok(())
 }
 
-/// Adds that the ends that are named stand at their side.
+/// Adds that the ends that a demand names stand at its side.
 fn add_side(
     alloc: Global,
     draft: &mut Draft,
@@ -352,7 +355,7 @@ fn add_side(
     }
 }
 
-/// Adds that ends stand where the line says.
+/// Adds that ends stand where the demand says.
 fn add_demand(
     alloc: Global,
     draft: &mut Draft,
@@ -375,7 +378,7 @@ fn add_demand(
     }
 }
 
-/// Adds that ends stand where the lines say.
+/// Adds that ends stand where these demands of the request say.
 pub fn add_demands(
     alloc: Global,
     draft: &mut Draft,
@@ -398,7 +401,7 @@ pub fn add_demands(
     Ok(())
 }
 
-/// Whether outputs are named.
+/// Whether these ends are outputs.
 fn has_outputs(ends: Ends) -> bool
     ensures { result ≡ stops.has_outputs ends }
 {
@@ -408,7 +411,7 @@ fn has_outputs(ends: Ends) -> bool
     }
 }
 
-/// Whether the line says of outputs at which side they are to stand.
+/// Whether the demand says of outputs at which side they are to stand.
 fn sides_outputs(demand: Demand) -> bool
     ensures { result ≡ stops.sides_outputs demand }
 {
@@ -418,7 +421,7 @@ fn sides_outputs(demand: Demand) -> bool
     }
 }
 
-/// Whether some line does.
+/// Whether some demand says of outputs at which side they are to stand.
 fn some_sides_outputs(demands: &[Demand]) -> bool
     ensures { result ≡ list_any stops.sides_outputs demands.now }
 {

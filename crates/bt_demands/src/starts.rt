@@ -23,7 +23,7 @@ fn add_start(draft: &mut Draft, input: usize, cell: Cell) -> Result<(), AllocErr
     draft.add(&[Fact::Begins(cell), class], &[starts])
 }
 
-/// Adds on which of these cells the input starts.
+/// Adds for each of these cells that the input starts there exactly where one begins there that has its class.
 fn add_starts(draft: &mut Draft, input: usize, border: &[Cell]) -> Result<(), AllocError>
     ensures { OnOk result (draft.new ≡ draft.old ++ flat_map (starts.start_rules input) border.now) }
 {
@@ -33,7 +33,7 @@ fn add_starts(draft: &mut Draft, input: usize, border: &[Cell]) -> Result<(), Al
     Ok(())
 }
 
-/// Adds that the input, where it leads to an output, starts on exactly one cell of the border.
+/// Adds that the input starts on exactly one cell of the border; nothing where it doesn't lead to an output.
 fn add_input(
     alloc: Global,
     draft: &mut Draft,
@@ -52,7 +52,7 @@ fn add_input(
     Ok(())
 }
 
-/// Adds where inputs that lead to outputs start.
+/// Adds that each input that leads to an output starts on exactly one cell of the border.
 pub fn add_inputs(
     alloc: Global,
     draft: &mut Draft,

@@ -44,6 +44,7 @@ pub fn is_json(bytes: &[u8]) -> bool
     begins_with_brace(skip_blanks(bytes))
 }
 
+/// Whether a text begins with `{`.
 fn begins_with_brace(text: &[u8]) -> bool
     ensures { IsTrue result ↔ ((rest : List ℕ) × (text.now ≡ 123 ∷ rest)) }
 {
@@ -53,7 +54,7 @@ fn begins_with_brace(text: &[u8]) -> bool
     }
 }
 
-/// The design at the front of the bytes.
+/// The design at the front of the bytes, which is JSON or network text; refused where none stands there.
 pub fn read_design(alloc: Global, bytes: &[u8]) -> Result<Design, DesignFault>
     ensures design { UnlessMemory DesignFault.Memory (IsDesign bytes.now) (seen net_and_used result) }
     ensures within { IfOk result (λ design. design.used ≤ length bytes.now) }
@@ -121,7 +122,7 @@ fn read_bare_json(alloc: Global, bytes: &[u8]) -> Result<Design, DesignFault>
     }
 }
 
-/// A layout's network in the unit of a basic belt.
+/// A layout's network with caps in the unit of a basic belt; as it is where its parts have no tier in common.
 fn in_basic_belts(alloc: Global, laid: Laid) -> Result<Net, AllocError>
     ensures { IfOk result (λ net. net ≡ in_basic_belts laid) }
 {
@@ -245,7 +246,7 @@ fn laid_out(alloc: Global, parts: Vec<Part>) -> Result<Laid, DesignFault>
     }
 }
 
-/// The tier of all parts, where they have one.
+/// The tier of all parts; none where they have more than one, or there are no parts.
 pub fn tier_of(parts: &[Part]) -> Option<Tier>
     ensures { IsTierOf parts.now result }
 {

@@ -32,7 +32,7 @@ pub struct Held<'a> {
     pub ended: bool,
 }
 
-/// Reads the next block of a source, and drops all that was read where it is blanks.
+/// Reads the next block of a source, or notes that the source has ended. Drops all that is held where it is blanks.
 pub fn gather_on<S: Source>(gathered: &mut Gathered, source: &mut S) -> Result<(), ReadAll>
     requires few { gathered.old.skipped + length gathered.old.bytes.items ≤ MOST_CHECKED }
     requires goes_on { gathered.old.ended ≡ false }
@@ -52,7 +52,7 @@ pub fn gather_on<S: Source>(gathered: &mut Gathered, source: &mut S) -> Result<(
     }
 }
 
-/// Drops the bytes where they are blanks.
+/// Drops all bytes that are held where they are blanks alone, and counts them.
 fn drop_blanks(gathered: &mut Gathered)
     requires { gathered.old.skipped + length gathered.old.bytes.items ≤ MOST_CHECKED }
     ensures { DropsBlanks gathered.old gathered.new }

@@ -28,7 +28,8 @@ pub struct PinnedDesign {
     pub used: usize,
 }
 
-/// The request that the bytes are, with blanks behind it.
+/// The request that the bytes are, with blanks behind it, in the rectangle, of parts of the tier, or of the design's
+/// own where none is asked for.
 pub fn read_lone_request(
     alloc: Global,
     rect: Rect,
@@ -67,7 +68,7 @@ pub fn request_for(
     }
 }
 
-/// The tier of a request.
+/// The tier of a request: the one that is asked for, or else the design's own, or else the basic one.
 pub fn tier_for(asked: Option<Tier>, own: Option<Tier>) -> Tier
     ensures { result ≡ tier_for asked own }
 {
@@ -130,7 +131,7 @@ fn read_lone_sided(alloc: Global, bytes: &[u8]) -> Result<PinnedDesign, DesignFa
     }
 }
 
-/// The design whose network text stands at the front of the bytes, with what may stand behind its edges.
+/// The design whose network text stands at the front of the bytes; `admitted` says what may stand behind its edges.
 fn read_pinned_text(
     alloc: Global,
     admitted: Admitted,

@@ -45,7 +45,7 @@ impl Front for PinnedDesign {
     }
 }
 
-/// The design at the front of what is held, where it is told.
+/// The design at the front of what is held; none where more has to be read before it is told.
 pub fn told_design(alloc: Global, held: Held<'_>) -> Result<Option<Design>, DesignFault>
     requires { held.skipped + length held.bytes.now ≤ MOST_CHECKED }
     ensures front { TellsFront IsDesign net_and_used held.entry result }
@@ -58,7 +58,8 @@ pub fn told_design(alloc: Global, held: Held<'_>) -> Result<Option<Design>, Desi
     }
 }
 
-/// The design at the front of what is held, with its pins and its blocks, where it is told.
+/// The design at the front of what is held, with its pins and its blocks; none where more has to be read before it is
+/// told.
 pub fn told_pinned(alloc: Global, held: Held<'_>) -> Result<Option<PinnedDesign>, DesignFault>
     requires { held.skipped + length held.bytes.now ≤ MOST_CHECKED }
     ensures { TellsFront IsPinned pinned_and_used held.entry result }
@@ -70,7 +71,7 @@ pub fn told_pinned(alloc: Global, held: Held<'_>) -> Result<Option<PinnedDesign>
     }
 }
 
-/// The bare design at the front of what is held, where it is told.
+/// The bare design at the front of what is held; none where more has to be read before it is told.
 pub fn told_bare(alloc: Global, held: Held<'_>) -> Result<Option<Design>, DesignFault>
     requires { held.skipped + length held.bytes.now ≤ MOST_CHECKED }
     ensures { TellsFront IsBareDesign net_and_used held.entry result }
@@ -125,7 +126,8 @@ fn told_part(held: Held<'_>) -> Result<Option<&[u8]>, DesignFault>
     }
 }
 
-/// The same of other text than JSON.
+/// The bytes by which a network text is told whatever follows: all where the input has ended, else the lines that have
+/// their line feeds; none where these are blanks.
 fn text_part(held: Held<'_>) -> Option<&[u8]>
     requires { IsJsonText held.bytes.now → ⊥ }
     ensures some { IfSome result (λ part. IsTextPart held.entry part.now) }
@@ -150,8 +152,8 @@ fn is_open(held: Held<'_>, part: &[u8], used: usize) -> bool
     !held.ended && used >= part.len()
 }
 
-/// Why there is no design, where the part tells it: a refusal rests on where the part ends only if that is the end of
-/// the input.
+/// Why there is no design, or none where more may change that: a refusal that rests on where the part ends is told only
+/// where that is the end of the input.
 fn told_fault(held: Held<'_>, part: &[u8], fault: DesignFault) -> Option<DesignFault>
     requires few { held.skipped ≤ MOST_CHECKED }
     requires within { IsFaultWithin (MOST_CHECKED - held.skipped) fault }
@@ -193,7 +195,7 @@ fn moved(refusal: Refusal, skipped: usize) -> Refusal
     }
 }
 
-/// The first line of a text and what follows it, where they are told.
+/// The first line of a text and what follows it; none where the line may go on with what is still to be read.
 pub fn told_line(text: &[u8], ended: bool) -> Option<(&[u8], &[u8])>
     ensures some { IfSome result (λ found. TellsLine ended text.now found.0.now found.1.now) }
     ensures none { IfNone result (ended ≡ false) }

@@ -44,7 +44,8 @@ fn read_second(
     }
 }
 
-/// Two networks, where they have equal numbers of inputs and of outputs, and equal caps at those of one number.
+/// Two networks that may be compared; refused where they have other numbers of inputs or of outputs, or other caps at
+/// those of one number.
 pub fn paired(first: Net, second: Net) -> Result<(Net, Net), DesignFault>
     ensures nets { UnlessMemory DesignFault.Memory (IsPaired first second) result }
     ensures ends { IfOk result (λ nets. HaveEqualEnds nets.0 nets.1) }
@@ -74,14 +75,14 @@ fn have_equal_caps(first: &Net, second: &Net) -> bool
         .all(|edge| is_capped_alike(second, edge))
 }
 
-/// Whether an edge has the cap of each edge of the network that is of one end with it.
+/// Whether an edge has the cap of each edge of the network that starts at the same input or ends at the same output.
 fn is_capped_alike(net: &Net, edge: &Edge) -> bool
     ensures { IsTrue result ↔ IsCappedAlike net.now edge.now }
 {
     net.edges().iter().all(|other| fits(edge, other))
 }
 
-/// Whether two edges have equal caps, where they are of one end.
+/// Whether two edges have equal caps, where they start at the same input or end at the same output.
 fn fits(edge: &Edge, other: &Edge) -> bool
     ensures { IsTrue result ↔ HaveCapsAlike edge.now other.now }
 {

@@ -41,7 +41,8 @@ struct Blueprint<'a> {
     entities: &'a [Tree],
 }
 
-/// The member `blueprint` of the root.
+/// The member `blueprint` of the root. A root that has a `blueprint_book` in its place is a book; where the member is
+/// missing otherwise, or is no object, there is no blueprint.
 fn blueprint_member(root: &Tree) -> Result<&Tree, EntityFault>
     ensures { MatchResult result
         (λ b. HasMember (json_of root.now) (codes "blueprint") (json_of b.now) × IsObject (json_of b.now))
@@ -65,7 +66,7 @@ fn blueprint_member(root: &Tree) -> Result<&Tree, EntityFault>
     }
 }
 
-/// The entities, of which there are none where the blueprint doesn't list them.
+/// The entities of a blueprint, which are none where it lacks that member. None where the member is no list.
 fn entities_of(blueprint: &Tree) -> Option<&[Tree]>
     ensures { MatchOption result (HasWrong (json_of blueprint.now) (codes "entities") IsList)
         (λ entities. HasEntities (json_of blueprint.now) (map json_of entities.now)) }
@@ -76,7 +77,8 @@ fn entities_of(blueprint: &Tree) -> Option<&[Tree]>
     }
 }
 
-/// The major number of a blueprint's version, whose lower 48 bits are the minor numbers.
+/// The major number of a blueprint's version, whose lower 48 bits are the minor numbers; 1 where it names no version.
+/// None where the version is no whole number of 64 bits.
 fn major_of(blueprint: &Tree) -> Option<u64>
     ensures { MatchOption result
         (HasWrong (json_of blueprint.now) (codes "version") (λ v. (major : ℕ) × IsVersion v major))
@@ -94,7 +96,7 @@ fn major_of(blueprint: &Tree) -> Option<u64>
     Some(whole / (1 << 48))
 }
 
-/// The blueprint of the root.
+/// The major version and the entities of the root's blueprint, or why it has none.
 fn blueprint_of(root: &Tree) -> Result<Blueprint, EntityFault>
     ensures { MatchResult result
         (λ b. IsBlueprint (json_of root.now) b.major (map json_of b.entities.now))
@@ -110,7 +112,8 @@ fn blueprint_of(root: &Tree) -> Result<Blueprint, EntityFault>
     Ok(Blueprint { major, entities })
 }
 
-/// The shift that is set, or else the one that the piece sets as entity 0.
+/// The shift that is set, or else the one that the piece sets as entity 0. It sets none where its centre is off the
+/// grid.
 fn shift_by(set: Option<Shift>, place: usize, piece: &Piece) -> Result<Shift, EntityFault>
     ensures { (major : ℕ) (first v : Json) → IsPiece major v piece.now → IsFirstShift major first v set
         → MatchResult result (SetsShift major first)
@@ -125,7 +128,8 @@ fn shift_by(set: Option<Shift>, place: usize, piece: &Piece) -> Result<Shift, En
     }
 }
 
-/// The part of the entity with this index, which was read as this piece.
+/// The part of the entity with this index, which was read as this piece. There is none where it is off the grid with
+/// this shift, or has a member that makes it special where it is read so.
 fn part_of(
     reading: Reading,
     shift: Shift,
@@ -153,7 +157,7 @@ fn part_of(
     })
 }
 
-/// The part and the priorities of the entity with this index, and the shift, which entity 0 sets.
+/// The shift, which entity 0 sets, and the part and the priorities of the entity with this index.
 fn entity_of(
     alloc: Global,
     reading: Reading,
@@ -194,7 +198,7 @@ fn parts_with(
     Ok(Prioritised { parts, priorities })
 }
 
-/// The parts of a blueprint and their priorities, where it is read so.
+/// The parts of a blueprint and their priorities, read for layouts or for designs, of at most `MOST_ENTITIES` entities.
 fn read_as(alloc: Global, reading: Reading, tree: &Tree) -> Result<Prioritised, EntityFault>
     ensures { UnlessMemory Memory (IsReadOf (special_of reading) (json_of tree.now))
         (seen parts_and_priorities_in result) }

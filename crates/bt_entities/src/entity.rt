@@ -12,7 +12,8 @@ use crate::version::Version;
 use bt_parts::{Dir, Hand, Kind, Part, Priority, Tier};
 use std::alloc::AllocError;
 
-/// Adds the entity of the part with this index, which prefers this, behind a comma where it isn't the first.
+/// Adds the entity of the part with this index, from 0, and with this priority, behind a comma where it isn't the
+/// first.
 pub fn push_entity(
     text: &mut Vec<u8>,
     version: Version,
@@ -33,6 +34,7 @@ pub fn push_entity(
     Ok(())
 }
 
+/// Adds a comma where the entity with this index isn't the first.
 fn push_comma(text: &mut Vec<u8>, index: usize) -> Result<(), AllocError>
     ensures { OnOk result (text.new.items ≡ text.old.items ++ comma_before index) }
 {
@@ -43,7 +45,7 @@ fn push_comma(text: &mut Vec<u8>, index: usize) -> Result<(), AllocError>
     }
 }
 
-/// Adds the members for the number and the name.
+/// Adds the opening brace of an entity and the members for its number, from 1, and for its part's name.
 fn push_head(text: &mut Vec<u8>, number: usize, part: Part) -> Result<(), AllocError>
     ensures { OnOk result (text.new.items ≡ text.old.items ++ (number_member number ++ name_member part)) }
 {
@@ -98,7 +100,7 @@ fn centre_y(part: Part) -> i64
     middle(part.cell.y, height(part.kind, part.dir))
 }
 
-/// Adds the member for the direction.
+/// Adds the member for the direction, in the parts of a turn that the version counts.
 fn push_turn(text: &mut Vec<u8>, version: Version, part: Part) -> Result<(), AllocError>
     ensures { OnOk result (text.new.items ≡ text.old.items ++ direction_member version part) }
 {

@@ -1,4 +1,4 @@
-//! Why a JSON value is no blueprint of parts: the numbers 20 to 25 and 27, of which the lowest is told.
+//! Why a JSON value is no blueprint of parts. Of several faults the one that stands first here is told.
 
 ghost use Rattle.std.specs.Prelude.{◌≡◌};
 ghost use Rattle.bt_entities.specs.declared.fault.EntityFault.TheVariants.{Memory};

@@ -7,7 +7,7 @@ ghost use Rattle.bt_entities.specs.Members.{HasMember, Lacks, HasText, HasNumber
 
 use bt_json::{Decimal, Tree};
 
-/// The member of that name.
+/// The member of that name. None where the value is no object or lacks it.
 pub fn member<'a>(value: &'a Tree, name: &str) -> Option<&'a Tree>
     ensures { MatchOption result
         (Lacks (json_of value.now) name.now)
@@ -41,7 +41,7 @@ pub fn is_object(value: &Tree) -> bool
     }
 }
 
-/// The text that the value is.
+/// The text that the value is; None where it is none.
 pub fn as_text(value: &Tree) -> Option<&str>
     ensures { MatchOption result
         ((t : List ℕ) → ¬ (json_of value.now ≡ text t))
@@ -53,7 +53,7 @@ pub fn as_text(value: &Tree) -> Option<&str>
     }
 }
 
-/// The list that the value is.
+/// The list that the value is; None where it is none.
 pub fn as_list(value: &Tree) -> Option<&[Tree]>
     ensures { MatchOption result
         ((items : Items) → ¬ (json_of value.now ≡ list items))
@@ -65,7 +65,7 @@ pub fn as_list(value: &Tree) -> Option<&[Tree]>
     }
 }
 
-/// The number that the value is.
+/// The number that the value is; None where it is none.
 pub fn as_number(value: &Tree) -> Option<&Decimal>
     ensures { MatchOption result
         ((n : Number) → ¬ (json_of value.now ≡ number n))
@@ -77,7 +77,7 @@ pub fn as_number(value: &Tree) -> Option<&Decimal>
     }
 }
 
-/// The member of that name, where it is a text.
+/// The member of that name, where it is a text; else None.
 pub fn text_member<'a>(value: &'a Tree, name: &str) -> Option<&'a str>
     ensures { MatchOption result
         ((t : List ℕ) → ¬ HasText (json_of value.now) name.now t)
@@ -89,7 +89,7 @@ pub fn text_member<'a>(value: &'a Tree, name: &str) -> Option<&'a str>
     }
 }
 
-/// The member of that name, where it is a number.
+/// The member of that name, where it is a number; else None.
 pub fn number_member<'a>(value: &'a Tree, name: &str) -> Option<&'a Decimal>
     ensures { MatchOption result
         ((n : Number) → ¬ HasNumber (json_of value.now) name.now n)

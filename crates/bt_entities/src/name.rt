@@ -18,7 +18,8 @@ pub enum EntityFamily {
     Splitters,
 }
 
-/// The family and the tier that a name tells (Factorio Wiki, belt transport system).
+/// The family and the tier that a name tells (Factorio Wiki, belt transport system). None where it is none of the
+/// twelve.
 pub fn named(name: &str) -> Option<(EntityFamily, Tier)>
     ensures { MatchOption result
         ((family : EntityFamily) (tier : Tier) → name.now ≢ name_of family tier)

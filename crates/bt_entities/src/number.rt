@@ -14,7 +14,7 @@ pub fn push_number(text: &mut Vec<u8>, number: u64) -> Result<(), AllocError>
     text.extend_from_slice(digits)
 }
 
-/// Adds a coordinate that is given in halves of a tile.
+/// Adds a coordinate in tiles, which is given in halves of a tile: `.5` stands behind it where it is not whole.
 pub fn push_halves(text: &mut Vec<u8>, halves: i64) -> Result<(), AllocError>
     ensures { OnOk result (text.new.items ≡ text.old.items ++ halves_text halves) }
 {
@@ -26,7 +26,7 @@ pub fn push_halves(text: &mut Vec<u8>, halves: i64) -> Result<(), AllocError>
     }
 }
 
-/// Adds the half of a number.
+/// Adds the half of a number, with `.5` behind it where the number is odd.
 fn push_half(text: &mut Vec<u8>, number: u64) -> Result<(), AllocError>
     ensures { OnOk result (text.new.items ≡ text.old.items ++ half_text number) }
 {

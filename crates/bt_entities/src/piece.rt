@@ -53,7 +53,7 @@ pub struct Piece {
     pub priority: Priority,
 }
 
-/// The coordinates that a position tells.
+/// The x and the y that a position tells. None where one is missing or no number.
 fn coordinates(position: &Tree) -> Option<(&Decimal, &Decimal)>
     ensures { MatchOption result
         ((x y : Number) → ¬ (HasNumber (json_of position.now) (codes "x") x
@@ -67,7 +67,7 @@ fn coordinates(position: &Tree) -> Option<(&Decimal, &Decimal)>
     }
 }
 
-/// The coordinates of the centre, in tiles.
+/// The x and the y of an entity's centre, in tiles. None where its `position` lacks one.
 fn position(entity: &Tree) -> Option<(&Decimal, &Decimal)>
     ensures { MatchOption result
         ((x y : Number) → ¬ HasPosition (json_of entity.now) x y)
@@ -79,14 +79,15 @@ fn position(entity: &Tree) -> Option<(&Decimal, &Decimal)>
     }
 }
 
-/// Twice the number, where that is a whole number in range: no other is rounded to one.
+/// Twice the number, where that is a whole number in range; else None, since no other is rounded to one.
 fn halves(number: &Decimal) -> Option<i32>
     ensures { AreHalves (number_of number.now) result }
 {
     number.halves()
 }
 
-/// The direction with this value, in eighths of a turn below major version 2, else in sixteenths.
+/// The direction with this value, in eighths of a turn below major version 2, else in sixteenths. None where it is none
+/// of the four.
 fn direction_of(major: u64, value: u64) -> Option<Dir>
     ensures { MatchOption result
         ((dir : Dir) → value ≢ direction_value major dir)
@@ -111,7 +112,7 @@ fn direction_of(major: u64, value: u64) -> Option<Dir>
     }
 }
 
-/// The direction of an entity: north, where it names none.
+/// The direction of an entity: north, where it names none. None where it names another than the four.
 fn direction(major: u64, entity: &Tree) -> Option<Dir>
     ensures { MatchOption result
         ((dir : Dir) → ¬ HasDirection major (json_of entity.now) dir)
@@ -127,7 +128,7 @@ fn direction(major: u64, entity: &Tree) -> Option<Dir>
     direction_of(major, value)
 }
 
-/// The kind of an entity of this family.
+/// The kind of an entity of this family. None where an underground piece's `type` is neither `input` nor `output`.
 fn kind_of(family: EntityFamily, entity: &Tree) -> Option<Kind>
     requires { HasFamily (json_of entity.now) family }
     ensures { MatchOption result
@@ -147,7 +148,8 @@ fn kind_of(family: EntityFamily, entity: &Tree) -> Option<Kind>
     }
 }
 
-/// The side that a splitter prefers by the priority of that name.
+/// The side that a splitter prefers by the priority of that name, which is no side where it lacks that member or says
+/// `none`. None where the member says anything else than a side.
 fn side_of(entity: &Tree, name: &str) -> Option<Option<Hand>>
     requires { HasFamily (json_of entity.now) Splitters }
     ensures { MatchOption result
@@ -165,7 +167,8 @@ fn side_of(entity: &Tree, name: &str) -> Option<Option<Hand>>
     }
 }
 
-/// The side that an entity of this family prefers by the priority of that name.
+/// The side that an entity of this family prefers by the priority of that name: none of another than a splitter. None
+/// where what a splitter says there is wrong.
 fn preferred_of(family: EntityFamily, entity: &Tree, name: &str) -> Option<Option<Hand>>
     requires { HasFamily (json_of entity.now) family }
     ensures { MatchOption result
@@ -180,7 +183,7 @@ fn preferred_of(family: EntityFamily, entity: &Tree, name: &str) -> Option<Optio
     }
 }
 
-/// The priorities of an entity of this family, or the first wrong one.
+/// The priorities of an entity of this family, or the name of the first wrong one.
 fn priority_of(family: EntityFamily, entity: &Tree) -> Result<Priority, Member>
     requires { HasFamily (json_of entity.now) family }
     ensures { MatchResult result
@@ -228,7 +231,7 @@ fn with_members(
     })
 }
 
-/// The family and the tier of the entity with this index.
+/// The family and the tier that the name of the entity with this index tells, or why it tells none.
 fn name_of(alloc: Global, place: usize, entity: &Tree) -> Result<(EntityFamily, Tier), EntityFault>
     ensures { UnlessMemory Memory (IsNameRead place (json_of entity.now)) result }
 {
@@ -247,7 +250,7 @@ fn name_of(alloc: Global, place: usize, entity: &Tree) -> Result<(EntityFamily, 
     }
 }
 
-/// The entity with this index as its members tell it.
+/// The entity with this index as its members tell it, or the first fault of its name and its members.
 pub fn piece_of(
     alloc: Global,
     major: u64,
@@ -264,7 +267,7 @@ pub fn piece_of(
 }
 
 impl Piece {
-    /// The cell on the grid with this shift.
+    /// The part's own cell, on the grid with this shift. None where the centre is off that grid, or isn't in range.
     pub fn cell(&self, shift: Shift) -> Option<Cell>
         ensures { MatchOption result ((cell : Cell) → ¬ IsOn self.now shift cell) (IsOn self.now shift) }
     {
@@ -284,7 +287,8 @@ impl Piece {
     ghost use Rattle.bt_entities.specs.Entities.{IsPlain, IsFirstSpecial};
     ghost use Rattle.bt_entities.specs.inner.Pieces.{HasShift, special_of};
 
-    /// The shift of the grid that it stands on.
+    /// The shift of the grid that it stands on. None where its centre isn't a multiple of half a tile, or isn't in
+    /// range.
     pub fn shift(&self) -> Option<Shift>
         ensures { MatchOption result
             ((shift : Shift) (cell : Cell) → ¬ IsOn self.now shift cell)
@@ -297,7 +301,8 @@ impl Piece {
         Some(Shift { x, y })
     }
 
-    /// The first of its members that may not be special where it is read so.
+    /// The first of its members that make it special where it is read so: `control_behavior`, `filter`, and, for
+    /// layouts alone, a priority by which it prefers a side. None where it has none of them.
     pub fn special(&self, reading: Reading, entity: &Tree) -> Option<Member>
         ensures { (major : ℕ) → IsPiece major (json_of entity.now) self.now
             → MatchOption result

@@ -45,7 +45,7 @@ fn with_sign(negative: bool, magnitude: u64) -> i32
     if negative { -value } else { value }
 }
 
-/// The half of an even number.
+/// The half of an even number. None of an odd one.
 fn half(twice: i64) -> Option<i32>
     requires { unsigned_abs twice < 2 ^ 32 }
     ensures { MatchOption result
@@ -59,7 +59,8 @@ fn half(twice: i64) -> Option<i32>
     Some(with_sign(twice < 0, magnitude / 2))
 }
 
-/// Twice the first of so many tiles with this middle, which is shifted, if that is a whole tile.
+/// Twice the coordinate of the first of `size` tiles, whose middle is given in halves of a tile, on a grid that is
+/// shifted by `shift` halves of a tile.
 fn twice_first(middle: i32, size: u8, shift: u8) -> i64
     ensures first { result ≡ (middle -ℤ pos size) -ℤ pos shift }
     ensures near { unsigned_abs result < 2 ^ 32 }
@@ -67,7 +68,8 @@ fn twice_first(middle: i32, size: u8, shift: u8) -> i64
     i64::from(middle) - i64::from(size) - i64::from(shift)
 }
 
-/// The first of so many tiles with this middle, which is told in halves of a tile and shifted.
+/// The coordinate of the first of `size` tiles, whose middle is given in halves of a tile, on a grid that is shifted by
+/// `shift` halves of a tile. None where they are off that grid.
 pub fn first_tile(middle: i32, size: u8, shift: u8) -> Option<i32>
     ensures { MatchOption result
         ((first : ℤ) → ¬ IsMiddle middle size shift first)
@@ -76,7 +78,7 @@ pub fn first_tile(middle: i32, size: u8, shift: u8) -> Option<i32>
     half(twice_first(middle, size, shift))
 }
 
-/// By how many halves of a tile so many tiles with this middle stand off the grid.
+/// By how many halves of a tile, 0 or 1, so many tiles with this middle, in halves of a tile, stand off the grid.
 pub fn shift_of(middle: i32, size: u8) -> u8
     ensures small { result < 2 }
     ensures on { (first : ℤ) × IsMiddle middle size result first }

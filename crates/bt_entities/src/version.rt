@@ -14,7 +14,7 @@ pub enum Version {
     Newer,
 }
 
-/// The version that has all of the parts.
+/// The older version, or the newer one where some part is of the turbo tier, which the older one lacks.
 pub fn version_for(parts: &[Part]) -> Version
     ensures { result ≡ version_for parts.now }
 {
@@ -37,7 +37,8 @@ fn is_turbo(part: &Part) -> bool
 }
 
 impl Version {
-    /// A direction's value: from north, with the sun.
+    /// A direction's value in a blueprint of this version: 0 for north, and clockwise from there 2 more for each
+    /// quarter of a turn, or 4 more in the newer version.
     pub fn direction(self, dir: Dir) -> u64
         ensures { result ≡ direction_value (major_of self) dir }
     {
@@ -47,7 +48,7 @@ impl Version {
         }
     }
 
-    /// The version, and the end of the blueprint.
+    /// The end of a blueprint's text behind its last entity, which names the version.
     pub fn end(self) -> &'static [u8]
         ensures { result.now ≡ end_text self }
     {
@@ -58,7 +59,7 @@ impl Version {
     }
 }
 
-/// A direction in quarters of a turn.
+/// A direction in quarters of a turn, clockwise from north.
 fn quarters(dir: Dir) -> u64
     ensures { result ≡ quarters_of dir }
 {

@@ -79,7 +79,7 @@ pub fn is_definition(formula: &Formula, definition: &Definition) -> bool
     }
 }
 
-/// Whether a form is over so many columns.
+/// Whether all columns of a form are below this number.
 fn is_over(form: &Form, columns: usize) -> bool
     ensures { IsTrue result ↔ IsFormOver columns form.now }
 {
@@ -89,7 +89,7 @@ fn is_over(form: &Form, columns: usize) -> bool
     }
 }
 
-/// Whether there is a literal, and their variables ascend strictly and are below a number.
+/// Whether there is a literal, and the variables of the literals ascend strictly and are below `vars`.
 fn are_sorted_below(lits: &[NamedLit], vars: usize) -> bool
     ensures { IsTrue result ↔ AreSortedBelow vars lits.now }
 {

@@ -70,7 +70,7 @@ fn turned(alloc: Global, terms: &[(usize, Frac)]) -> Result<Vec<(usize, Frac)>, 
     Ok(turned)
 }
 
-/// Adds a comparison of terms with a number.
+/// Adds two atoms, that terms reach a number and that they don't, and the clause that one of the two is true.
 fn add_comparison(
     alloc: Global,
     formula: &mut Formula,
@@ -99,7 +99,7 @@ fn asserted(var: Var) -> Lit
     }
 }
 
-/// The terms of a column less a form.
+/// The terms of a column less a form, whose number is left out.
 fn column_less(alloc: Global, column: usize, form: &Form) -> Result<Vec<(usize, Frac)>, AllocError>
     ensures { IfOk result (λ v. v.items ≡ (forms.column_less column form.now).terms) }
 {
@@ -108,7 +108,7 @@ fn column_less(alloc: Global, column: usize, form: &Form) -> Result<Vec<(usize, 
     Ok(terms)
 }
 
-/// The terms of a form less a column.
+/// The terms of a form, whose number is left out, less a column.
 fn less_column(alloc: Global, column: usize, form: &Form) -> Result<Vec<(usize, Frac)>, AllocError>
     ensures { IfOk result (λ v. v.items ≡ (forms.less_column column form.now).terms) }
 {
@@ -117,7 +117,7 @@ fn less_column(alloc: Global, column: usize, form: &Form) -> Result<Vec<(usize, 
     Ok(terms)
 }
 
-/// Adds both comparisons of a column with a form.
+/// Adds both comparisons of a column with a form: of the column less the form, and of the form less the column.
 fn add_column(
     alloc: Global,
     formula: &mut Formula,
@@ -135,7 +135,7 @@ fn add_column(
     add_comparison(alloc, formula, below, number.negate())
 }
 
-/// Adds a column by cases.
+/// Adds a column that is the first form where the variable at the place `var` is true, and else the second.
 fn add_cases(
     alloc: Global,
     formula: &mut Formula,
@@ -152,7 +152,8 @@ fn add_cases(
     add_choices(formula, var)
 }
 
-/// Adds the clauses by which a variable chooses among the last eight variables.
+/// Adds the clauses by which a variable chooses among the last eight variables: where it is true, the first and the
+/// third of them are, and else the fifth and the seventh.
 fn add_choices(formula: &mut Formula, var: usize) -> Result<(), AllocError>
     requires { 8 ≤ formula.old.vars }
     ensures { OnOk result (formula.new ≡ with_choices formula.old (formula.old.vars - 8) var) }
@@ -171,7 +172,7 @@ fn named(var: usize, positive: bool) -> NamedLit
     NamedLit { var, positive }
 }
 
-/// Adds a clause of two literals. One whose variable isn't there is want of memory.
+/// Adds a clause of two literals. Memory counts as run out where the formula lacks a variable of theirs.
 fn add_pair(formula: &mut Formula, first: NamedLit, second: NamedLit) -> Result<(), AllocError>
     ensures { OnOk result (formula.new ≡ with_pair formula.old first second) }
 {
@@ -180,7 +181,7 @@ fn add_pair(formula: &mut Formula, first: NamedLit, second: NamedLit) -> Result<
     Ok(())
 }
 
-/// The literal of a formula. One whose variable isn't there is want of memory.
+/// The literal of a formula that is named so. Memory counts as run out where the formula lacks its variable.
 fn lit_in(formula: &Formula, named: NamedLit) -> Result<Lit, AllocError>
     ensures lit { IfOk result (λ lit. lit ≡ extending.lit_of named) }
     ensures below { IfOk result (λ lit. lit.var < formula.now.vars) }

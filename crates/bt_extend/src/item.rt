@@ -19,7 +19,7 @@ pub trait Item: Drop {
     // The word for the value.
     ghost word: { Self → List ℕ };
 
-    /// The value for which these bytes are the word.
+    /// The value for which these bytes are the word. None where there is no such value.
     fn read(bytes: &[u8]) -> Option<Self>
         ensures some { IfSome result (λ x. can_stand x × (bytes.now ≡ word x)) }
         ensures none { IfNone result ((x : Self) → can_stand x → bytes.now ≡ word x → ⊥) };
@@ -142,7 +142,7 @@ fn read_number(word: &[u8]) -> Option<u64>
     read_digits(word)
 }
 
-/// The value of decimal digits.
+/// The value of decimal digits. None where one of the bytes is no digit.
 fn read_digits(word: &[u8]) -> Option<u64>
     requires { length word.now ≤ MOST_DIGITS }
     ensures some { IfSome result (λ n. AllDigits 10 word.now × (n ≡ digits_value 10 word.now)) }

@@ -95,7 +95,7 @@ fn print_variable<K: Sink>(var: usize, sink: &mut K) -> Result<(), WriteFault>
     write_pieces(sink, &[b"c ", number])
 }
 
-/// Writes two forms.
+/// Writes two forms, each after a space.
 fn print_forms<K: Sink>(first: &Form, second: &Form, sink: &mut K) -> Result<(), WriteFault>
     ensures { WritesText (passage K.held K.faults sink.old sink.new)
         (forms_after first.now second.now) result }
@@ -104,7 +104,7 @@ fn print_forms<K: Sink>(first: &Form, second: &Form, sink: &mut K) -> Result<(),
     print_form(b"", second, sink)
 }
 
-/// Writes a head, and a form behind it.
+/// Writes a head, and behind it a form: its number, its terms, and a 0.
 fn print_form<K: Sink>(head: &[u8], form: &Form, sink: &mut K) -> Result<(), WriteFault>
     ensures { WritesText (passage K.held K.faults sink.old sink.new) (form_after head.now form.now) result }
 {

@@ -17,7 +17,7 @@ use bt_frac::Frac;
 use bt_text::next_piece;
 use std::alloc::{AllocError, Global};
 
-/// The definition of a line, where it is that of one.
+/// The definition of a line. None where the line is that of no definition.
 pub fn read_definition(alloc: Global, line: &[u8]) -> Result<Option<Definition>, AllocError>
     ensures { IfOk result (IsDefinitionRead line.now) }
 {
@@ -29,7 +29,7 @@ pub fn read_definition(alloc: Global, line: &[u8]) -> Result<Option<Definition>,
     }
 }
 
-/// Reads a comparison, whose line begins with `p` and goes on so.
+/// Reads a comparison, whose line begins with `p` and goes on with this text.
 fn read_comparison(alloc: Global, text: &[u8]) -> Result<Option<Definition>, AllocError>
     ensures { IfOk result (IsDefinitionRead (112 ∷ text.now)) }
 {
@@ -46,7 +46,7 @@ fn read_comparison(alloc: Global, text: &[u8]) -> Result<Option<Definition>, All
     }
 }
 
-/// Reads a column by cases, whose line begins with `c` and goes on so.
+/// Reads a column by cases, whose line begins with `c` and goes on with this text.
 fn read_cases(alloc: Global, text: &[u8]) -> Result<Option<Definition>, AllocError>
     ensures { IfOk result (IsDefinitionRead (99 ∷ text.now)) }
 {
@@ -60,7 +60,7 @@ fn read_cases(alloc: Global, text: &[u8]) -> Result<Option<Definition>, AllocErr
     }
 }
 
-/// The two forms that a text is.
+/// The two forms whose words make up a text. None where the text isn't such.
 fn read_forms(alloc: Global, text: &[u8]) -> Result<Option<(Form, Form)>, AllocError>
     ensures { IfOk result (λ o. MatchOption o (AreNoForms text.now)
         (λ forms. AreForms text.now forms.0 forms.1)) }
@@ -72,7 +72,7 @@ fn read_forms(alloc: Global, text: &[u8]) -> Result<Option<(Form, Form)>, AllocE
     }
 }
 
-/// A form, and the one that a text is.
+/// The first form, and a second one, whose words make up a text. None where the text isn't such.
 fn read_second(alloc: Global, first: Form, text: &[u8]) -> Result<Option<(Form, Form)>, AllocError>
     ensures { IfOk result (λ o. MatchOption o (IsNoForm text.now)
         (λ forms. (forms.0 ≡ first) × IsFormText text.now forms.1)) }
@@ -90,7 +90,7 @@ fn read_second(alloc: Global, first: Form, text: &[u8]) -> Result<Option<(Form, 
     }
 }
 
-/// Reads a disjunction, whose line begins with `v` and goes on so.
+/// Reads a disjunction, whose line begins with `v` and goes on with this text.
 fn read_disjunction(alloc: Global, text: &[u8]) -> Result<Option<Definition>, AllocError>
     ensures { IfOk result (IsDefinitionRead (118 ∷ text.now)) }
 {
@@ -103,7 +103,7 @@ fn read_disjunction(alloc: Global, text: &[u8]) -> Result<Option<Definition>, Al
     }
 }
 
-/// The form whose words come next in a text, and what follows them.
+/// The form whose words come next in a text, and what follows them. None where none does.
 fn read_form(alloc: Global, text: &[u8]) -> Result<Option<(Form, &[u8])>, AllocError>
     ensures { IfOk result (λ o. MatchOption o (BeginsWithNoForm text.now)
         (λ read. BeginsWithForm text.now read.0 read.1.now)) }
@@ -114,7 +114,7 @@ fn read_form(alloc: Global, text: &[u8]) -> Result<Option<(Form, &[u8])>, AllocE
     }
 }
 
-/// The form of which the number was read, and what follows its words.
+/// The form of which the number was read, and what follows its words. None where the text doesn't go on as a form does.
 fn read_behind(
     alloc: Global,
     number: Frac,
@@ -151,7 +151,7 @@ fn after_zero(text: &[u8]) -> Option<&[u8]>
     }
 }
 
-/// The form of a number and of the words of its terms.
+/// The form of a number and of the words of its terms. None where those are not the terms of a form.
 fn form_of(alloc: Global, number: Frac, words: &[Nonzero]) -> Result<Option<Form>, AllocError>
     ensures { IfOk result (TellForm number words.now) }
 {
@@ -161,7 +161,8 @@ fn form_of(alloc: Global, number: Frac, words: &[Nonzero]) -> Result<Option<Form
     }
 }
 
-/// The terms that words tell: of each its coefficient, and the number of its column.
+/// The terms that words tell: of each its coefficient, and the number of its column. None where a number is no
+/// column's, or the last one is missing.
 fn terms_of(alloc: Global, words: &[Nonzero]) -> Result<Option<Vec<(usize, Frac)>>, AllocError>
     ensures { IfOk result (λ o. MatchOption o (TellNoTerms words.now)
         (λ terms. words.now ≡ words_of terms.items)) }

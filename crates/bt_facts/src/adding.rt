@@ -36,7 +36,8 @@ pub fn add_excluded(draft: &mut Draft, fact: Fact, others: &[Fact]) -> Result<()
     Ok(())
 }
 
-/// Adds that none of the others holds where the fact does and it is this half of which one tells.
+/// Adds a rule for one half of a splitter: none of the others holds where the fact does. The rule for the lesser half
+/// binds where `by_lesser` holds, that for the greater half where it doesn't.
 pub fn add_excluded_by(
     draft: &mut Draft,
     half: Half,
@@ -65,7 +66,8 @@ pub fn add_at_most_one(draft: &mut Draft, facts: &[Fact]) -> Result<(), AllocErr
     Ok(())
 }
 
-/// Adds that where the given facts hold, one of the others does, and that no two of the others hold.
+/// Adds that where the given facts hold, one of the others does, and that no two of the others hold, whether or not the
+/// given facts do.
 pub fn add_one_where(draft: &mut Draft, given: &[Fact], facts: &[Fact]) -> Result<(), AllocError>
     ensures { OnOk result (draft.new ≡ draft.old ++ rule given.now facts.now ∷ at_most_one facts.now) }
 {

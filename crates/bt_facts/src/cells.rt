@@ -9,7 +9,7 @@ use crate::spots::{ahead, cell_at, is_inside};
 use bt_parts::{Cell, Dir, Rect};
 use std::alloc::{AllocError, Global};
 
-/// Adds the cells of a row, from west to east.
+/// Adds the cells of a row, which counts from 0 in the north, from west to east.
 fn push_row(cells: &mut Vec<Cell>, rect: Rect, row: u32) -> Result<(), AllocError>
     requires width { rect.width < 2 ^ 31 }
     requires row { row < 2 ^ 31 }
@@ -34,7 +34,7 @@ pub fn cells_of(alloc: Global, rect: Rect) -> Result<Vec<Cell>, AllocError>
     Ok(cells)
 }
 
-/// Whether the next cell in a direction is outside the rectangle.
+/// Whether the next cell in this direction is outside the rectangle.
 fn is_edge(rect: Rect, cell: Cell, dir: Dir) -> bool
     requires { IsNear cell }
     ensures { result ≡ not (spots.is_inside rect (step dir cell)) }
@@ -65,7 +65,7 @@ fn push_border(border: &mut Vec<Cell>, rect: Rect, cell: Cell) -> Result<(), All
     Ok(())
 }
 
-/// The cells on the border of the rectangle.
+/// Those of the cells that are on the border of the rectangle: some cell beside each is outside.
 pub fn border_of(alloc: Global, rect: Rect, cells: &[Cell]) -> Result<Vec<Cell>, AllocError>
     requires { All IsNear cells.now }
     ensures { IfOk result (λ border. border.items ≡ filter (spots.is_border rect) cells.now) }

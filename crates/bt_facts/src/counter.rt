@@ -1,4 +1,5 @@
-//! Rules that count: a sequential counter over cells, each of which holds a half or none.
+//! Rules that count: a sequential counter over cells in their order, each of which holds a half of a splitter or none.
+//! `Fact::Held(spare, half)` says that of the cells up to number `spare + half`, more than `half` hold halves.
 //! That splitters have no room a search would else find out place by place: a refutation of the balancer of 12
 //! splitters in 7x7 took 515,899 conflicts, and 23,705 with the counter. Other counters saved nothing on top, and the
 //! direction from the cells to the count would help no refutation.
@@ -11,8 +12,8 @@ use crate::fact::Fact;
 use bt_parts::Cell;
 use std::alloc::{AllocError, Global};
 
-/// That more than so many halves stand among the cells before the last one, of which one fewer may hold none; or no
-/// fact, where none may.
+/// The fact that of the cells before number `spare + half`, more than `half` hold halves; no fact where `spare` is 0,
+/// since there are only `half` such cells.
 fn among_less(alloc: Global, spare: usize, half: usize) -> Result<Vec<Fact>, AllocError>
     ensures { IfOk result (λ facts. facts.items ≡ counters.among_less spare half) }
 {
@@ -23,7 +24,8 @@ fn among_less(alloc: Global, spare: usize, half: usize) -> Result<Vec<Fact>, All
     Ok(facts)
 }
 
-/// Adds that as many of the cells before the last one hold halves, or it holds one.
+/// Adds that where `Held(spare, half)` is so, the cell of number `spare + half` holds a half, or more than `half` of
+/// the cells before it do.
 fn add_last_cell(
     alloc: Global,
     draft: &mut Draft,
@@ -40,7 +42,8 @@ fn add_last_cell(
     Ok(())
 }
 
-/// Adds that as many of the cells before the last one hold halves, or one fewer.
+/// Adds that where `Held(spare, half)` is so, at least `half` of the cells before number `spare + half` hold halves,
+/// since that one holds one at most. Adds nothing where `half` is 0.
 fn add_one_fewer(
     alloc: Global,
     draft: &mut Draft,
@@ -57,7 +60,7 @@ fn add_one_fewer(
     Ok(())
 }
 
-/// Adds the rules of so many cells that may hold none, and of the half of this number.
+/// Adds both rules of the fact `Held(spare, half)`.
 fn add_held(
     alloc: Global,
     draft: &mut Draft,
@@ -72,7 +75,7 @@ fn add_held(
     add_one_fewer(alloc, draft, spare, half)
 }
 
-/// Adds the rules of so many cells that may hold none, and of each half.
+/// Adds the rules of the facts `Held(spare, half)` for each `half` below the number of halves.
 fn add_each_held(
     alloc: Global,
     draft: &mut Draft,
@@ -90,7 +93,8 @@ fn add_each_held(
     Ok(())
 }
 
-/// Adds the rules of the counter.
+/// Adds the rules of the facts `Held(spare, half)` for each `half` below the number of halves and each `spare` up to
+/// the number of cells that hold none where all halves are among the cells.
 pub fn add_counter(
     alloc: Global,
     draft: &mut Draft,
@@ -106,7 +110,7 @@ pub fn add_counter(
     Ok(())
 }
 
-/// Adds that so many halves are among so many cells.
+/// Adds that at least so many halves are among so many cells. Adds nothing where there are no halves.
 pub fn add_all_held(draft: &mut Draft, cells: usize, halves: usize) -> Result<(), AllocError>
     requires { halves ≤ cells }
     ensures { OnOk result (draft.new ≡ draft.old ++ counters.all_held_rules cells halves) }

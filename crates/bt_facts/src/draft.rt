@@ -1,4 +1,5 @@
-//! Rules as they are drawn up, before their facts have variables.
+//! Rules as they are drawn up, before their facts have variables. A claim is a fact of a rule: a given one, or one of
+//! those of which one follows.
 ghost use Rattle.std.specs.Prelude.{◌≡◌, ◌++◌, ◌∷◌, [], map, IfOk, OnOk};
 ghost use Rattle.bt_facts.specs.Drafts.{claim, rule_of};
 ghost use Rattle.bt_facts.specs.inner.ByHalf as drafts;
@@ -42,7 +43,7 @@ impl Model for Draft {
     ghost view = { λ d. map rule_of d.rules };
 }
 
-// Adds a claim for each fact.
+/// Adds a claim for each fact: one of those of which one follows, or else a given one.
 fn push_claims(claims: &mut Vec<RuleFact>, facts: &[Fact], follows: bool) -> Result<(), AllocError>
     ensures { OnOk result (claims.new.items ≡ claims.old.items ++ map (claim follows) facts.now) }
 {
@@ -56,7 +57,7 @@ fn push_claims(claims: &mut Vec<RuleFact>, facts: &[Fact], follows: bool) -> Res
 }
 
 impl Draft {
-    /// No rules.
+    /// A draft without rules.
     pub fn new(alloc: Global) -> Result<Draft, AllocError>
         ensures { IfOk result (λ draft. draft ≡ []) }
     {
@@ -77,8 +78,8 @@ impl Draft {
         Ok(())
     }
 
-    /// Adds the rule that where it is this half of which the fact tells, and each of the given facts holds,
-    /// one of the others does: the lesser half where the fact holds, else the greater one.
+    /// Adds a rule for one half of a splitter: where each of the given facts holds, one of the others does. The rule
+    /// for the lesser half binds where `by_lesser` holds, that for the greater half where it doesn't.
     pub fn add_by(
         &mut self,
         half: Half,
@@ -96,7 +97,7 @@ impl Draft {
         Ok(())
     }
 
-    /// The rules, as claims.
+    /// The rules, each as a list of its claims.
     pub fn rules(&self) -> &Pool<RuleFact, Drafted>
         ensures { map rule_of result.now ≡ self.now }
     {
@@ -104,7 +105,8 @@ impl Draft {
     }
 }
 
-// The fact as one that is given for the lesser half, and as one that follows for the greater one.
+/// The claim that makes a rule bind for this half alone: the fact is given for the lesser half, and follows for the
+/// greater one, so that the rule says nothing where it holds.
 fn claim_by(half: Half, by_lesser: Fact) -> RuleFact
     ensures { result ≡ drafts.claim_by half by_lesser }
 {

@@ -13,14 +13,14 @@ use crate::spots::{behind, far, push_inside};
 use bt_parts::{Cell, Dir, Rect};
 use std::alloc::{AllocError, Global};
 
-/// The cell holds a part of this shape, so turned.
+/// The fact that the cell holds a part of this shape, turned this way.
 pub fn holds(cell: Cell, shape: Shape, dir: Dir) -> Fact
     ensures { result ≡ told.holds cell shape dir }
 {
     Fact::Kind(cell, Content::Turned(shape, dir))
 }
 
-/// The cell holds a part of this shape, in each direction.
+/// For each direction the fact that the cell holds a part of this shape, turned that way.
 pub fn turned(cell: Cell, shape: Shape) -> [Fact; 4]
     ensures { result ≡ map (told.holds cell shape) spots.dirs }
 {
@@ -32,7 +32,7 @@ pub fn turned(cell: Cell, shape: Shape) -> [Fact; 4]
     ]
 }
 
-/// The cell has one of these classes.
+/// For each class the fact that the cell carries it.
 pub fn carries(alloc: Global, cell: Cell, classes: &[Class]) -> Result<Vec<Fact>, AllocError>
     ensures { IfOk result (λ facts. facts.items ≡ map (fact.Carries cell) classes.now) }
 {
@@ -42,7 +42,7 @@ pub fn carries(alloc: Global, cell: Cell, classes: &[Class]) -> Result<Vec<Fact>
         .collect(alloc)
 }
 
-/// The cell has the class of one of these splitters.
+/// For each of these splitters the fact that the cell carries the class of its out edges.
 pub fn carries_split(
     alloc: Global,
     cell: Cell,
@@ -57,21 +57,21 @@ pub fn carries_split(
         .collect(alloc)
 }
 
-/// The columns in which a splitter may stand.
+/// For each of so many columns, from 0, the fact that the lesser half of the splitter stands in it.
 pub fn columns(alloc: Global, splitter: usize, width: usize) -> Result<Vec<Fact>, AllocError>
     ensures { IfOk result (λ facts. facts.items ≡ map (fact.Column splitter) (range_with_len 0 width)) }
 {
     (0..width).map(|x| Fact::Column(splitter, x)).collect(alloc)
 }
 
-/// The rows in which a splitter may stand.
+/// For each of so many rows, from 0, the fact that the lesser half of the splitter stands in it.
 pub fn rows(alloc: Global, splitter: usize, height: usize) -> Result<Vec<Fact>, AllocError>
     ensures { IfOk result (λ facts. facts.items ≡ map (fact.Row splitter) (range_with_len 0 height)) }
 {
     (0..height).map(|y| Fact::Row(splitter, y)).collect(alloc)
 }
 
-/// The splitters of which one may stand on a cell, turned this way.
+/// For each of so many splitters the fact that its lesser half stands on the cell, and it is turned this way.
 pub fn owners(
     alloc: Global,
     cell: Cell,
@@ -86,7 +86,7 @@ pub fn owners(
         .collect(alloc)
 }
 
-/// The input starts on any of these cells.
+/// For each of these cells the fact that the first part of the input stands on it.
 pub fn starts_on(alloc: Global, border: &[Cell], input: usize) -> Result<Vec<Fact>, AllocError>
     ensures { IfOk result (λ facts. facts.items ≡ map (λ c. fact.Starts c input) border.now) }
 {
@@ -96,7 +96,7 @@ pub fn starts_on(alloc: Global, border: &[Cell], input: usize) -> Result<Vec<Fac
         .collect(alloc)
 }
 
-/// The output stops on any of these cells.
+/// For each of these cells the fact that the last part of the output stands on it.
 pub fn stops_on(alloc: Global, border: &[Cell], output: usize) -> Result<Vec<Fact>, AllocError>
     ensures { IfOk result (λ facts. facts.items ≡ map (λ c. fact.Stops c output) border.now) }
 {
@@ -106,7 +106,7 @@ pub fn stops_on(alloc: Global, border: &[Cell], output: usize) -> Result<Vec<Fac
         .collect(alloc)
 }
 
-/// Adds that something comes to the cell from behind in this direction, where that is inside.
+/// Adds the fact that the cell behind this one hands to it in this direction. Adds nothing where that cell is outside.
 pub fn push_goes_into(
     facts: &mut Vec<Fact>,
     rect: Rect,
@@ -120,7 +120,7 @@ pub fn push_goes_into(
     push_inside(facts, rect, before, &[Fact::Goes(before, dir)])
 }
 
-/// Something comes to the cell from behind in this direction, where that is inside.
+/// The fact that the cell behind this one hands to it in this direction; no fact where that cell is outside.
 pub fn goes_into(alloc: Global, rect: Rect, cell: Cell, dir: Dir) -> Result<Vec<Fact>, AllocError>
     requires { IsNear cell }
     ensures { IfOk result (λ facts. facts.items ≡ told.goes_into rect cell dir) }
@@ -130,7 +130,8 @@ pub fn goes_into(alloc: Global, rect: Rect, cell: Cell, dir: Dir) -> Result<Vec<
     Ok(facts)
 }
 
-/// Adds the tunnels in the direction from the cells ahead, nearer than so far.
+/// Adds for each cell ahead that is nearer than `distance` the fact that an underground pair of this direction runs
+/// from it to the next one.
 pub fn push_tunnels(
     facts: &mut Vec<Fact>,
     cell: Cell,

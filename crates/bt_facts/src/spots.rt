@@ -45,7 +45,7 @@ pub fn ahead(dir: Dir, cell: Cell) -> Cell
     cell.ahead(dir, 1)
 }
 
-/// The cell so far ahead.
+/// The cell at this distance in a direction.
 pub fn far(dir: Dir, cell: Cell, distance: usize) -> Cell
     requires near { IsNear cell }
     requires few { distance < 4096 }
@@ -74,7 +74,7 @@ pub fn half_at(half: Half, dir: Dir, cell: Cell) -> Cell
     }
 }
 
-/// The cell of the other half, where this half of a splitter so turned stands on the cell.
+/// The cell of the other half of a splitter so turned of which this half stands on the cell.
 pub fn mate(half: Half, dir: Dir, cell: Cell) -> Cell
     requires { IsNear cell }
     ensures { result ≡ spots.mate half dir cell }

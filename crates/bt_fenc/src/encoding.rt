@@ -19,7 +19,7 @@ use bt_flow::{Ports, Property};
 use bt_net::Net;
 use std::alloc::{AllocError, Global};
 
-/// Adds the clauses of a family at all its places.
+/// Adds the clauses of a family at all its places: the numbers of the edges, ends or splitters that it speaks of.
 fn write_family(
     alloc: Global,
     net: &Net,
@@ -39,7 +39,7 @@ fn write_family(
     Ok(())
 }
 
-/// Adds the clauses of families.
+/// Adds the clauses of each of these families.
 fn write_families(
     alloc: Global,
     net: &Net,
@@ -60,7 +60,7 @@ fn write_families(
     Ok(())
 }
 
-/// The clauses of a network's laws, numbered by these variables.
+/// The formula of a network's admissible steady states, in which the pairs have these variables.
 fn laws_of(alloc: Global, net: &Net, ports: &Ports, pairs: &PairVars) -> Result<Formula, AllocError>
     requires ports { ArePorts net.now ports.now }
     requires variables { AreVariables net.now pairs.now }

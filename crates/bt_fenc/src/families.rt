@@ -40,8 +40,8 @@ fn add_range(
     add_row(formula, pairs, most)
 }
 
-/// Adds that an edge's flow is at most the load or room in a column, and as the pair says at least that, unless
-/// the edge has the mark.
+/// Adds that an edge's flow is at most the load or room in a column, and as the pair says at least that, unless the
+/// edge is backed, where `mark` is true, or free, where it is false.
 fn add_end(
     alloc: Global,
     pairs: &PairVars,
@@ -154,7 +154,7 @@ fn add_room(
     add_range(alloc, pairs, formula, column, cap_at(net, edge))
 }
 
-/// The pair of an input.
+/// The pair that compares the flow of an input's edge with the load.
 fn loaded(net: &Net, ports: &Ports, input: usize) -> Pair
     requires ports { ArePorts net.now ports.now }
     requires input { input < net.now.inputs }
@@ -168,7 +168,7 @@ fn loaded(net: &Net, ports: &Ports, input: usize) -> Pair
     }
 }
 
-/// The pair of an output.
+/// The pair that compares the flow of an output's edge with the room.
 fn filled(net: &Net, ports: &Ports, output: usize) -> Pair
     requires ports { ArePorts net.now ports.now }
     requires output { output < net.now.outputs }
@@ -226,7 +226,7 @@ fn add_output(
     add_end(alloc, pairs, formula, column, edge, false, pair)
 }
 
-/// Adds the pairs of a side of a splitter.
+/// Adds the clauses of the pairs at a side of a splitter: of each pair its first row, or the opposite.
 fn add_side_pairs(
     alloc: Global,
     net: &Net,
@@ -246,7 +246,7 @@ fn add_side_pairs(
     add_pairs(alloc, pairs, formula, side, splitter, port, preferred)
 }
 
-/// Adds how the edges at a side of a splitter share.
+/// Adds how the edges at a side of a splitter share: evenly, or the preferred one first.
 fn add_side(
     net: &Net,
     ports: &Ports,
@@ -267,7 +267,7 @@ fn add_side(
     add_sharing(net, pairs, formula, side, splitter, port, preferred)
 }
 
-/// Adds that each edge is full or isn't.
+/// Adds that an edge is full or isn't.
 fn add_full_pair(
     alloc: Global,
     net: &Net,
@@ -326,7 +326,7 @@ pub fn add_at(
     }
 }
 
-/// How many places a family has.
+/// How many places a family has: so many edges, inputs, outputs or splitters have clauses of it.
 pub fn places(net: &Net, family: ClauseFamily) -> usize
     ensures { result ≡ families.places net.now family }
 {

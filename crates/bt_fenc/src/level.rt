@@ -69,7 +69,7 @@ fn limit_column(net: &Net, end: End, place: usize) -> usize
     }
 }
 
-/// A row about an end.
+/// The row that says what `row` names of the end of this kind with this number.
 fn level_row(
     alloc: Global,
     net: &Net,
@@ -90,7 +90,7 @@ fn level_row(
     }
 }
 
-/// Adds a row about each end, each of which becomes a variable.
+/// Adds for each end of a kind the row that says this of it. Each becomes a variable.
 fn add_end_rows(
     alloc: Global,
     net: &Net,
@@ -109,7 +109,7 @@ fn add_end_rows(
     Ok(())
 }
 
-/// Adds the clause that of so many variables from one on one is true.
+/// Adds the clause that of the `count` variables from `first` on at least one is true.
 fn add_some(
     alloc: Global,
     formula: &mut Formula,
@@ -132,7 +132,7 @@ fn add_some(
     Ok(())
 }
 
-/// Adds for each of so many variables from one on that, where it is true, so is the one so many later.
+/// Adds for each of the `count` variables from `first` on that, where it is true, so is the one `count` later.
 fn add_implied(formula: &mut Formula, first: usize, count: usize) -> Result<(), AllocError>
     requires { first + 2 * count ≤ formula.old.vars }
     ensures { OnOk result (formula.new ≡ levels.with_more formula.old (levels.each_implies first count)) }
@@ -153,7 +153,7 @@ fn add_implied(formula: &mut Formula, first: usize, count: usize) -> Result<(), 
     Ok(())
 }
 
-/// Adds the rows that a level needs.
+/// Adds the rows that a level needs: that each end is below it, then that each is short, then that each reaches it.
 fn add_level_rows(
     alloc: Global,
     net: &Net,
@@ -169,7 +169,8 @@ fn add_level_rows(
     add_end_rows(alloc, net, ports, formula, end, LevelRow::Reached)
 }
 
-/// Adds a level with which ends are compared.
+/// Adds that some end of a kind is below the level, that each that is below is short, and that some end reaches it: so
+/// a short end has less than another.
 fn add_level_of(
     alloc: Global,
     net: &Net,
@@ -190,7 +191,7 @@ fn add_level_of(
     add_some(alloc, formula, first + 2 * count, count)
 }
 
-/// Adds the level of a property that compares ends with one.
+/// Adds the level with which a property of fair shares is broken. Adds nothing for another property.
 pub fn add_level(
     alloc: Global,
     net: &Net,

@@ -1,5 +1,5 @@
-//! The numbering of claims: each mention of a row becomes a variable of its own, and the first row of a pair
-//! keeps the variable that it has.
+//! The numbering of claims: each mention of a row becomes a variable of its own, and the first row of a pair keeps the
+//! variable that it has. A claim is what a literal says of a state.
 //!
 //! A lemma has only negative literals. With a row and its opposite as two variables, of which one is true, facts about
 //! flows are literals, and logs grow about as the number of splitters; where each row is mentioned once, each lemma
@@ -28,7 +28,7 @@ pub fn var_at(formula: &Formula, place: usize) -> Var
     }
 }
 
-/// The variable of the first row of a pair.
+/// The variable of the first row of a pair, which is below the number of variables.
 fn first_var(formula: &Formula, pairs: &PairVars, pair: Pair) -> Var
     requires { at_in pairs.now pair < formula.now.vars }
     ensures { result ≡ at_in pairs.now pair }

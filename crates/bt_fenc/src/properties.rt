@@ -85,8 +85,7 @@ fn output_edges(alloc: Global, net: &Net, ports: &Ports) -> Result<Vec<usize>, A
     Ok(edges)
 }
 
-/// The literals that the flow of the first edge is above or below that of another, whose rows become
-/// variables.
+/// The literals that the flow of the first edge is above or below that of another, whose rows become variables.
 fn unequal_lits(
     alloc: Global,
     pairs: &PairVars,
@@ -125,7 +124,7 @@ fn add_unequal(
     Ok(())
 }
 
-/// The row that so many columns from one on add up to more than the flows to outputs.
+/// The row that the `count` columns from `first` on add up to more than the flows to outputs.
 fn above_outputs(alloc: Global, net: &Net, first: usize, count: usize) -> Result<Row, AllocError>
     requires first { length net.now.edges ≤ first }
     requires last { first + count < 2 ^ 64 }
@@ -159,7 +158,7 @@ fn add_short(
     add_row(formula, pairs, rooms)
 }
 
-/// Adds the clauses of a property.
+/// Adds the clauses of a state that breaks a property. Fair shares have a level for that, so nothing is added here.
 pub fn add_property(
     alloc: Global,
     net: &Net,

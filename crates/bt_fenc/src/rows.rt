@@ -36,21 +36,21 @@ pub fn row_of_vec(terms: Vec<(usize, Frac)>, relation: Relation, bound: Frac) ->
     }
 }
 
-/// A column, added.
+/// The term that adds a column.
 pub fn plus(column: usize) -> (usize, Frac)
     ensures { result ≡ columns.plus column }
 {
     (column, Frac::whole(1))
 }
 
-/// A column, subtracted.
+/// The term that subtracts a column.
 pub fn minus(column: usize) -> (usize, Frac)
     ensures { result ≡ columns.minus column }
 {
     (column, Frac::whole(1).negate())
 }
 
-/// A column is at least a whole number.
+/// The row that a column is at least a whole number.
 pub fn at_least(alloc: Global, column: usize, least: u32) -> Result<Row, AllocError>
     requires { column < 2 ^ 64 - 1 }
     ensures { IfOk result (λ row. row ≡ columns.at_least column least) }
@@ -59,7 +59,7 @@ pub fn at_least(alloc: Global, column: usize, least: u32) -> Result<Row, AllocEr
     row_of(alloc, &[plus(column)], Relation::AtLeast, bound)
 }
 
-/// A column is at most a whole number.
+/// The row that a column is at most a whole number.
 pub fn at_most(alloc: Global, column: usize, most: u32) -> Result<Row, AllocError>
     requires { column < 2 ^ 64 - 1 }
     ensures { IfOk result (λ row. row ≡ columns.at_most column most) }
@@ -68,7 +68,7 @@ pub fn at_most(alloc: Global, column: usize, most: u32) -> Result<Row, AllocErro
     row_of(alloc, &[minus(column)], Relation::AtLeast, bound)
 }
 
-/// A column is below a whole number.
+/// The row that a column is below a whole number.
 fn below(alloc: Global, column: usize, end: u32) -> Result<Row, AllocError>
     requires { column < 2 ^ 64 - 1 }
     ensures { IfOk result (λ row. row ≡ columns.below column end) }
@@ -77,7 +77,7 @@ fn below(alloc: Global, column: usize, end: u32) -> Result<Row, AllocError>
     row_of(alloc, &[minus(column)], Relation::Above, bound)
 }
 
-/// A column is above a whole number.
+/// The row that a column is above a whole number.
 fn beyond(alloc: Global, column: usize, start: u32) -> Result<Row, AllocError>
     requires { column < 2 ^ 64 - 1 }
     ensures { IfOk result (λ row. row ≡ columns.beyond column start) }
@@ -86,7 +86,7 @@ fn beyond(alloc: Global, column: usize, start: u32) -> Result<Row, AllocError>
     row_of(alloc, &[plus(column)], Relation::Above, bound)
 }
 
-/// One column less another is at least or above 0.
+/// The row that one column less another is at least 0, or above 0, as the relation says.
 fn less(alloc: Global, a: usize, b: usize, relation: Relation) -> Result<Row, AllocError>
     requires a { a < 2 ^ 64 - 1 }
     requires b { b < 2 ^ 64 - 1 }
@@ -102,7 +102,7 @@ fn less(alloc: Global, a: usize, b: usize, relation: Relation) -> Result<Row, Al
     }
 }
 
-/// A column is at least another.
+/// The row that a column is at least another.
 pub fn not_below(alloc: Global, a: usize, b: usize) -> Result<Row, AllocError>
     requires a { a < 2 ^ 64 - 1 }
     requires b { b < 2 ^ 64 - 1 }
@@ -111,7 +111,7 @@ pub fn not_below(alloc: Global, a: usize, b: usize) -> Result<Row, AllocError>
     less(alloc, a, b, Relation::AtLeast)
 }
 
-/// A column is above another.
+/// The row that a column is above another.
 pub fn above(alloc: Global, a: usize, b: usize) -> Result<Row, AllocError>
     requires a { a < 2 ^ 64 - 1 }
     requires b { b < 2 ^ 64 - 1 }

@@ -23,7 +23,7 @@ fn value_of(values: &[Frac], column: usize) -> Frac
     }
 }
 
-/// The values of so many columns from one on.
+/// The values of the `count` columns from `first` on, 0 past the end of the values.
 fn values_from(
     alloc: Global,
     values: &[Frac],
@@ -40,7 +40,7 @@ fn values_from(
     Ok(found)
 }
 
-/// The marks of so many edges.
+/// The marks of so many edges, which are the first variables: true where an edge is backed.
 fn marks_of(alloc: Global, assignment: &[bool], count: usize) -> Result<Vec<bool>, AllocError>
     ensures { IfOk result (λ marks. marks.items ≡ map (truth_in assignment.now) (range_with_len 0 count)) }
 {

@@ -19,7 +19,7 @@ use bt_frac::Frac;
 use bt_net::Net;
 use std::alloc::{AllocError, Global};
 
-/// The mark with which an edge at a side of a splitter needn't be even.
+/// The mark with which an edge at a side of a splitter needn't be even: backed if it goes out, free if it comes in.
 fn excuse(side: Side) -> bool
     ensures { result ≡ families.excuse side }
 {
@@ -29,7 +29,8 @@ fn excuse(side: Side) -> bool
     }
 }
 
-/// Adds the clause that an edge has a mark, or is even with the other, or where its cap is less is full.
+/// Adds the clause that an edge has the mark that excuses it, or at least the flow of the other, or is full. The last
+/// literal is left out where its cap isn't less: full, it would have at least the other's flow.
 fn add_even_clause(
     net: &Net,
     pairs: &PairVars,
@@ -65,7 +66,8 @@ fn add_even_clause(
     }
 }
 
-/// Adds that each of two edges at a side of a splitter has a mark, or is even with the other or full.
+/// Adds for each of the two edges at a side of a splitter that it has the mark that excuses it, or at least the flow of
+/// the other, or is full; nothing where there aren't two.
 fn add_even(
     net: &Net,
     pairs: &PairVars,
@@ -118,7 +120,7 @@ fn add_even_pairs(
     add_pair(alloc, pairs, formula, second)
 }
 
-/// Of two edges the one beside this one.
+/// Of two edges the one that isn't preferred.
 fn beside(preferred: usize, first: u16, second: u16) -> usize
     ensures beside { result ≡ beside preferred first second }
     ensures small { result < 2 ^ 16 }
@@ -130,7 +132,7 @@ fn beside(preferred: usize, first: u16, second: u16) -> usize
     }
 }
 
-/// Adds the pairs of the edges at a side of a splitter, of which this one is preferred.
+/// Adds the pairs of the two edges at a side of a splitter, which may prefer one; nothing where there aren't two.
 pub fn add_pairs(
     alloc: Global,
     pairs: &PairVars,
@@ -196,7 +198,7 @@ fn add_prior(
     )
 }
 
-/// Adds how the edges at a side of a splitter share, of which this one is preferred.
+/// Adds how the two edges at a side of a splitter share, which may prefer one; nothing where there aren't two.
 pub fn add_sharing(
     net: &Net,
     pairs: &PairVars,
@@ -270,7 +272,7 @@ fn add_backing_of(
     add_three(formula, pairs, free, backed, StateLiteral::First(full))
 }
 
-/// Adds it for each in edge and each out edge.
+/// Adds for each in edge and each out edge that the one isn't backed, or the other is backed or full.
 pub fn add_backing(
     net: &Net,
     pairs: &PairVars,
@@ -289,7 +291,7 @@ pub fn add_backing(
     Ok(())
 }
 
-/// Adds it for an in edge and each out edge.
+/// Adds for each out edge that the in edge isn't backed, or the out edge is backed or full.
 fn add_backing_at(
     net: &Net,
     pairs: &PairVars,

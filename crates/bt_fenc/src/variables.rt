@@ -38,7 +38,7 @@ fn start_at(starts: &[usize], place: usize) -> usize
     }
 }
 
-/// How many rows the pairs of a port have, of which this edge is preferred.
+/// How many rows the pairs of a port have, of whose two edges one may be preferred; none where there aren't two.
 fn rows_at(port: Port, preferred: Option<usize>) -> usize
     ensures rows { (side : Side) (k : ℕ) → length
         (rows_in (map pair_clause (side_pairs preferred side k (numbers_of port)))) ≡ result }
@@ -73,7 +73,7 @@ pub fn preferred_at(net: &Net, side: Side, splitter: usize) -> Option<usize>
     }
 }
 
-/// For each splitter the variable of the first pair at a side, and then the variable after the last.
+/// For each splitter the variable of the first pair at a side, from `first` on, and then the variable after the last.
 fn starts(
     alloc: Global,
     net: &Net,

@@ -1,5 +1,5 @@
-//! What is asked of a state at single edges, and at the edges of a port: no comparison of the laws of
-//! steady states stands anywhere else.
+//! What is asked of a state at single edges, and at the edges of a port: no comparison of the laws of steady states
+//! stands anywhere else. An edge has a mark, which is true where it is backed and false where it is free.
 ghost use Rattle.std.specs.Prelude.{◌<◌, length, true};
 ghost use Rattle.bt_net.specs.Network.{Network};
 ghost use Rattle.bt_flow.specs.States.{Fits};
@@ -14,7 +14,7 @@ use crate::state::State;
 use bt_frac::Frac;
 use bt_net::Net;
 
-/// Whether a number is from 0 to the cap of an edge, and where `full` at it.
+/// Whether a number is from 0 to the cap of an edge, and equals the cap where `full` is set.
 fn admits_at(net: &Net, place: usize, number: &Frac, full: bool) -> bool
     requires { place < length net.now.edges }
     ensures { TellsOfNumber number.now (λ s x. AdmitsAt net.now s x full place) result }
@@ -23,7 +23,7 @@ fn admits_at(net: &Net, place: usize, number: &Frac, full: bool) -> bool
     is_within(number, cap) && (!full || is_full(number, cap))
 }
 
-/// Whether a number is from 0 to the cap of each edge of a port, and where `full` at it.
+/// Whether a number is from 0 to the cap of each edge of a port, and equals the caps where `full` is set.
 pub fn admits(net: &Net, port: Port, number: &Frac, full: bool) -> bool
     requires { AtEach port (λ a. a < length net.now.edges) }
     ensures { TellsOfNumber number.now (λ s x. AtEach port (AdmitsAt net.now s x full)) result }
@@ -92,7 +92,7 @@ fn is_empty_beside(state: &State, edge: usize, place: usize) -> bool
     edge == place || is_nothing(&state.flows()[edge])
 }
 
-/// Whether each edge of a port but one is empty.
+/// Whether each edge of a port other than the one at `place` is empty.
 fn is_only(state: &State, port: Port, place: usize) -> bool
     requires { AtEach port (λ a. a < length state.now.flows) }
     ensures { (n : Network) → Tells n state.now (λ s. AtEach port (IsEmptyBeside s place)) result }
@@ -105,8 +105,8 @@ fn is_only(state: &State, port: Port, place: usize) -> bool
     }
 }
 
-/// Whether an edge of a port, where none there is preferred, has a mark or is full, or has the greatest
-/// flow there.
+/// Whether an edge of a port has this mark or is full, or has the greatest flow there. True where an edge of the port
+/// is preferred.
 pub fn shares_at(
     net: &Net,
     state: &State,
@@ -126,8 +126,8 @@ pub fn shares_at(
     }
 }
 
-/// Whether an edge of a port, where it is the preferred one, has a mark or is full, or the others there are
-/// empty.
+/// Whether an edge of a port has this mark or is full, or the others there are empty. True where the edge isn't the
+/// preferred one of the port.
 pub fn comes_first_at(
     net: &Net,
     state: &State,

@@ -26,6 +26,7 @@ pub fn is_same(left: &Frac, right: &Frac) -> bool
     }
 }
 
+/// A cap as a fraction.
 fn cap_of(cap: u32) -> Frac
     ensures { result ≡ record { over = pos cap; under = 1 } }
 {
@@ -39,7 +40,7 @@ pub fn is_within(number: &Frac, cap: u32) -> bool
     is_at_most(&cap_of(0), number) && is_at_most(number, &cap_of(cap))
 }
 
-/// Whether a number is a cap.
+/// Whether a number equals a cap.
 pub fn is_full(number: &Frac, cap: u32) -> bool
     ensures { TellsOfOne number.now (λ x d. x ≡ pos (cap * d)) result }
 {
@@ -53,7 +54,7 @@ pub fn is_nothing(number: &Frac) -> bool
     is_same(number, &cap_of(0))
 }
 
-/// Whether a number is at least one of two: the second where it is below the first.
+/// Whether a number is at least the first of two, or else at least the second.
 pub fn reaches_one(number: &Frac, first: &Frac, second: &Frac) -> bool
     ensures { TellsOfThree number.now first.now second.now (λ x y z. x <ℤ y → z ≤ℤ x) result }
 {

@@ -14,7 +14,7 @@ use crate::sums::{Wide, output_sum, sum_of};
 use bt_frac::Frac;
 use bt_net::Net;
 
-/// Whether the conclusion of a property holds.
+/// Whether the conclusion of a property holds of a state; or the addition that leaves 128 bits.
 pub fn concludes(net: &Net, property: Property, state: &State) -> Result<bool, Wide>
     requires { Fits net.now state.now }
     ensures { TellsBySums net.now state.now (Concludes property net.now)
@@ -51,7 +51,7 @@ fn agree(net: &Net, state: &State, role: Role) -> bool
     true
 }
 
-/// An edge with a role of which the flow is the greatest, where an edge has the role.
+/// The number of an edge of greatest flow among those with a role. None where no edge has the role.
 fn greatest(net: &Net, state: &State, role: Role) -> Option<usize>
     requires { Fits net.now state.now }
     ensures { IsGreatest net.now state.now role (length net.now.edges) result }

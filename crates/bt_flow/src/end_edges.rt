@@ -10,7 +10,7 @@ use bt_net::{Net, Target};
 use smallvec::SmallVec;
 use std::alloc::{AllocError, Global};
 
-/// The numbers of the edges of a port, which need no block of memory.
+/// The numbers of the edges of a port, in a list that needs no block of memory.
 pub fn numbers_of(alloc: Global, port: Port) -> Result<SmallVec<usize, 2>, AllocError>
     ensures { IfOk result (λ numbers. numbers.items ≡ numbers_of port) }
 {
@@ -34,7 +34,7 @@ fn first_of(port: Port) -> usize
     }
 }
 
-/// The edge of an input.
+/// The number of the edge of an input, or 0 where it has none.
 pub fn input_edge(net: &Net, ports: &Ports, input: usize) -> usize
     requires ports { ArePorts net.now ports.now }
     requires input { input < net.now.inputs }
@@ -44,7 +44,7 @@ pub fn input_edge(net: &Net, ports: &Ports, input: usize) -> usize
     first_of(ports.inputs[input])
 }
 
-/// The edge of an output.
+/// The number of the edge of an output, or 0 where it has none.
 pub fn output_edge(net: &Net, ports: &Ports, output: usize) -> usize
     requires ports { ArePorts net.now ports.now }
     requires output { output < net.now.outputs }
@@ -64,7 +64,7 @@ pub fn cap_at(net: &Net, edge: usize) -> u32
     }
 }
 
-/// The column of an input's load.
+/// The column of an input's load: these come behind those of the edges' flows.
 pub fn load_column(net: &Net, input: usize) -> usize
     requires { input ≤ net.now.inputs }
     ensures column { result ≡ end_edges.load_column net.now input }
@@ -73,7 +73,7 @@ pub fn load_column(net: &Net, input: usize) -> usize
     net.edges().len() + input
 }
 
-/// The column of an output's room.
+/// The column of an output's room: these come behind those of the loads.
 pub fn room_column(net: &Net, output: usize) -> usize
     requires { output ≤ net.now.outputs }
     ensures column { result ≡ end_edges.room_column net.now output }

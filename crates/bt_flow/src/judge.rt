@@ -45,7 +45,8 @@ pub fn breaks(net: &Net, property: Property, state: &State) -> Result<Judgement,
     judge(&Trial::new(net, property, state), 0, LAST_TEST)
 }
 
-/// The first failed test among those with the places from `first` to `last` in the order.
+/// The first failed test among those with the places from `first` to `last`, both counted, in the order. Or the sum
+/// before that which leaves 128 bits.
 fn judge(trial: &Trial<'_>, first: usize, last: usize) -> Result<Judgement, WideSum>
     requires some { (s : Flows) × StandsFor trial.now.network trial.now.state s }
     requires order { first ≤ last }

@@ -18,9 +18,9 @@ pub enum Test {
     Range,
     /// What enters a splitter leaves it.
     Conserve,
-    /// Where an out edge of a splitter that prefers none is free, the other out edge has no greater flow.
+    /// Where an out edge of a splitter that prefers none is free and not full, the other has no greater flow.
     EvenOut,
-    /// Where an in edge of a splitter that prefers none is backed, the other in edge has no greater flow.
+    /// Where an in edge of a splitter that prefers none is backed and not full, the other has no greater flow.
     EvenIn,
     /// Where the out edge that a splitter prefers is free, it is full or the other out edge is empty.
     PriorOut,

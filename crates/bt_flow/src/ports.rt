@@ -5,7 +5,7 @@ ghost use Rattle.bt_flow.specs.Ports.{numbers_of, plays, role_of, AreAt, ArePort
 
 use bt_net::{Edge, MOST_OF_EACH, Net, Start, Target};
 
-/// The edges at one end of a network, by their numbers in ascending order.
+/// The edges at an input, an output or one side of a splitter, by their numbers in ascending order.
 #[derive(Clone, Copy)]
 pub enum Port {
     /// No edge.
@@ -17,7 +17,7 @@ pub enum Port {
 }
 
 impl Port {
-    /// The port with one more edge.
+    /// The port, of one edge at most, with one more. A port of two edges stays.
     fn with(self, edge: u16) -> Port
         requires { length (numbers_of self) < 2 }
         ensures { numbers_of result ≡ numbers_of self ++ edge ∷ [] }
@@ -53,7 +53,7 @@ pub enum End {
 }
 
 impl End {
-    /// What the edges of these ends are there.
+    /// The role of the edges at these ends.
     pub fn role(self) -> Role
         ensures { result ≡ role_of self }
     {
@@ -65,7 +65,7 @@ impl End {
 }
 
 impl Role {
-    /// The number of the input, output or splitter at which the edge has this role.
+    /// The number of the input, output or splitter at which the edge has this role. None where it hasn't the role.
     pub fn number_in(self, edge: &Edge) -> Option<u32>
         ensures some { IfSome result (λ n. (k : ℕ) → plays self k edge.now ≡ (n == k)) }
         ensures none { IfNone result ((k : ℕ) → plays self k edge.now ≡ false) }
@@ -80,7 +80,7 @@ impl Role {
     }
 }
 
-/// The edges with a role, at each number.
+/// The edges with a role, by the number of the input, output or splitter at which they have it.
 fn ports_of(net: &Net, role: Role) -> [Port; MOST_OF_EACH]
     ensures ports { AreAt net.now role result }
     ensures network { IsNetwork net.now }

@@ -52,6 +52,7 @@ pub fn print_edges<K: Sink>(state: &State, sink: &mut K) -> Result<(), WriteFaul
     print_line(b"mark", state.backed(), sink)
 }
 
+/// Writes the line `no` of a state for a property, and the lines `load` and `room`.
 fn print_head<K: Sink>(state: &State, property: Property, sink: &mut K) -> Result<(), WriteFault>
     ensures { WritesText (passage K.held K.faults sink.old sink.new) (head_text property state.now) result }
 {
@@ -59,6 +60,7 @@ fn print_head<K: Sink>(state: &State, property: Property, sink: &mut K) -> Resul
     print_ends(state, sink)
 }
 
+/// Writes the line `no`, with the property's name.
 fn print_title<K: Sink>(property: Property, sink: &mut K) -> Result<(), WriteFault>
     ensures { WritesText (passage K.held K.faults sink.old sink.new) (title_line property) result }
 {
@@ -76,7 +78,7 @@ fn print_line<T: Spelled, K: Sink>(name: &[u8], items: &[T], sink: &mut K) -> Re
     write_all_of(sink, b"\n")
 }
 
-/// Writes a head, and a word for each item.
+/// Writes a head, and for each item a space and its word.
 fn print_words<T: Spelled, K: Sink>(
     head: &[u8],
     items: &[T],

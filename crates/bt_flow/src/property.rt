@@ -50,7 +50,7 @@ impl Property {
         }
     }
 
-    /// Whether it speaks of states alone in which every input is fully loaded.
+    /// Whether the property speaks only of states in which every input is fully loaded.
     pub fn asks_loads(self) -> bool
         ensures { result ≡ asks_loads self }
     {
@@ -61,7 +61,7 @@ impl Property {
         }
     }
 
-    /// Whether it speaks of states alone in which no output is blocked.
+    /// Whether the property speaks only of states in which no output is blocked.
     pub fn asks_rooms(self) -> bool
         ensures { result ≡ asks_rooms self }
     {

@@ -58,8 +58,9 @@ pub struct Ends<'a> {
     pub rest: &'a [u8],
 }
 
-/// The loads and rooms of a state that come next in a text, as lines 2 and 3 of it: the line `load`, with a fraction for
-/// each input, and the line `room`, with one for each output. `CertLine` names the first that isn't so or is missing.
+/// The loads and rooms of a state that come next in a text, as lines 2 and 3 of it: the line `load`, with a fraction
+/// for each input, and the line `room`, with one for each output. `CertLine` names the first that isn't so or is
+/// missing.
 pub fn read_ends<'a>(alloc: Global, net: &Net, text: &'a [u8]) -> Result<Ends<'a>, StateFault>
     ensures ok { IfOk result (λ e. IsEnds net.now text.now e.loads.items e.rooms.items e.rest.now) }
     ensures err { IfErr result (IsFault (StopsInEnds net.now text.now)) }

@@ -17,7 +17,7 @@ pub struct Wide {
     pub right: Frac,
 }
 
-/// The sum of two numbers.
+/// The sum of two numbers; or the two where it leaves 128 bits.
 fn add(left: Frac, right: Frac) -> Result<Frac, Wide>
     ensures sum { IfOk result (λ r. AddsTo left right r) }
     ensures wide { IfErr result (λ w. (w.left ≡ left) × (w.right ≡ right) × IsWide left right) }
@@ -28,7 +28,7 @@ fn add(left: Frac, right: Frac) -> Result<Frac, Wide>
     }
 }
 
-/// The sum of numbers.
+/// The sum of numbers in their order; or the first addition that leaves 128 bits.
 pub fn sum_of(numbers: &[Frac]) -> Result<Frac, Wide>
     ensures sum { IfOk result (λ r. RunsTo nothing numbers.now r) }
     ensures wide { IfErr result (λ w. IsWideIn w.left w.right numbers.now) }
@@ -40,7 +40,7 @@ pub fn sum_of(numbers: &[Frac]) -> Result<Frac, Wide>
     Ok(sum)
 }
 
-/// The sum of the flows of the edges of a port.
+/// The sum of the flows of the edges of a port; or the first addition that leaves 128 bits.
 pub fn port_sum(flows: &[Frac], port: Port) -> Result<Frac, Wide>
     requires { AtEach port (λ a. a < length flows.now) }
     ensures sum { IfOk result (λ r. RunsTo nothing (flows_of flows.now port) r) }
@@ -57,7 +57,7 @@ pub fn port_sum(flows: &[Frac], port: Port) -> Result<Frac, Wide>
     }
 }
 
-/// The sum of the flows of the edges that end at an output.
+/// The sum of the flows of the edges that end at outputs; or the first addition that leaves 128 bits.
 pub fn output_sum(edges: &[Edge], flows: &[Frac]) -> Result<Frac, Wide>
     requires { length flows.now ≡ length edges.now }
     ensures sum { IfOk result (λ r. RunsTo nothing (fractions_where is_last edges.now flows.now) r) }

@@ -30,8 +30,8 @@ pub fn seven_laws()
     ensures { SevenLawsAreAll }
 {}
 
-/// An admissible steady state is one over any greater denominator too: with its denominator and its numbers so many times
-/// as great. So two states can be put over one denominator.
+/// An admissible steady state is one over any greater denominator too: with its denominator and its numbers so many
+/// times as great. So two states can be put over one denominator.
 pub fn scaled_is_steady()
     ensures { ScaledIsSteady }
 {}

@@ -1,4 +1,5 @@
-//! A state on trial: whether it passes each test at each place, and where it first fails one.
+//! A state on trial: whether it passes each test at each place, and where it first fails one. What is asked of edges at
+//! splitters, every other edge passes.
 ghost use Rattle.std.specs.Prelude.{◌≡◌, ◌<◌, IfOk, IfErr, length};
 ghost use Rattle.bt_flow.specs.Tests.{places};
 ghost use Rattle.bt_flow.specs.inner.Trials.{IsTested, IsTestedAt, Decides, IsSearched};
@@ -53,7 +54,8 @@ impl<'a> Trial<'a> {
         }
     }
 
-    /// The first place at which the state fails a test.
+    /// The first place at which the state fails a test. None where it passes at each. Or the sum before that which
+    /// leaves 128 bits.
     pub fn failed_place(&self, test: Test) -> Result<Option<usize>, WideSum>
         ensures { IsSearched self.now test result }
     {
@@ -66,7 +68,7 @@ impl<'a> Trial<'a> {
         Ok(None)
     }
 
-    /// How many places a test has.
+    /// How many places a test has: inputs, outputs, splitters or edges, or one for the conclusion.
     fn places(&self, test: Test) -> usize
         ensures { result ≡ places self.now.network test }
     {
@@ -105,6 +107,7 @@ impl<'a> Trial<'a> {
         }
     }
 
+    /// Whether an input's load is from 0 to its cap, and equals it where the property asks that.
     fn passes_load(&self, input: usize) -> bool
         requires { input < self.now.network.inputs }
         ensures { Decides self.now Test.Load input result }
@@ -117,6 +120,7 @@ impl<'a> Trial<'a> {
         )
     }
 
+    /// Whether an output's room is from 0 to its cap, and equals it where the property asks that.
     fn passes_room(&self, output: usize) -> bool
         requires { output < self.now.network.outputs }
         ensures { Decides self.now Test.Room output result }
@@ -129,6 +133,7 @@ impl<'a> Trial<'a> {
         )
     }
 
+    /// Whether what enters a splitter leaves it; or the addition that leaves 128 bits.
     fn conserves(&self, splitter: usize) -> Result<bool, Wide>
         requires { splitter < self.now.network.splitters }
         ensures { IsTested self.now Test.Conserve splitter result }
@@ -138,6 +143,7 @@ impl<'a> Trial<'a> {
         Ok(is_same(&entering, &leaving))
     }
 
+    /// Whether an edge out of a splitter that prefers none is backed, full or of the greatest flow there.
     fn passes_even_out(&self, edge: usize) -> bool
         requires { edge < length self.now.network.edges }
         ensures { Decides self.now Test.EvenOut edge result }
@@ -155,6 +161,7 @@ impl<'a> Trial<'a> {
         }
     }
 
+    /// Whether an edge into a splitter that prefers none is free, full or of the greatest flow there.
     fn passes_even_in(&self, edge: usize) -> bool
         requires { edge < length self.now.network.edges }
         ensures { Decides self.now Test.EvenIn edge result }
@@ -172,6 +179,7 @@ impl<'a> Trial<'a> {
         }
     }
 
+    /// Whether an edge to which its splitter gives first is backed or full, or the other one is empty.
     fn passes_prior_out(&self, edge: usize) -> bool
         requires { edge < length self.now.network.edges }
         ensures { Decides self.now Test.PriorOut edge result }
@@ -189,6 +197,7 @@ impl<'a> Trial<'a> {
         }
     }
 
+    /// Whether an edge from which its splitter takes first is free or full, or the other one is empty.
     fn passes_prior_in(&self, edge: usize) -> bool
         requires { edge < length self.now.network.edges }
         ensures { Decides self.now Test.PriorIn edge result }
@@ -206,6 +215,7 @@ impl<'a> Trial<'a> {
         }
     }
 
+    /// Whether an edge into a splitter is free, or each edge out of that is backed or full.
     fn passes_backing(&self, edge: usize) -> bool
         requires { edge < length self.now.network.edges }
         ensures { Decides self.now Test.Backing edge result }
@@ -217,6 +227,7 @@ impl<'a> Trial<'a> {
         }
     }
 
+    /// Whether an input's flow is at most its load, and equals it where the edge is free.
     fn passes_input(&self, input: usize) -> bool
         requires { input < self.now.network.inputs }
         ensures { Decides self.now Test.Input input result }
@@ -229,6 +240,7 @@ impl<'a> Trial<'a> {
         )
     }
 
+    /// Whether an output's flow is at most its room, and equals it where the edge is backed.
     fn passes_output(&self, output: usize) -> bool
         requires { output < self.now.network.outputs }
         ensures { Decides self.now Test.Output output result }
@@ -241,6 +253,7 @@ impl<'a> Trial<'a> {
         )
     }
 
+    /// Whether the property's conclusion is false of the state; or the addition that leaves 128 bits.
     fn fails_conclusion(&self) -> Result<bool, Wide>
         ensures { IsTested self.now Test.Conclusion 0 result }
     {
@@ -249,7 +262,7 @@ impl<'a> Trial<'a> {
     }
 }
 
-/// The outcome of a test at a place, which a wide sum names.
+/// The outcome of a test at a place. A wide sum is told with the test and the place.
 fn named(test: Test, place: usize, outcome: Result<bool, Wide>) -> Result<bool, WideSum>
     ensures ok { IfOk result (λ b. outcome ≡ Ok b) }
     ensures wide { IfErr result (λ w. (w.test ≡ test) × (w.place ≡ place)

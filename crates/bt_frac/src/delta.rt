@@ -14,7 +14,7 @@ pub struct Delta {
 }
 
 impl Delta {
-    /// The exact sum. None exactly where that of the values or that of the infinitesimals is.
+    /// The exact sum. None exactly where the sum of the values, or that of the infinitesimals' multiples, is None.
     pub fn add(&self, other: &Delta) -> Option<Delta>
         ensures lowest { IfSome result HasLowestParts }
         ensures sum { IfSome result (AreSums self.now other.now) }
@@ -30,7 +30,7 @@ impl Delta {
         Some(Delta { value, tiny })
     }
 
-    /// The exact difference: the sum of the first and the negated second, and None where that is.
+    /// The exact difference: the sum of the first and the negated second. None exactly where that sum is None.
     pub fn sub(&self, other: &Delta) -> Option<Delta>
         ensures lowest { IfSome result HasLowestParts }
         ensures sum { IfSome result (AreSums self.now (negated_parts other.now)) }
@@ -43,8 +43,8 @@ impl Delta {
         })
     }
 
-    /// The exact product with a fraction. None exactly where that of the value or that of the
-    /// infinitesimal is.
+    /// The exact product with a fraction. None exactly where the value's product, or that of the infinitesimal's
+    /// multiple, is None.
     pub fn scale(&self, by: &Frac) -> Option<Delta>
         ensures lowest { IfSome result HasLowestParts }
         ensures product { IfSome result (AreProducts self.now by.now) }

@@ -47,7 +47,8 @@ impl Row {
         }))
     }
 
-    /// The same row, which keeps the vector of its terms and so takes no memory.
+    /// The row of these terms, each a column and its coefficient, which keeps their vector and so takes no memory. None
+    /// exactly where `new` gives None.
     pub fn from_vec(terms: Vec<(usize, Frac)>, relation: Relation, bound: Frac) -> Option<Row>
         ensures { IsRowOf (record { terms = terms.items; relation = relation; bound = bound }) result }
     {
@@ -64,7 +65,7 @@ impl Row {
         })
     }
 
-    /// The columns that have a coefficient, in ascending order, with it.
+    /// The columns that have a coefficient, in ascending order, each with its coefficient.
     pub fn terms(&self) -> &[(usize, Frac)]
         ensures value { result.now ≡ self.now.terms }
         ensures known { IsRow self.now }

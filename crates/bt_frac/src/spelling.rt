@@ -10,9 +10,8 @@ use itoa::Buffer;
 pub const TEXT_MAX: usize = 80;
 
 impl Frac {
-    /// Writes the one spelling of the fraction to the front of a buffer, and gives its length: the
-    /// numerator, with a minus where it is negative, and where the denominator isn't 1, a slash and
-    /// the denominator.
+    /// Writes the one spelling of the fraction to the front of a buffer, and gives the number of its bytes. It is the
+    /// numerator, with a minus where it is negative, and where the denominator isn't 1, a slash and the denominator.
     pub fn text(&self, buf: &mut [u8; TEXT_MAX]) -> usize
         ensures within { result ≤ TEXT_MAX }
         ensures written { take result buf.new ≡ frac_text self.now }

@@ -35,7 +35,8 @@ fn split_sign(text: &[u8]) -> (bool, &[u8])
     }
 }
 
-/// The numbers of a word without sign, each at most `u128::MAX`.
+/// The numbers before and after the slash of a word without sign, or its one number and 1 where it has no slash;
+/// numbers past `u128::MAX` are read as that. None where one is no whole number, or 1 follows the slash.
 fn read_parts(word: &[u8]) -> Option<(u128, u128)>
     ensures some { IfSome result (λ parts. HasRead word.now parts.0 parts.1) }
     ensures none { IfNone result ((m n : ℕ) → WordOf word.now m n → ⊥) }
@@ -46,7 +47,7 @@ fn read_parts(word: &[u8]) -> Option<(u128, u128)>
     }
 }
 
-/// The numbers before and after a slash, of which the second is not 1.
+/// The numbers before and after a slash. None where one is no whole number, or the second is 1.
 fn read_both(front: &[u8], back: &[u8]) -> Option<(u128, u128)>
     ensures some { IfSome result (λ parts. AreRead front.now back.now parts.0 parts.1) }
     ensures none { IfNone result ((m n : ℕ) → AroundSlash front.now back.now m n → ⊥) }
@@ -59,7 +60,7 @@ fn read_both(front: &[u8], back: &[u8]) -> Option<(u128, u128)>
     Some((size, under))
 }
 
-/// What stands before the first slash of a word, and what stands after it.
+/// What stands before the first slash of a word, and what stands after it. None where there is no slash.
 fn split_slash(word: &[u8]) -> Option<(&[u8], &[u8])>
     ensures some { IfSome result (λ parts. IsCutAtSlash word.now parts.0.now parts.1.now) }
     ensures none { IfNone result (HasNoSlash word.now) }

@@ -4,8 +4,8 @@ ghost use Rattle.std.specs.Str.Parse.{AllDigits};
 ghost use Rattle.bt_frac.specs.Numbers.{IsLimited, IsReadAs, SpellsNone};
 ghost use Rattle.bt_frac.specs.inner.Words.{AreDigitsOf};
 
-/// The whole number that the word spells, which is decimal digits without a leading zero, but for
-/// `0` itself. Numbers past `u128::MAX` are read as that.
+/// The whole number that the word spells, which is decimal digits without a leading zero, but for `0` itself. Numbers
+/// past `u128::MAX` are read as that. None where the word spells none.
 pub fn read_whole(word: &[u8]) -> Option<u128>
     ensures some { IfSome result (IsReadAs word.now) }
     ensures none { IfNone result (SpellsNone word.now) }
@@ -16,7 +16,7 @@ pub fn read_whole(word: &[u8]) -> Option<u128>
     read_digits(word)
 }
 
-/// The value of decimal digits, at most `u128::MAX`.
+/// The value of decimal digits, where one past `u128::MAX` counts as that. None where a byte is no digit.
 fn read_digits(word: &[u8]) -> Option<u128>
     ensures some { IfSome result (AreDigitsOf word.now) }
     ensures none { IfNone result (AllDigits 10 word.now → ⊥) }
@@ -31,7 +31,7 @@ fn read_digits(word: &[u8]) -> Option<u128>
     Some(value)
 }
 
-/// The number with one more digit at its end, at most `u128::MAX`.
+/// The number with one more digit at its end, where one past `u128::MAX` counts as that.
 fn with_digit(value: u128, digit: u8) -> u128
     requires { digit < 10 }
     ensures { IsLimited (value * 10 + digit) result }

@@ -35,6 +35,7 @@ fn product(first: u128, second: u128) -> Wide
     }
 }
 
+/// The order of two numbers of 256 bits.
 fn compare_wide(left: Wide, right: Wide) -> Ordering
     ensures { IsOrderOfNumbers result (left.high * 2 ^ 128 + left.low) (right.high * 2 ^ 128 + right.low) }
 {

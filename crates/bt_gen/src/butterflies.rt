@@ -1,4 +1,5 @@
-//! Butterflies: stages in which each splitter joins two lines that lie a power of two apart.
+//! Butterflies: stages, from 0, in each of which each splitter joins two lines, numbered from 0, that lie 2^stage
+//! apart. Its lesser line is that of the lower number.
 ghost use Rattle.std.specs.Prelude.{◌≡◌, ◌↔◌, ◌^◌, ◌*◌, ◌+◌, ◌<◌, ◌≤◌, ◌++◌, ℕ, IfOk, OnOk};
 ghost use Rattle.bt_text.specs.Answers.{Answers};
 ghost use Rattle.bt_flow.specs.declared.property.Property.TheVariants.{Balanced};
@@ -54,7 +55,7 @@ fn edges_of(alloc: Global, order: u32) -> Result<Vec<Edge>, AllocError>
     Ok(edges)
 }
 
-/// Adds the edges of the inputs.
+/// Adds for each input the edge to the splitter of stage 0 that has the line of its number.
 fn push_inputs(edges: &mut Vec<Edge>, order: u32) -> Result<(), AllocError>
     requires { IsOrder MOST_STAGES order }
     ensures { OnOk result (edges.new.items ≡ edges.old.items ++ input_edges order) }
@@ -66,7 +67,7 @@ fn push_inputs(edges: &mut Vec<Edge>, order: u32) -> Result<(), AllocError>
     Ok(())
 }
 
-/// Adds the out edges of the splitters of a stage.
+/// Adds the two out edges of each splitter of a stage.
 fn push_stage(edges: &mut Vec<Edge>, order: u32, stage: u32) -> Result<(), AllocError>
     requires order { IsOrder MOST_STAGES order }
     requires stage { stage < order }
@@ -96,8 +97,8 @@ fn out_edges(order: u32, stage: u32, place: u32) -> [Edge; 2]
     ]
 }
 
-/// Where a line leads behind a stage: to the splitter of the next stage that has it, or behind the last
-/// stage to this output.
+/// Where a line leads behind a stage: to the splitter of the next stage that has it, or behind the last stage to the
+/// output of number `output`.
 fn leads_to(order: u32, stage: u32, line: u32, output: u32) -> Target
     requires order { IsOrder MOST_STAGES order }
     requires stage { stage < order }
@@ -112,7 +113,7 @@ fn leads_to(order: u32, stage: u32, line: u32, output: u32) -> Target
     }
 }
 
-/// The number of a splitter by its stage and its place there.
+/// The number of the splitter at a place of a stage, both from 0.
 fn number(order: u32, stage: u32, place: u32) -> u32
     requires order { IsOrder MOST_STAGES order }
     requires stage { stage < order }
@@ -122,7 +123,8 @@ fn number(order: u32, stage: u32, place: u32) -> u32
     stage * power(order - 1) + place
 }
 
-/// The lesser line of a splitter.
+/// The lesser line of the splitter at a place of a stage. Of a block of 2^(stage + 1) lines each of the first half is
+/// joined with the one 2^stage behind it.
 fn lesser_line(stage: u32, place: u32) -> u32
     requires stage { stage < 7 }
     requires place { place < 128 }

@@ -1,17 +1,18 @@
-//! What a network keeps when outputs are led back to inputs.
+//! What a network, whose edges have the cap 1 and whose splitters prefer no edge, keeps when outputs are led back to
+//! inputs.
 ghost use Rattle.bt_gen.specs.Loops.{UnlimitedIsKept, BalancedIsKept, DrawnEvenlyIsKept};
 
-/// Where outputs of an unlimited network are led back to as many inputs, it is unlimited.
+/// Where outputs of an unlimited network are led back to as many inputs, the network that is left is unlimited.
 pub fn unlimited_led_back()
     ensures { UnlimitedIsKept }
 {}
 
-/// Where outputs of an unlimited and balanced network of equal belts are led back, it is balanced.
+/// Where outputs of an unlimited and balanced network are led back, the network that is left is balanced.
 pub fn balanced_led_back()
     ensures { BalancedIsKept }
 {}
 
-/// Where outputs of a network of equal belts are led back that is unlimited and draws evenly, it draws evenly.
+/// Where outputs of an unlimited network that draws evenly are led back, the network that is left draws evenly.
 pub fn drawn_evenly_led_back()
     ensures { DrawnEvenlyIsKept }
 {}

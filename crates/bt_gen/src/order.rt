@@ -7,7 +7,7 @@ use bt_net::{Edge, Net, Start, Target};
 /// The cap of each edge of a network that is made: one belt of the slowest tier.
 const CAP: u32 = 1;
 
-/// An edge between two ends.
+/// An edge from a start to a target, with the cap of one belt of the slowest tier.
 pub fn edge(start: Start, target: Target) -> Edge
     ensures { result ≡ record { start = start; target = target; cap = 1 } }
 {
@@ -28,7 +28,7 @@ pub fn power(exponent: u32) -> u32
     1 << exponent
 }
 
-/// The network of these numbers and edges, which are known to be those of one.
+/// The network of these numbers of ends and splitters and these edges, which are known to make one.
 pub fn made(inputs: u32, outputs: u32, splitters: u32, edges: Vec<Edge>) -> Net
     requires { IsNetwork (network_of inputs outputs splitters edges.items) }
     ensures { result ≡ network_of inputs outputs splitters edges.items }

@@ -31,7 +31,8 @@ const NOTHING: Wish = Wish {
 };
 
 impl Wish {
-    /// The wish of a word: the names of one property or more, joined by commas, each at most once.
+    /// The wish of a word: the names of one property or more, joined by commas, each at most once. None where the word
+    /// is no such list.
     pub fn named(word: &[u8]) -> Option<Wish>
         ensures { MatchOption result ((w : AWish) → IsWishWord w word.now → ⊥) (λ w. IsWishWord w word.now) }
     {
@@ -58,7 +59,7 @@ impl Wish {
         }
     }
 
-    /// The property that alone is wished for, where there is one.
+    /// The property that alone is wished for. None where more than one is wished for, or none is.
     pub fn single(self) -> Option<Property>
         ensures { MatchOption result ((p : AProperty) → self ≡ only p → ⊥) (λ p. self ≡ only p) }
     {
@@ -115,7 +116,7 @@ impl Wish {
         }
     }
 
-    /// The wish for one property more.
+    /// This wish with a property more.
     fn with(self, property: Property) -> Wish
         ensures { result ≡ with_property self property }
     {
@@ -141,7 +142,7 @@ impl Wish {
         }
     }
 
-    /// The wish for the property of this name too, where it isn't wished for yet.
+    /// This wish with the property of this name more. None where no property has the name, or it is wished for already.
     fn with_named(self, name: &[u8]) -> Option<Wish>
         ensures { MatchOption result ((w : AWish) → Adds self name.now w → ⊥) (λ w. Adds self name.now w) }
     {
@@ -153,7 +154,7 @@ impl Wish {
     }
 }
 
-/// The property of this name.
+/// The property of this name, in lower case with hyphens. None where no property has it.
 fn property_named(name: &[u8]) -> Option<Property>
     ensures { MatchOption result ((p : AProperty) → name.now ≡ property_name p → ⊥)
         (λ p. name.now ≡ property_name p) }
@@ -179,7 +180,7 @@ fn property_named(name: &[u8]) -> Option<Property>
     None
 }
 
-/// A word is one wish at most.
+/// A word says one wish at most: no two wishes have the same word.
 pub fn one_wish()
     ensures { (v w : AWish) (word : List ℕ) → IsWishWord v word → IsWishWord w word → v ≡ w }
 {}

@@ -10,7 +10,7 @@ use bt_net::Net;
 use bt_parts::Rect;
 use std::alloc::{AllocError, Global};
 
-/// The same request on this grid.
+/// The same request on this grid. It names no cells, by pins or by blocks, so it may be asked of any.
 pub fn request_on(alloc: Global, request: &Request, grid: Rect) -> Result<Request, AllocError>
     requires request { IsRequest (request_on request.now grid) }
     requires cells { NamesNoCells request.now }
@@ -36,7 +36,7 @@ fn bare_copy_of(alloc: Global, net: &Net) -> Result<Net, AllocError>
     }
 }
 
-/// The out edge that each splitter prefers.
+/// The out edge that each splitter prefers, where it prefers one.
 fn gives_of(alloc: Global, net: &Net) -> Result<Vec<Option<usize>>, AllocError>
     requires { IsNetwork net.now }
     ensures { IfOk result (λ gives. gives.items ≡ net.now.gives) }
@@ -48,7 +48,7 @@ fn gives_of(alloc: Global, net: &Net) -> Result<Vec<Option<usize>>, AllocError>
     Ok(gives)
 }
 
-/// The in edge that each splitter prefers.
+/// The in edge that each splitter prefers, where it prefers one.
 fn takes_of(alloc: Global, net: &Net) -> Result<Vec<Option<usize>>, AllocError>
     requires { IsNetwork net.now }
     ensures { IfOk result (λ takes. takes.items ≡ net.now.takes) }

@@ -55,7 +55,8 @@ fn print_from<K: Sink>(first: Option<Rect>, sink: &mut K) -> Result<(), WriteFau
     }
 }
 
-/// Writes what stands behind that line.
+/// Writes what a search comes to, but for where it begins: the grids that are ruled out, and the one on which parts
+/// were found with their blueprint; or the grid whose log is used up, with the log.
 fn print_least<K: Sink>(answer: &Smallest, blueprint: &[u8], sink: &mut K) -> Result<(), WriteFault>
     ensures { (priorities : List Priority) → blueprint.now ≡ blueprint_of answer.now priorities
         → WritesText (passage K.held K.faults sink.old sink.new) (least_text answer.now priorities) result }
@@ -95,7 +96,7 @@ pub fn print_small<K: Sink>(small: &Small, blueprint: &[u8], sink: &mut K) -> Re
     }
 }
 
-/// Writes that none was found in so many steps.
+/// Writes that no layout was found in so many steps.
 fn print_found_none<K: Sink>(steps: u64, sink: &mut K) -> Result<(), WriteFault>
     ensures { WritesText (passage K.held K.faults sink.old sink.new) (found_none_text steps) result }
 {
@@ -131,7 +132,7 @@ fn print_found<K: Sink>(
     write_all_of(sink, blueprint)
 }
 
-/// Writes the grids that are ruled out.
+/// Writes the grids that are ruled out, each with its certificate.
 fn print_earlier<K: Sink>(earlier: &[RuledOut], sink: &mut K) -> Result<(), WriteFault>
     ensures { WritesText (passage K.held K.faults sink.old sink.new) (earlier_text earlier.now) result }
 {
@@ -141,7 +142,7 @@ fn print_earlier<K: Sink>(earlier: &[RuledOut], sink: &mut K) -> Result<(), Writ
     Ok(())
 }
 
-/// Writes a grid that is ruled out.
+/// Writes a grid that is ruled out, with the certificate that no layout lies on it.
 fn print_ruled_out<K: Sink>(one: &RuledOut, sink: &mut K) -> Result<(), WriteFault>
     ensures { WritesText (passage K.held K.faults sink.old sink.new) (ruled_out_text one.now) result }
 {
@@ -156,7 +157,7 @@ fn print_grid<K: Sink>(grid: Rect, sink: &mut K) -> Result<(), WriteFault>
     print_rect(b"grid ", grid, sink)
 }
 
-/// Writes a line of the numbers of a grid behind a word.
+/// Writes the word, with a blank at its end, and behind it the width and the height of a grid, as a line.
 fn print_rect<K: Sink>(word: &[u8], grid: Rect, sink: &mut K) -> Result<(), WriteFault>
     ensures { WritesText (passage K.held K.faults sink.old sink.new) (rect_line word.now grid) result }
 {
@@ -167,7 +168,7 @@ fn print_rect<K: Sink>(word: &[u8], grid: Rect, sink: &mut K) -> Result<(), Writ
     write_pieces(sink, &[word, width, b"x", height, b"\n"])
 }
 
-/// Writes the grid whose log is used up, and the log.
+/// Writes the number of steps of a log that is used up, the grid of its search, and the log.
 fn print_spent<K: Sink>(grid: Rect, log: &Log, sink: &mut K) -> Result<(), WriteFault>
     ensures { WritesText (passage K.held K.faults sink.old sink.new)
         (spent_on_text grid log.now.steps) result }

@@ -15,7 +15,7 @@ pub struct Span {
     pub greatest: Cell,
 }
 
-/// The cells of the least rectangle that holds the parts.
+/// How many cells the least rectangle has that holds the parts; 0 for no parts.
 pub fn spanned(parts: &[Part]) -> u64
     requires { AreInRange parts.now }
     ensures { IsSpanned result parts.now }
@@ -33,7 +33,7 @@ pub fn spanned(parts: &[Part]) -> u64
     span.cells()
 }
 
-/// With the cells of one part more.
+/// The span with the cells of one part more.
 fn with_part(span: Span, part: &Part) -> Span
     requires part { IsInRange part.now.cell }
     requires least { IsNear span.least }
@@ -59,7 +59,7 @@ fn with_part(span: Span, part: &Part) -> Span
 }
 
 impl Span {
-    /// How many cells there are from the one to the other.
+    /// How many cells the rectangle has from the least to the greatest coordinates, both included.
     fn cells(self) -> u64
         requires least { IsNear self.least }
         requires greatest { IsNear self.greatest }

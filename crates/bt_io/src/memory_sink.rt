@@ -76,6 +76,8 @@ impl Sink for MemSink {
 
     ghost faults = { λ s. s.faults };
 
+    /// Appends the first bytes of `piece`, and gives their number, or fails where this call is listed or no room is
+    /// left.
     fn write(&mut self, piece: &[u8]) -> Result<usize, Failed>
         ensures bound { WritesAtMost result piece.now }
         ensures some { TakesSome result piece.now }

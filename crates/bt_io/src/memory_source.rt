@@ -67,6 +67,7 @@ impl Source for MemSource {
 
     ghost faults = { λ s. s.faults };
 
+    /// Copies the next bytes to the front of `buf`, and gives their number, or fails where this call is listed.
     fn read(&mut self, buf: &mut [u8]) -> Result<usize, Failed>
         ensures bound { ReadsAtMost result buf.new }
         ensures bytes { ReadConsumes (Some self.old.left) (Some self.new.left) result buf.new }

@@ -13,7 +13,8 @@ use std::alloc::Global;
 /// The most bytes that one call asks of its source.
 pub const BLOCK: usize = 65536;
 
-/// How many bytes are asked for where so many were taken: one past the limit shows that there are too many.
+/// How many bytes are asked of a source of which `taken` were taken: a block, or as many as lead one past the limit
+/// where these are fewer. The one past it shows that the source has too many.
 fn room_for(limit: usize, taken: usize) -> usize
     requires limit { limit < 2 ^ 62 }
     requires within { taken ≤ limit }
@@ -25,7 +26,7 @@ fn room_for(limit: usize, taken: usize) -> usize
 }
 
 /// Reads the next block of a source behind the bytes that were read so far, and gives whether there was one: else the
-/// source has ended. No more than `limit` bytes are read in all.
+/// source has ended. Afterwards `bytes` holds at most `limit` bytes, or one more where the answer is `TooLong`.
 ///
 /// `ReadFault` comes only where the source's count of faults rose, and `TooLong` exactly where one byte past the limit was
 /// taken. After `ReadFault` and `Memory` nothing was taken.

@@ -33,6 +33,7 @@ impl<'a> Source for SliceSource<'a> {
 
     ghost faults = { λ _. 0 };
 
+    /// Copies the next bytes to the front of `buf`, as many as it holds or as are left, and gives their number.
     fn read(&mut self, buf: &mut [u8]) -> Result<usize, Failed> {
         let count = buf.len().min(self.rest.len());
         let (piece, rest) = self.rest.split_at(count);

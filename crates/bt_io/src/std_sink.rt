@@ -59,6 +59,8 @@ impl<W: Write> Sink for StdSink<W> {
 
     ghost faults = { λ s. s.faults };
 
+    /// Writes the first bytes of `piece`, and gives their number. A fault of the writer is counted, and so is a call
+    /// that writes no byte of a nonempty piece.
     fn write(&mut self, piece: &[u8]) -> Result<usize, Failed>
         ensures bound { WritesAtMost result piece.now }
         ensures some { TakesSome result piece.now }

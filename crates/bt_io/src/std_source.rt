@@ -41,6 +41,7 @@ impl<R: Read> Source for StdSource<R> {
 
     ghost faults = { λ s. s.faults };
 
+    /// Reads from the reader into the front of `buf`, and gives the number of bytes. A fault of the reader is counted.
     fn read(&mut self, buf: &mut [u8]) -> Result<usize, Failed>
         ensures bound { ReadsAtMost result buf.new }
         ensures bytes { StreamConsumes R.remaining self.old.stream self.new.stream result buf.new }

@@ -22,7 +22,7 @@ pub struct Decimal {
     ghost below_ten: { All (λ d. d < 10) digits.items },
 }
 
-/// The whole number that the digits write, where it fits.
+/// The whole number that the digits write. None where it is above 2^64 - 1.
 fn number_of_digits(digits: &[u8]) -> Option<u64>
     ensures { IsIfFits result (number_from_digits 10 digits.now) }
 {
@@ -39,7 +39,7 @@ fn number_of_digits(digits: &[u8]) -> Option<u64>
     Some(number)
 }
 
-/// The number with that many zeros behind it, where it fits.
+/// The number with that many zeros behind it. None where that is above 2^64 - 1.
 fn with_zeros(number: u64, zeros: u64) -> Option<u64>
     ensures { IsIfFits result (number * 10 ^ zeros) }
 {
@@ -56,6 +56,7 @@ fn with_zeros(number: u64, zeros: u64) -> Option<u64>
     Some(scaled)
 }
 
+/// Whether all of the digits are 0, as they are where there are none.
 fn are_zeros(digits: &[u8]) -> bool
     ensures { IsTrue result ↔ (number_from_digits 10 digits.now ≡ 0) }
 {
@@ -81,8 +82,8 @@ fn is_half(fraction: &[u8]) -> bool
     are_zeros(&fraction[1..])
 }
 
-/// The half that the digits behind a decimal point write: none of it, or all of it. The digits
-/// are all that stand there only if `full`.
+/// Whether the digits behind a decimal point write one half, and not 0; None where they write neither. Where `full`
+/// doesn't hold, zeros stand between the point and these digits, which then write no half.
 fn half_of(fraction: &[u8], full: bool) -> Option<bool>
     requires { All (λ d. d < 10) fraction.now }
     ensures { MatchOption result
@@ -98,8 +99,8 @@ fn half_of(fraction: &[u8], full: bool) -> Option<bool>
     }
 }
 
-/// The whole part of the digits with that many of them behind a decimal point, and whether a half
-/// follows it, where twice the value is a whole number and its half fits.
+/// The whole part of the number that the digits write with `places` of them behind a decimal point, and whether a half
+/// follows it. None where twice the number isn't whole, or the whole part is above 2^64 - 1.
 fn whole_and_half(digits: &[u8], places: u64) -> Option<(u64, bool)>
     requires { All (λ d. d < 10) digits.now }
     ensures some { IfSome result (λ r. twice r * 10 ^ places ≡ 2 * number_from_digits 10 digits.now) }
@@ -117,6 +118,7 @@ fn whole_and_half(digits: &[u8], places: u64) -> Option<(u64, bool)>
     Some((number, half))
 }
 
+/// The number of this magnitude, with a minus where `negative` holds.
 fn with_sign(negative: bool, magnitude: u64) -> i32
     requires { magnitude ≤ MOST_HALVES }
     ensures { result ≡ signed negative magnitude }
@@ -128,8 +130,8 @@ fn with_sign(negative: bool, magnitude: u64) -> i32
 impl Decimal {
     ghost use Rattle.bt_json.specs.Stands.{number_of};
 
-    /// The whole part of the magnitude and whether a half follows it, where twice the magnitude is a
-    /// whole number and its half fits.
+    /// The whole part of the value's magnitude, and whether a half follows it. None where twice the magnitude isn't
+    /// whole, or the whole part is above 2^64 - 1.
     fn magnitude(&self) -> Option<(u64, bool)>
         ensures some { IfSome result (IsMagnitude (twice_digits (number_of self.now)) self.now.exponent) }
         ensures none { IfNone result (HasNoSmallValue (twice_digits (number_of self.now)) self.now.exponent) }
@@ -167,7 +169,7 @@ impl Decimal {
         Some(with_sign(self.negative, twice))
     }
 
-    /// The value. `None` exactly where it is no whole number that fits.
+    /// The value. `None` exactly where it is no whole number from 0 to 2^64 - 1.
     pub fn whole(&self) -> Option<u64>
         ensures found { IfSome result (λ n. IsTimes 1 (number_of self.now) (pos n)) }
         ensures none { IfNone result (HasNoWhole (number_of self.now)) }

@@ -23,6 +23,7 @@ pub enum Kind {
     Other,
 }
 
+/// What a byte may be between the tokens of a text, or at a token's front.
 #[tactic(auto, unfolding(crate::specs::inner::Bytes::kind_of))]
 pub fn kind_of(byte: u8) -> Kind
     ensures { result ≡ kind_of byte }
@@ -57,6 +58,7 @@ pub enum Mark {
     Over,
 }
 
+/// What a byte may be in a number.
 #[tactic(auto, unfolding(crate::specs::inner::Bytes::mark_of))]
 pub fn mark_of(byte: u8) -> Mark
     ensures mark { result ≡ mark_of byte }
@@ -85,13 +87,14 @@ pub enum Phase {
     InPower,
 }
 
+/// Whether the byte is a space, a tab, a line feed or a carriage return.
 pub fn is_blank(byte: u8) -> bool
     ensures { result ≡ is_blank byte }
 {
     matches!(byte, b' ' | b'\t' | b'\n' | b'\r')
 }
 
-/// Whether a number may end there.
+/// Whether a number may end that is written so far.
 pub fn may_end(phase: Phase) -> bool
     ensures { result ≡ may_end phase }
 {

@@ -4,8 +4,8 @@ ghost use Rattle.bt_json.specs.Longer.{ValueStays, FaultStays};
 
 use crate::limits::{MOST_EXPONENT, MOST_HALVES, MOST_LEVELS};
 
-/// What is read of a text is read of each longer text that begins with it, where the value is no number,
-/// and where the fault isn't that the text ends.
+/// The value that is read of a text is read of each longer text that begins with it, where it is no number; and so is a
+/// fault, where it isn't that the text ends.
 pub fn longer_is_read()
     ensures value { ValueStays }
     ensures fault { FaultStays }

@@ -34,7 +34,7 @@ pub enum NamesSoFar {
     Own(IndexSet<String>),
 }
 
-/// Whether that name has that place in the set.
+/// Whether the name at that place in the set is this one. False where the set has no name there.
 fn stands_next(set: &IndexSet<String>, place: usize, name: &str) -> bool
     ensures next { IsTrue result → GoesOn (keys_of set.now) place name.now }
     ensures small { IsTrue result → place + 1 < 2 ^ 64 }
@@ -43,7 +43,7 @@ fn stands_next(set: &IndexSet<String>, place: usize, name: &str) -> bool
     place < names.len() && names[place].as_str() == name
 }
 
-/// Whether both sets begin with the same names, that many.
+/// Whether the first `count` names of both sets are the same, in the same order. False where a set has fewer.
 fn begin_alike(one: &IndexSet<String>, other: &IndexSet<String>, count: usize) -> bool
     ensures { IsTrue result → front_of one.now count ≡ front_of other.now count }
 {
@@ -60,7 +60,7 @@ fn begin_alike(one: &IndexSet<String>, other: &IndexSet<String>, count: usize) -
     true
 }
 
-/// Puts the name behind the others, unless it is among them: whether it wasn't.
+/// Puts the name behind the set's others, unless it is among them, and gives whether it was put.
 fn insert(alloc: Global, set: &mut IndexSet<String>, name: &str) -> Result<bool, AllocError>
     ensures added { IfOk result (λ added. added ≡ not (has_name (keys_of set.old) name.now)) }
     ensures names { IfOk result (λ added. IsTrue added → keys_of set.new ≡ keys_of set.old ++ name.now ∷ []) }
@@ -69,7 +69,7 @@ fn insert(alloc: Global, set: &mut IndexSet<String>, name: &str) -> Result<bool,
     Ok(added)
 }
 
-/// A set of the first names, that many.
+/// A set of the first `count` names of a set, or of all of them where it has fewer.
 fn front(
     alloc: Global,
     set: &IndexSet<String>,
@@ -86,6 +86,7 @@ fn front(
 }
 
 impl KnownNames {
+    /// No sets are kept yet.
     pub fn new(alloc: Global) -> Result<KnownNames, AllocError>
         ensures { IfOk result (λ known. known.sets.items ≡ []) }
     {
@@ -96,7 +97,7 @@ impl KnownNames {
         })
     }
 
-    /// A kept set that begins with the first names of the set, that many, and then has the name.
+    /// A kept set whose first `count` names are those of `set`, and whose next one is `name`. None where none is kept.
     fn that_goes_on(
         &self,
         set: &IndexSet<String>,
@@ -115,7 +116,7 @@ impl KnownNames {
         None
     }
 
-    /// A kept set of the first names of the set, that many.
+    /// A kept set of just the first `count` names of `set`. None where none is kept.
     fn that_ends(&self, set: &IndexSet<String>, count: usize) -> Option<&Rc<IndexSet<String>>>
         ensures { IfSome result (λ other. keys_of other.now.value ≡ front_of set.now count) }
     {
@@ -127,7 +128,8 @@ impl KnownNames {
         None
     }
 
-    /// The set, which is kept unless it is large.
+    /// The set, to be shared. It is kept unless it has more than `NAMES` names: where `SETS` sets are kept already, in
+    /// the place of the oldest.
     fn keep(
         &mut self,
         alloc: Global,
@@ -159,7 +161,8 @@ impl KnownNames {
 }
 
 impl NamesSoFar {
-    /// Puts the name behind the others, unless it is among them: whether it wasn't.
+    /// Puts the name behind the others, unless it is among them, and gives whether it was put. As long as a kept set
+    /// has the same names in the same order, that set serves; else the object gets one of its own.
     pub fn push(
         &mut self,
         alloc: Global,
@@ -198,7 +201,8 @@ impl NamesSoFar {
         }
     }
 
-    /// The set of the names.
+    /// The set of the names: a kept one that has just these in this order, or a new one, which is kept unless it is
+    /// large.
     pub fn finish(
         self,
         alloc: Global,

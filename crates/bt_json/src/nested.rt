@@ -24,7 +24,8 @@ pub enum Ahead {
     End(usize),
 }
 
-/// What comes behind an opening bracket, where that byte closes.
+/// What comes behind an opening bracket: the end, where the byte `closing` is the first that is no blank, or else an
+/// item, whatever stands there.
 fn first_ahead(bytes: &[u8], start: usize, closing: u8) -> Ahead
     requires { start ≤ length bytes.now }
     ensures { ComesFirst bytes.now start closing result }
@@ -37,7 +38,8 @@ fn first_ahead(bytes: &[u8], start: usize, closing: u8) -> Ahead
     }
 }
 
-/// What comes behind a value, where that byte closes.
+/// What comes behind a value: the end, where the byte `closing` is the first that is no blank, or an item behind a
+/// comma. Another byte is a fault.
 fn next_ahead(bytes: &[u8], start: usize, closing: u8) -> Result<Ahead, JsonFault>
     requires { start ≤ length bytes.now }
     ensures read { ComesNext bytes.now start closing result }
@@ -51,8 +53,8 @@ fn next_ahead(bytes: &[u8], start: usize, closing: u8) -> Result<Ahead, JsonFaul
     Ok(Ahead::Item(at + 1))
 }
 
-/// A name behind its opening quote, put behind the names before unless it is among them. Whether it
-/// wasn't, and the place behind its closing quote.
+/// Reads a name whose opening quote stands before `start`, and puts it behind the names before, unless it is among
+/// them. Gives whether it was put, and the place behind its closing quote.
 fn take_name(
     alloc: Global,
     bytes: &[u8],
@@ -75,7 +77,8 @@ fn take_name(
     Ok((added, end))
 }
 
-/// A name and the colon behind it, put behind the names before. The place behind the colon.
+/// Reads a name and the colon behind it, puts the name behind those before, and gives the place behind the colon. A
+/// name that the object has already is a fault.
 fn read_name(
     alloc: Global,
     bytes: &[u8],
@@ -98,7 +101,7 @@ fn read_name(
     Ok(colon + 1)
 }
 
-/// Makes room for as many values as there are likely to be, where there is none yet.
+/// Makes room for as many values as the object is likely to have names, where there is no room yet.
 fn make_room(values: &mut Vec<Tree>, names: &NamesSoFar) -> Result<(), AllocError>
     ensures { OnOk result (values.new.items ≡ values.old.items) }
 {
@@ -119,8 +122,8 @@ pub struct Nested {
 impl Nested {
     ghost use Rattle.bt_json.specs.inner.Nested.{frame_of, IsFilled, IsNamed, Begins, ReadsName, Pushes};
 
-    /// The list or the object that a byte of that kind opens at a place, within that many others.
-    /// `None` where such a byte opens none.
+    /// The list or the object that a byte of that kind opens at a place, within that many others. `None` where such a
+    /// byte opens none. The 65th level is a fault.
     pub fn begun(
         alloc: Global,
         kind: Kind,
@@ -142,6 +145,7 @@ impl Nested {
         Ok(Some(Nested { names, values }))
     }
 
+    /// The byte that closes the list or the object.
     fn closing(&self) -> u8
         ensures { result ≡ closing_of (frame_of self.now) }
     {
@@ -151,7 +155,7 @@ impl Nested {
         }
     }
 
-    /// What comes behind its opening bracket.
+    /// What comes behind its opening bracket, which stands before `start`: a value or its name, or its end.
     pub fn first(&self, bytes: &[u8], start: usize) -> Ahead
         requires { start ≤ length bytes.now }
         ensures { ComesFirst bytes.now start (closing_of (frame_of self.now)) result }
@@ -159,7 +163,8 @@ impl Nested {
         first_ahead(bytes, start, self.closing())
     }
 
-    /// The place where a value is due: in an object that is behind its name and the colon.
+    /// Reads in an object the name of the next value and the colon, and gives the place behind them, where the value is
+    /// due. In a list a value has no name, and that place is `start`.
     pub fn read_name(
         &mut self,
         alloc: Global,

@@ -42,6 +42,7 @@ impl Numeral {
     ghost use Rattle.bt_json.specs.declared.fault.JsonFault.TheVariants.{Memory};
     ghost use Rattle.bt_json.specs.declared.kind.Phase.TheVariants.{BeforeWhole};
 
+    /// Adds a digit of the whole part.
     fn push_digit(&mut self, digit: u8) -> Result<(), AllocError>
         requires { digit < 10 }
         ensures ok { OnOk result (view self.new ≡ with_whole (view self.old) digit) }
@@ -50,6 +51,7 @@ impl Numeral {
         Ok(())
     }
 
+    /// Adds a digit of the fraction.
     fn push_fraction(&mut self, digit: u8) -> Result<(), AllocError>
         requires { digit < 10 }
         ensures ok { OnOk result (view self.new ≡ with_fraction (view self.old) digit) }
@@ -60,6 +62,7 @@ impl Numeral {
         Ok(())
     }
 
+    /// Adds a digit to the exponent, which is kept at `MOST_EXPONENT` at most.
     fn push_power(&mut self, digit: u8)
         requires { digit < 10 }
         ensures { view self.new ≡ with_power (view self.old) digit }
@@ -71,6 +74,8 @@ impl Numeral {
         };
     }
 
+    /// Adds a digit to the part of the number that is being written, and gives how it goes on. Behind a leading 0 no
+    /// digit can stand.
     fn take_digit(&mut self, phase: Phase, digit: u8) -> Result<Next, AllocError>
         requires { digit < 10 }
         ensures { IfOk result (λ next. shown next (view self.new) ≡ step_digit phase (view self.old) digit) }
@@ -96,6 +101,8 @@ impl Numeral {
         }
     }
 
+    /// Takes the next byte of a number that is written so far, and gives how it goes on. A byte that goes on no number
+    /// ends it, where it may end.
     fn step(&mut self, phase: Phase, byte: u8) -> Result<Next, AllocError>
         ensures { IfOk result (TakesByte phase self.old byte self.new) }
     {
@@ -121,6 +128,8 @@ impl Numeral {
         }
     }
 
+    /// Takes the exponent's sign, a minus where `below` holds, and gives how the number goes on. Elsewhere than behind
+    /// the letter e no sign can stand.
     fn take_sign(&mut self, phase: Phase, below: bool) -> Next
         ensures { shown result (view self.new) ≡ step_sign below phase (view self.old) }
     {
@@ -133,7 +142,8 @@ impl Numeral {
         }
     }
 
-    /// A fraction of more digits than that fits no memory.
+    /// The number, once it has ended. A fraction of more digits than `MOST_EXPONENT` fits no memory, and is told as
+    /// want of memory.
     fn into_decimal(self) -> Result<Decimal, JsonFault>
         ensures ok { IfOk result (λ d. number_of d ≡ numeral_value (view self)) }
         ensures err { IfErr result (λ f. f ≡ Memory) }
@@ -157,7 +167,8 @@ impl Numeral {
         })
     }
 
-    /// Takes the rest of a number: the place after it.
+    /// Takes the rest of a number that is written so far, and gives the place after it. A byte that can't stand there
+    /// is a fault, and so is the end of the bytes where the number may not end.
     fn take_rest(&mut self, phase: Phase, bytes: &[u8], start: usize) -> Result<usize, JsonFault>
         requires { start ≤ length bytes.now }
         ensures { TakesRest bytes.now start phase (view self.old) (view self.new) result }
@@ -180,6 +191,7 @@ impl Numeral {
         Ok(at)
     }
 
+    /// A number of which at most the sign is written.
     fn new(alloc: Global, negative: bool) -> Self
         ensures { view result ≡ numeral negative [] }
     {

@@ -22,7 +22,7 @@ use crate::text::Unescaped;
 use crate::tree::Tree;
 use std::alloc::Global;
 
-/// The first place from there on that has no blank, and what its byte may begin.
+/// The first place from `start` on that has no blank, and what its byte may begin. The end of the bytes is a fault.
 fn find_token(bytes: &[u8], start: usize) -> Result<(usize, Kind), JsonFault>
     requires { start ≤ length bytes.now }
     ensures read { FindsToken bytes.now start result }
@@ -60,7 +60,8 @@ fn read_number(
     Ok((Tree::Num(decimal), end))
 }
 
-/// The word of which these letters are the rest, as this truth value, and the place behind it.
+/// The truth value whose word has these letters behind its first one, and the place behind the word. Other letters at
+/// `start` are a fault.
 fn read_bool(
     bytes: &[u8],
     start: usize,
@@ -76,7 +77,8 @@ fn read_bool(
     Ok((Tree::Bool(value), end))
 }
 
-/// The word of which these letters are the rest, as null, and the place behind it.
+/// Null, whose word has these letters behind its first one, and the place behind the word. Other letters at `start` are
+/// a fault.
 fn read_null(bytes: &[u8], start: usize, letters: &[u8]) -> Result<(Tree, usize), JsonFault>
     requires within { start ≤ length bytes.now }
     requires some { 0 < length letters.now }
@@ -87,7 +89,8 @@ fn read_null(bytes: &[u8], start: usize, letters: &[u8]) -> Result<(Tree, usize)
     Ok((Tree::Null, end))
 }
 
-/// A value that is no list and no object, at a byte of that kind, and the place behind it.
+/// The text, the number, the truth value or the null that a byte of this kind begins at `start`, and the place behind
+/// it. A byte that begins none is a fault.
 fn read_leaf(
     alloc: Global,
     bytes: &[u8],
@@ -131,7 +134,8 @@ fn read_value(
     }
 }
 
-/// The rest of a list or an object behind its opening bracket, within that many others.
+/// Reads the rest of a list or an object behind its opening bracket, within that many others, and gives it with the
+/// place behind its closing bracket.
 #[cycle(reading)]
 fn read_nested(
     alloc: Global,
@@ -154,7 +158,8 @@ fn read_nested(
     Ok((tree, end))
 }
 
-/// Reads the values of a list or an object up to the closing bracket: the place behind that.
+/// Reads the values of a list or an object, within that many others, up to the closing bracket, and gives the place
+/// behind that.
 #[cycle(reading)]
 fn fill(
     alloc: Global,

@@ -9,7 +9,7 @@ ghost use Rattle.bt_json.specs.declared.fault.JsonFault.TheVariants.{Json as Jso
 use crate::fault::JsonFault;
 use crate::kind::is_blank;
 
-/// The first place from there on that has no blank.
+/// The first place from `start` on that has no blank, which is the end of the bytes where only blanks follow.
 pub fn skip_blanks(bytes: &[u8], start: usize) -> usize
     requires { start ≤ length bytes.now }
     ensures later { IsLater bytes.now start result }
@@ -23,7 +23,8 @@ pub fn skip_blanks(bytes: &[u8], start: usize) -> usize
     at
 }
 
-/// The place behind these letters, the rest of a word.
+/// The place behind these letters, which are the rest of a word from `start` on. Another byte, or the end of the bytes,
+/// is a fault.
 pub fn skip_word(bytes: &[u8], start: usize, letters: &[u8]) -> Result<usize, JsonFault>
     requires within { start ≤ length bytes.now }
     requires some { 0 < length letters.now }
@@ -39,7 +40,7 @@ pub fn skip_word(bytes: &[u8], start: usize, letters: &[u8]) -> Result<usize, Js
     Ok(at)
 }
 
-/// That this byte stands there.
+/// Checks that this byte stands at a place. Where another does, or the bytes end, the place is told as a fault.
 pub fn expect_byte(bytes: &[u8], at: usize, byte: u8) -> Result<(), JsonFault>
     ensures ok { OnOk result (HasByte bytes.now at byte) }
     ensures err { IfErr result (λ f. (f ≡ JsonAt at) × LacksByte bytes.now at byte) }
@@ -53,7 +54,7 @@ pub fn expect_byte(bytes: &[u8], at: usize, byte: u8) -> Result<(), JsonFault>
     Ok(())
 }
 
-/// Whether this byte stands there.
+/// Whether this byte stands at a place; false behind the end of the bytes.
 pub fn stands_at(bytes: &[u8], at: usize, byte: u8) -> bool
     ensures yes { IsTrue result → HasByte bytes.now at byte }
     ensures no { result ≡ false → LacksByte bytes.now at byte }

@@ -24,7 +24,7 @@ struct Tail {
     more: u8,
 }
 
-/// What may follow the first byte of a character of several bytes.
+/// What may follow the first byte of a character of several bytes. None where the byte begins none.
 #[tactic(auto, unfolding(crate::specs::inner::Reading::lead_of))]
 fn tail_of(byte: u8) -> Option<Tail>
     ensures { option_map place_of result ≡ lead_of byte }
@@ -42,7 +42,8 @@ fn tail_of(byte: u8) -> Option<Tail>
     Some(Tail { low, top, more })
 }
 
-/// The code that a backslash and a byte stand for.
+/// The code of the character that a backslash and this byte stand for. None where they stand for none, or for more
+/// bytes.
 fn short_escape(byte: u8) -> Option<u16>
     ensures { result ≡ short_escape byte }
 {
@@ -57,7 +58,7 @@ fn short_escape(byte: u8) -> Option<u16>
     }
 }
 
-/// The character of sixteen bits that are in no pair.
+/// The character of sixteen bits that are in no surrogate pair: U+FFFD, the replacement, where they are a surrogate.
 fn alone(unit: u16) -> char
     ensures { encode_utf8 result ≡ alone unit }
 {
@@ -67,12 +68,14 @@ fn alone(unit: u16) -> char
     char::from_u32(u32::from(unit)).unwrap_or('\u{FFFD}')
 }
 
+/// Whether sixteen bits are a high surrogate.
 fn is_high(unit: u16) -> bool
     ensures { result ≡ is_high_surrogate unit }
 {
     (0xD800..0xDC00).contains(&unit)
 }
 
+/// Whether sixteen bits are a low surrogate.
 fn is_low(unit: u16) -> bool
     ensures { result ≡ is_low_surrogate unit }
 {
@@ -100,7 +103,7 @@ pub struct Unescaped {
 impl Unescaped {
     ghost use Rattle.bt_json.specs.inner.Unescaping.{HasText, flushed_text, shown_text, plus_unit};
 
-    /// The high surrogate stays alone.
+    /// Adds the high surrogate that waits, where one does, as one that is in no pair.
     fn flush(&mut self) -> Result<(), AllocError>
         ensures { OnOk result (HasText self.new (flushed_text self.old)) }
     {
@@ -111,6 +114,7 @@ impl Unescaped {
         Ok(())
     }
 
+    /// Adds the sixteen bits that an escape writes. A high surrogate waits; a low one behind it makes a pair with it.
     fn push_unit(&mut self, unit: u16) -> Result<(), AllocError>
         ensures { OnOk result (shown_text self.new ≡ plus_unit self.old unit) }
     {
@@ -131,7 +135,7 @@ impl Unescaped {
         Ok(())
     }
 
-    /// Characters that stand for themselves.
+    /// Adds characters that stand for themselves.
     fn push_plain(&mut self, plain: &[u8]) -> Result<(), AllocError>
         requires { IsUtf8 plain.now }
         ensures { OnOk result (HasText self.new (flushed_text self.old ++ plain.now)) }
@@ -144,7 +148,7 @@ impl Unescaped {
     }
 }
 
-/// The value of a hexadecimal digit.
+/// The value of a hexadecimal digit. None where the byte is none.
 fn hex_digit(byte: u8) -> Option<u16>
     ensures { MatchOption result (is_digit byte 16 ≡ false) (IsHexDigit byte) }
 {
@@ -154,7 +158,8 @@ fn hex_digit(byte: u8) -> Option<u16>
     Some(digit as u16)
 }
 
-/// The sixteen bits that four hexadecimal digits write.
+/// The sixteen bits that four hexadecimal digits from `start` on write. Another byte, or the end of the bytes, is a
+/// fault.
 fn read_hex(bytes: &[u8], start: usize) -> Result<u16, JsonFault>
     requires { start ≤ length bytes.now }
     ensures within { OnOk result (start + 4 ≤ length bytes.now) }
@@ -175,7 +180,8 @@ fn read_hex(bytes: &[u8], start: usize) -> Result<u16, JsonFault>
     Ok(unit)
 }
 
-/// That a byte of this range stands there.
+/// Checks that a byte from `low` to `top`, each included, stands at a place. Where another does, or the bytes end, the
+/// place is told as a fault.
 fn check_byte(bytes: &[u8], at: usize, low: u8, top: u8) -> Result<(), JsonFault>
     ensures ok { OnOk result (HasByteIn bytes.now at low top) }
     ensures err { IfErr result (λ f. (f ≡ Json at) × LacksByteIn bytes.now at low top) }
@@ -189,7 +195,7 @@ fn check_byte(bytes: &[u8], at: usize, low: u8, top: u8) -> Result<(), JsonFault
     Ok(())
 }
 
-/// The place behind the character of several bytes at a place.
+/// The place behind the character of several bytes at a place. The first byte that is not UTF-8 is a fault.
 fn character_end(bytes: &[u8], start: usize) -> Result<usize, JsonFault>
     requires within { start < length bytes.now }
     requires wide { 128 ≤ slice_index bytes.now start }
@@ -213,14 +219,15 @@ fn character_end(bytes: &[u8], start: usize) -> Result<usize, JsonFault>
     Ok(start + 4)
 }
 
-/// Whether the byte is a character that stands for itself.
+/// Whether the byte is a character that stands for itself: of ASCII, and no control character below 0x20, quote or
+/// backslash.
 fn is_plain(byte: u8) -> bool
     ensures { result ≡ is_plain byte }
 {
     (0x20..0x80).contains(&byte) && byte != b'"' && byte != b'\\'
 }
 
-/// The first place from there on that has no character of one byte which stands for itself.
+/// The first place from `start` on that has no character of one byte which stands for itself.
 fn plain_end(bytes: &[u8], start: usize) -> usize
     requires { start ≤ length bytes.now }
     ensures later { IsLater bytes.now start result }
@@ -235,8 +242,8 @@ fn plain_end(bytes: &[u8], start: usize) -> usize
     at
 }
 
-/// The place of the closing quote of the text behind an opening quote, where each character is of
-/// one byte and stands for itself.
+/// The place of the closing quote of the text behind an opening quote, where each character is of one byte and stands
+/// for itself; else None.
 pub fn plain_text(bytes: &[u8], start: usize) -> Option<usize>
     requires { start ≤ length bytes.now }
     ensures later { IfSome result (λ n. (start ≤ n) × (n < length bytes.now)) }
@@ -254,7 +261,7 @@ pub fn plain_text(bytes: &[u8], start: usize) -> Option<usize>
 impl Unescaped {
     ghost use Rattle.bt_json.specs.inner.Unescaping.{state_of, LeadsTo, HasText, flushed_text};
 
-    /// The characters of one byte from a place on, and the place behind them.
+    /// Adds the characters of one byte that stand for themselves from a place on, and gives the place behind them.
     fn read_plain(&mut self, bytes: &[u8], start: usize) -> Result<usize, JsonFault>
         requires { start ≤ length bytes.now }
         ensures later { IfOk result (λ n. IsLater bytes.now start n) }
@@ -269,7 +276,7 @@ impl Unescaped {
         Ok(end)
     }
 
-    /// The character of several bytes at a place, and the place behind it.
+    /// Adds the character of several bytes at a place, and gives the place behind it.
     fn read_wide(&mut self, bytes: &[u8], start: usize) -> Result<usize, JsonFault>
         requires within { start < length bytes.now }
         requires wide { 128 ≤ slice_index bytes.now start }
@@ -282,7 +289,7 @@ impl Unescaped {
         Ok(end)
     }
 
-    /// The escape behind a backslash, and the place behind it.
+    /// Adds what the escape behind a backslash stands for, and gives the place behind it.
     fn read_escape(&mut self, bytes: &[u8], start: usize) -> Result<usize, JsonFault>
         requires { start ≤ length bytes.now }
         ensures later { IfOk result (λ n. (start < n) × (n ≤ length bytes.now)) }
@@ -304,7 +311,8 @@ impl Unescaped {
         Ok(start + 1)
     }
 
-    /// The escape or the character of several bytes at a place, and the place behind it.
+    /// Adds the escape or the character of several bytes at a place, and gives the place behind it. A control character
+    /// below 0x20 is a fault.
     fn read_special(&mut self, bytes: &[u8], start: usize) -> Result<usize, JsonFault>
         requires within { start < length bytes.now }
         requires special { is_plain (slice_index bytes.now start) ≡ false }
@@ -322,6 +330,7 @@ impl Unescaped {
         self.read_wide(bytes, start)
     }
 
+    /// An empty text, of which nothing waits.
     fn new(alloc: Global) -> Self
         ensures { HasText result [] }
     {
@@ -331,6 +340,7 @@ impl Unescaped {
         }
     }
 
+    /// The text, once it has ended: a high surrogate that still waits is in no pair.
     fn into_string(mut self) -> Result<String, AllocError>
         ensures { IfOk result (λ s. string_bytes s ≡ flushed_text self) }
     {

@@ -25,6 +25,7 @@ pub enum Tree {
     },
 }
 
+/// The value at a place. None where there are fewer.
 fn nth(values: &[Tree], place: usize) -> Option<&Tree>
     ensures { option_copied result ≡ slice_get values.now place }
 {
@@ -35,6 +36,7 @@ fn nth(values: &[Tree], place: usize) -> Option<&Tree>
     }
 }
 
+/// The value at the name's place among the names. None where the name is not among them.
 fn value_at_name<'a>(names: &IndexSet<String>, values: &'a [Tree], name: &str) -> Option<&'a Tree>
     ensures { option_map json_of (option_copied result)
         ≡ value_at (members_of (map string_bytes names.now.keys) (map json_of values.now)) name.now }

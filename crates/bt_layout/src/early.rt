@@ -18,10 +18,10 @@ use std::alloc::{AllocError, Global};
 /// The most steps of a search of a request in whose rectangle a layout is likely.
 const LIKELY_STEPS: u64 = 8192;
 
-/// After so many steps the least layout is made smaller.
+/// Each time that the searches have taken so many more steps, the least layout is made smaller once.
 const RUN_STEPS: u64 = 5_000;
 
-/// It is for about as long as so many conflicts of a light search take.
+/// To make it smaller once takes about as long as so many conflicts of a light search.
 const RUN_EFFORT: u64 = 40_000;
 
 /// The most steps of a search in the first round. Each later round has twice as many as the one before it.
@@ -30,8 +30,8 @@ const FIRST_STEPS: u64 = 128;
 /// How many rounds there are at most: in the last one a search may take more steps than a log may have.
 const ROUNDS: u32 = 24;
 
-/// Looks for a layout of one of the requests, with so many steps of all searches together. Each layout that is
-/// found lets it go on to the requests before that one, where an earlier request is the better one.
+/// Looks for a layout of one of the requests, with at most `learnt` steps of all searches together. An earlier request
+/// is the better one, so once a layout is found only the requests before that one are looked at.
 ///
 /// First come rounds in which layouts are looked for that are likely. Finding one takes few steps or very many, so a
 /// request of which none is found at once is passed, and one further to the front may be laid before it. At last all
@@ -44,8 +44,9 @@ pub fn lay_early(alloc: Global, requests: &[Request], learnt: u64) -> Result<Ear
     Ok(told(progress))
 }
 
-/// With rounds of searches for layouts that are likely: at first by sketches; then of those requests in whose
-/// rectangles a layout is likely, and then of all.
+/// The progress after rounds of searches for layouts that are likely: at first by sketches; then of those requests in
+/// whose rectangles a layout is likely; and then of all, each round with twice as many steps for a search as the one
+/// before it.
 fn after_rounds(
     alloc: Global,
     requests: &[Request],
@@ -65,7 +66,7 @@ fn after_rounds(
     Ok(sweep.progress)
 }
 
-/// An index that is at most so great.
+/// The index, or `most` where it is greater.
 fn within(at: usize, most: usize) -> usize
     ensures less { result ≤ at }
     ensures most { result ≤ most }
@@ -73,7 +74,8 @@ fn within(at: usize, most: usize) -> usize
     if at < most { at } else { most }
 }
 
-/// With a search of the request whose place is at this index, and then with smaller layouts where they are due.
+/// The sweep after a search of the request whose place is at this index, and after the least layout is made smaller as
+/// often as is due.
 fn after_turn(
     alloc: Global,
     requests: &[Request],
@@ -90,7 +92,8 @@ fn after_turn(
     after_runs(alloc, requests, learnt, searched)
 }
 
-/// With the least layout made smaller as often as it is due after so many steps.
+/// The sweep after the least layout is made smaller as often as is due: once for each `RUN_STEPS` steps of all
+/// searches.
 fn after_runs(
     alloc: Global,
     requests: &[Request],
@@ -108,7 +111,7 @@ fn after_runs(
     Ok(Sweep { runs, ..sweep })
 }
 
-/// The layout that was found.
+/// The layout that was found, with its place; None where none was.
 fn least_of(progress: &Progress) -> Option<Least> {
     match &progress.found {
         Some(laid) => Some(Least {
@@ -119,7 +122,8 @@ fn least_of(progress: &Progress) -> Option<Least> {
     }
 }
 
-/// With the layout that was found made smaller.
+/// The sweep after the layout that was found, or a plan where none was, is made smaller once; as it was where that
+/// shows no layout. Each number begins another search.
 fn after_lesser(
     alloc: Global,
     requests: &[Request],
@@ -137,7 +141,8 @@ fn after_lesser(
     }
 }
 
-/// With a smaller layout, where a request has its rectangle.
+/// The sweep after a smaller layout is tried for the request that has its rectangle. Where none has that may still be
+/// laid, the sweep stays as it was.
 fn after_shrunk(
     alloc: Global,
     requests: &[Request],
@@ -156,7 +161,7 @@ fn after_shrunk(
     }
 }
 
-/// The index of the place of a request with this rectangle.
+/// The index among the places of the first one whose request has this rectangle. None where none has.
 fn index_with(requests: &[Request], places: &[usize], rect: Rect) -> Option<usize> {
     for (at, place) in places.iter().enumerate() {
         if requests.get(*place)?.rect() == rect {
@@ -166,7 +171,8 @@ fn index_with(requests: &[Request], places: &[usize], rect: Rect) -> Option<usiz
     None
 }
 
-/// With a search of each request in whose rectangle a layout is likely.
+/// The sweep after a search of each request in whose rectangle a layout is likely, from the last one to the first, as
+/// long as steps are left.
 fn after_likely(
     alloc: Global,
     requests: &[Request],
@@ -186,7 +192,8 @@ fn after_likely(
     Ok(sweep)
 }
 
-/// With a search of the request whose place is at this index, where a layout is likely in its rectangle.
+/// The sweep after a search of the request whose place is at this index, where a layout is likely in its rectangle;
+/// else the sweep as it was.
 fn looked_where_likely(
     alloc: Global,
     requests: &[Request],
@@ -207,7 +214,8 @@ fn looked_where_likely(
     }
 }
 
-/// One round, in which layouts are looked for by these means.
+/// The sweep after one round, in which layouts of the requests are looked for by these means, from the last one to the
+/// first, until no steps are left, or as many were passed since a layout was found as these means allow.
 fn after_round(
     alloc: Global,
     requests: &[Request],

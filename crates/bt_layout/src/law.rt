@@ -24,8 +24,8 @@ pub fn laid_is_read_back()
     ensures { LaidIsReadBack }
 {}
 
-/// No parts lay the request on a grid before the one that a search names, or on any where it names none, but on those
-/// that the search passes by.
+/// No parts lay the request on a grid before the one that `smallest` names, or on any where it names none, but for the
+/// grids before `first`, which it passes by.
 pub fn passed_has_no_layout()
     ensures { PassedHasNoLayout }
 {}

@@ -14,9 +14,10 @@ use bt_model::Request;
 use bt_parts::Rect;
 use std::alloc::{AllocError, Global};
 
-/// Searches for the least grid, of at most as many cells each way as the request's rectangle and from the first on
-/// where one is named, on which parts lay the request, with a log of at most so many steps for each grid by itself. The
-/// request names no cells, and its rectangle has at most `MOST_CELLS` cells.
+/// Searches for the least grid on which parts lay the request. Tried are the grids of at most as many cells each way as
+/// its rectangle, from `first` on where one is named, each with a log of at most `learnt` steps. It ends at the first
+/// grid that is laid or whose search is spent. The request names no cells, and its rectangle has at most `MOST_CELLS`
+/// cells.
 pub fn smallest(
     alloc: Global,
     first: Option<Rect>,
@@ -46,7 +47,8 @@ pub fn smallest(
     Ok(Smallest::Nowhere(earlier))
 }
 
-/// Searches for parts that lay the request on this grid. The chooser fills the grid from one corner.
+/// Searches for parts that lay the request on this grid, with a log of at most `learnt` steps. The chooser fills the
+/// grid from one corner.
 fn layout_on(
     alloc: Global,
     request: &Request,

@@ -43,7 +43,7 @@ fn narrowed(alloc: Global, request: &Request, numbers: &Numbers) -> Result<Formu
     Ok(formula)
 }
 
-/// What a search with this answer comes to.
+/// What a search with this answer comes to: a model of the formula is decoded to parts.
 fn trial_of(alloc: Global, request: &Request, answer: Answer) -> Result<Trial, AllocError>
     requires { Solves request.now answer }
     ensures { IfOk result (IsTrial request.now) }
@@ -68,7 +68,8 @@ pub fn planned(
     Solver::by_plan(alloc, formula, choosers, steps, plan)
 }
 
-/// The search of an attempt.
+/// The search of an attempt: of the placement formula with more clauses, by the attempt's plan and with at most its
+/// steps.
 pub fn solver_of(
     alloc: Global,
     request: &Request,
@@ -82,7 +83,7 @@ pub fn solver_of(
     planned(alloc, formula, plan, attempt.steps)
 }
 
-/// What a search comes to, and the steps that it takes, of those that it may take.
+/// Runs a search to its end, and gives what it comes to and how many steps its log has.
 pub fn trial_by(
     alloc: Global,
     request: &Request,

@@ -1,4 +1,5 @@
-//! What the splitters of a layout are to prefer.
+//! What the splitters of a layout are to prefer. Names tell which part is which splitter, input and output of the
+//! network.
 ghost use Rattle.std.specs.Prelude.{◌≡◌, IfOk, IfSome, None, false};
 ghost use Rattle.bt_net.specs.Network.{give_of, take_of};
 ghost use Rattle.bt_model.specs.Laying.{Lays, LaysPreferring};
@@ -16,8 +17,8 @@ use bt_parts::{Part, Priority, Rect};
 use hint_layouts::name_parts;
 use std::alloc::{AllocError, Global};
 
-/// The priorities with which parts that lay a request but for what its splitters prefer lay it with that too: those of
-/// the parts in their order, or none where no splitter prefers anything. There are some for all such parts.
+/// The priorities by which parts that lay a request lay it also in what its network's splitters prefer: one for each
+/// part, in their order, or none where no splitter prefers anything. There always are some.
 ///
 /// # Errors
 ///
@@ -38,8 +39,8 @@ pub fn priorities_of(
     priorities_by(alloc, parts, &names, request)
 }
 
-/// The priorities with which parts that lay a request on another grid than its own, but for what its splitters prefer,
-/// lay it with that too: those of the parts in their order, or none where no splitter prefers anything.
+/// The priorities by which parts that lay a request on this grid, in place of its own rectangle, lay it also in what
+/// its network's splitters prefer: one for each part, in their order, or none where no splitter prefers anything.
 ///
 /// # Errors
 ///
@@ -61,7 +62,7 @@ pub fn priorities_on(
     priorities_of(alloc, &again, parts)
 }
 
-/// The names that a hint proposes, where parts lay the request by them.
+/// The names that a hint proposes, where parts lay the request by them; else None.
 fn proposed(alloc: Global, request: &Request, parts: &[Part]) -> Result<Option<Names>, AllocError>
     ensures { IfOk result (λ found. IfSome found (λ names. LaysBy parts.now (naming_of names) request.now)) }
 {

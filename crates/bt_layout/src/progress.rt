@@ -25,7 +25,7 @@ pub struct Progress {
     pub steps: u64,
 }
 
-/// At the beginning nothing was found.
+/// The progress at the beginning: nothing was found, and no step was taken.
 pub fn first_progress() -> Progress
     ensures { (requests : List LayoutRequest) (learnt : ℕ) → IsProgress requests learnt result }
 {
@@ -45,7 +45,7 @@ pub fn lesser(progress: &Progress, count: usize) -> usize
     }
 }
 
-/// With a layout of a request that is lesser than the one that was laid, as so many more steps found.
+/// The progress after so many more steps, which found a layout of a request that is lesser than the one that was laid.
 pub fn with_layout(progress: Progress, laid: Laid, steps: u64) -> Progress
     requires lesser { IfSome progress.found (λ other. laid.place < other.place) }
     ensures progress { (requests : List LayoutRequest) (learnt : ℕ) → IsProgress requests learnt progress
@@ -59,7 +59,7 @@ pub fn with_layout(progress: Progress, laid: Laid, steps: u64) -> Progress
     }
 }
 
-/// After so many more steps, which found nothing.
+/// The progress after so many more steps, which found nothing.
 pub fn with_steps(progress: Progress, steps: u64) -> Progress
     ensures progress { (requests : List LayoutRequest) (learnt : ℕ) → IsProgress requests learnt progress
         → ArePaid learnt progress.steps steps → IsProgress requests learnt result }

@@ -69,7 +69,7 @@ pub fn layout<C: Chooser>(
     }
 }
 
-/// What hints propose for a request without a formula, where that lays it.
+/// What hints propose for a request without a formula, where that lays it; else None.
 fn proposed(alloc: Global, request: &Request, learnt: u64) -> Result<Option<Layout>, AllocError>
     requires { HasFormula request.now → ⊥ }
     ensures { IfOk result (λ answer.
@@ -100,7 +100,7 @@ pub fn search<C: Chooser>(
     sought_layout(alloc, request, learnt, choosers)
 }
 
-/// What few steps show of a small placement formula: a layout, or that there is none.
+/// What few steps show of a small placement formula: a layout, or that there is none. None where they show neither.
 fn soon_shown(alloc: Global, request: &Request, learnt: u64) -> Result<Option<Layout>, AllocError>
     ensures { IfOk result (λ shown. IfSome shown (IsSought request.now learnt)) }
 {
@@ -122,7 +122,8 @@ fn is_small(request: &Request) -> bool
     cells.saturating_mul(items) <= SMALL
 }
 
-/// A layout of a request, or that there is none: it is looked for before the whole formula is searched.
+/// Looks for a layout of a request where one is likely, and where none is found, searches the whole placement formula,
+/// which may also show that there is none.
 fn sought_layout<C: Chooser>(
     alloc: Global,
     request: &Request,
@@ -181,8 +182,8 @@ fn searched_of(
 }
 
 /// A layout of a request that is laid stage by stage, or by a router where ends are to stand in a row, that a sketch
-/// shows, or that is found where one is likely. What has stages is told at once, and so are mostly ends in a row; a
-/// search finds such layouts in small rectangles alone.
+/// shows, or that is found where one is likely; None where there is none of these. What has stages is told at once, and
+/// so are mostly ends in a row; a search finds such layouts in small rectangles alone.
 fn early_layout(
     alloc: Global,
     request: &Request,
@@ -197,7 +198,8 @@ fn early_layout(
     }
 }
 
-/// A layout of a request that a sketch shows or that is found where one is likely.
+/// A layout of a request that a sketch shows or that is found where one is likely. None where none is found, and of a
+/// request whose rectangle is too tight for one to be likely.
 fn sketched_layout(
     alloc: Global,
     request: &Request,
@@ -215,7 +217,7 @@ fn sketched_layout(
     }
 }
 
-/// What a search with this answer and these steps comes to.
+/// What a search with this answer and this log comes to.
 fn layout_of(
     alloc: Global,
     request: &Request,

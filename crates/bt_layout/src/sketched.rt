@@ -1,5 +1,6 @@
 //! Layouts that sketches show: the parts of a sketch lay the request, or the placement formula is searched with these
-//! parts chosen first.
+//! parts chosen first. A sketch is a plan of a layout that a hint makes, which may be wrong; a window is a rectangle in
+//! a corner of that of the request, in which a layout is likely.
 ghost use Rattle.std.specs.Prelude.{IfOk, IfSome};
 ghost use Rattle.bt_place.specs.Narrowed.{IsNarrowed};
 ghost use Rattle.bt_place.specs.PlaceFormula.{place_formula};
@@ -29,7 +30,7 @@ fn bare(alloc: Global, request: &Request) -> Result<Formula, AllocError>
     encode_place(alloc, request)
 }
 
-/// The search with a sketch.
+/// A search of the placement formula with at most so many steps, in which the parts of a sketch are chosen first.
 fn solver_with(
     alloc: Global,
     request: &Request,
@@ -47,6 +48,7 @@ fn solver_with(
 struct PlacementSearch;
 
 impl Search for PlacementSearch {
+    /// The search of an attempt, as `solver_of` makes it.
     fn by_attempt(
         &self,
         alloc: Global,
@@ -56,6 +58,7 @@ impl Search for PlacementSearch {
         solver_of(alloc, request, attempt)
     }
 
+    /// The search with a sketch, by at most `SKETCHED_STEPS` steps.
     fn by_sketch(
         &self,
         alloc: Global,
@@ -67,7 +70,7 @@ impl Search for PlacementSearch {
 }
 
 /// Looks for the layout that a sketch of the request shows: its parts, or what a search with them finds by at most so
-/// many steps. What is found is a layout; where none is found, nothing is said.
+/// many steps, and at most `SKETCHED_STEPS`. What is found is a layout; where none is found, nothing is said.
 pub fn look_at_sketch(
     alloc: Global,
     request: &Request,
@@ -86,7 +89,8 @@ pub fn look_at_sketch(
     }
 }
 
-/// Looks for the layout that a sketch of the request shows by a search with at most so many steps.
+/// Looks for the layout that a sketch of the request shows by a search with at most so many steps, and at most
+/// `SKETCHED_STEPS`.
 fn search_with(
     alloc: Global,
     request: &Request,
@@ -99,8 +103,8 @@ fn search_with(
     trial_by(alloc, request, &mut solver)
 }
 
-/// Looks for a layout that a sketch of the request shows, by at most so many steps. What is found is a layout; where
-/// none is found, nothing is said.
+/// Makes a sketch of the request and looks for the layout that it shows, by at most so many steps. What is found is a
+/// layout; where none is found, or no sketch is made, nothing is said.
 pub fn look_by_sketch(alloc: Global, request: &Request, steps: u64) -> Result<Tried, AllocError>
     ensures { IfOk result (IsTried request.now steps) }
 {
@@ -113,7 +117,7 @@ pub fn look_by_sketch(alloc: Global, request: &Request, steps: u64) -> Result<Tr
     }
 }
 
-/// The layout that a sketch of the request shows.
+/// The layout that a sketch of the request shows. None where it shows none.
 fn shown_by(
     alloc: Global,
     request: &Request,

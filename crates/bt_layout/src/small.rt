@@ -23,10 +23,10 @@ const MANY_SPLITTERS: u32 = 20;
 /// Without formulas, layouts are proposed on at most so many grids.
 const MOST_PROPOSED: usize = 20;
 
-/// Looks for small grids, of at most as many cells each way as the request's rectangle and of fewer cells than so many,
-/// where a number is given, on which parts lay the request: from the greatest grid downwards, with so many steps of
-/// all searches together. Where none is found and not all of them were taken, on no such grid do any parts lay the
-/// request. Of grids other than the one that is told nothing is said.
+/// Looks for small grids, of at most as many cells each way as the request's rectangle and of fewer cells than `cells`,
+/// where that is given, on which parts lay the request: from the greatest grid downwards, with at most `learnt` steps
+/// of all searches together. Where none is found and not all steps were taken, no parts lay the request on any such
+/// grid. Of grids other than the one that is told nothing is said.
 ///
 /// Where the network, or the number of cells of such grids, is beyond those of which formulas are written, it is what
 /// hints propose that is tested, and there may be no answer. There, and where a network is large, what is tested first
@@ -58,7 +58,8 @@ fn begins_with_own(request: &Request, cells: Option<u64>) -> bool {
     request.net().splitters() >= MANY_SPLITTERS || is_beyond(request, cells)
 }
 
-/// A layout on a small grid that is made neither of a design's own parts nor of its stages.
+/// Looks for a layout on a small grid without the own parts of a design: by searches, or by what hints propose where
+/// the request is beyond those of which formulas are written.
 fn small_anew(
     alloc: Global,
     request: &Request,
@@ -77,7 +78,8 @@ fn small_anew(
     }
 }
 
-/// How many cells a grid has fewer of that may be asked, or has at most, where no number is given.
+/// The number of cells that bounds a grid: `cells`, than which it has fewer, or where none is given, that of the
+/// rectangle, which it has at most.
 fn most_cells(rect: Rect, cells: Option<u64>) -> u64
     ensures { result ≡ unwrap_or cells (area_of rect) }
 {
@@ -94,7 +96,7 @@ fn is_beyond(request: &Request, cells: Option<u64>) -> bool
         || most_cells(request.rect(), cells) > u64::from(MOST_CELLS)
 }
 
-/// What the searches of all requests come to.
+/// What the searches for a layout of the request on small grids come to, with so many steps of all of them together.
 fn sought_small(
     alloc: Global,
     request: &Request,
@@ -110,7 +112,8 @@ fn sought_small(
     Ok(small_of(&requests, early))
 }
 
-/// A layout that hints make of the own parts of a design, or of its network laid anew stage by stage.
+/// A layout that hints make of the own parts of a design, or of its network laid anew stage by stage. None where they
+/// make none that lays the request on a grid that may be asked.
 fn narrowed_small(
     alloc: Global,
     request: &Request,
@@ -127,7 +130,8 @@ fn narrowed_small(
     }
 }
 
-/// A layout that was made smaller, where its grid may be asked and it lays the request there.
+/// A layout that was made smaller. None where its grid is greater than the rectangle or has too many cells, or where it
+/// doesn't lay the request there.
 fn small_on(
     alloc: Global,
     request: &Request,
@@ -146,7 +150,7 @@ fn small_on(
     }
 }
 
-/// The layout of a sketch on this grid, where it lays the request there.
+/// The layout of a sketch on this grid, where it lays the request there; else None.
 fn sketched_on(
     alloc: Global,
     request: &Request,
@@ -168,7 +172,8 @@ fn sketched_on(
     }
 }
 
-/// A layout that hints propose on one of the greatest grids that may be asked.
+/// A layout that hints propose on one of the `MOST_PROPOSED` greatest grids of fewer cells than so many. None where
+/// none of them lays the request.
 fn proposed_small(
     alloc: Global,
     request: &Request,
@@ -192,7 +197,7 @@ fn proposed_small(
     Ok(None)
 }
 
-/// A layout that hints propose on this grid.
+/// A layout that hints propose on this grid, where it lays the request there; else None.
 fn proposed_on(
     alloc: Global,
     request: &Request,
@@ -213,7 +218,8 @@ fn proposed_on(
     }
 }
 
-/// The same requests on these grids, in the order of grids.
+/// The request on each grid of at most as many cells each way as its rectangle and of fewer cells than so many, where a
+/// number is given, in the order of the grids.
 fn small_requests(
     alloc: Global,
     request: &Request,

@@ -1,4 +1,5 @@
-//! Sweeps over requests: searches for layouts that are likely, one after another.
+//! Sweeps over requests: searches for layouts that are likely, one after another. A request is lesser than those behind
+//! it in the list, and is passed where its search takes all steps that it may and finds nothing.
 ghost use Rattle.std.specs.Prelude.{◌≡◌, ◌≤◌, ◌<◌, ℕ, List, All, AllPairs, IfOk, IfSome, length};
 ghost use Rattle.bt_model.specs.Requests.{LayoutRequest};
 ghost use Rattle.bt_layout.specs.Early.{IsLaid};
@@ -21,15 +22,15 @@ pub struct Sweep {
     /// The places of the requests, in their order: each stands before the one that was laid.
     pub places: Vec<usize>,
     /// How many places are left out before the next search: none at first, and each time that a layout is found
-    /// twice as many and one.
+    /// twice as many and one; none again where a search finds nothing.
     pub skipped: usize,
-    /// How many requests were passed in a row.
+    /// How many requests were passed since the round began or a layout was found.
     pub passed: usize,
     /// How often a layout was made smaller, or would have been.
     pub runs: u64,
 }
 
-/// At the beginning each request that is lesser than the one that was laid may be laid.
+/// The sweep at the beginning: of `count` requests each that is lesser than the one that was laid may be laid.
 pub fn first_sweep(alloc: Global, count: usize, progress: Progress) -> Result<Sweep, AllocError>
     ensures { (requests : List LayoutRequest) (learnt : ℕ) → count ≡ length requests
         → IsProgress requests learnt progress → IfOk result (IsSweep requests learnt) }
@@ -55,8 +56,8 @@ fn look_by(alloc: Global, request: &Request, means: Means, left: u64) -> Result<
     }
 }
 
-/// Looks by some means for a layout of the request whose place is at this index, with steps of those that are left of
-/// so many.
+/// Looks by some means for a layout of the request whose place is at this index, with at most the steps that are left
+/// of `learnt`, and gives the sweep after that.
 pub fn after_search(
     alloc: Global,
     requests: &[Request],
@@ -76,7 +77,8 @@ pub fn after_search(
     Ok(after_trial(sweep, at, tried))
 }
 
-/// Tries a sketch of the request whose place is at this index, with steps of those that are left of so many.
+/// Tries a sketch of the request whose place is at this index, with at most the steps that are left of `learnt`, and
+/// gives the sweep after that.
 pub fn after_sketch(
     alloc: Global,
     requests: &[Request],
@@ -96,7 +98,7 @@ pub fn after_sketch(
     Ok(after_trial(sweep, at, tried))
 }
 
-/// With what a search came to.
+/// The sweep after the search of the request whose place is at this index came to `tried`.
 fn after_trial(sweep: Sweep, at: usize, tried: Tried) -> Sweep
     requires inside { at < length sweep.places.items }
     requires lesser { IfSome sweep.progress.found (λ laid. at_index sweep at < laid.place) }
@@ -113,7 +115,8 @@ fn after_trial(sweep: Sweep, at: usize, tried: Tried) -> Sweep
     }
 }
 
-/// With a layout of the request whose place is at this index, as so many steps found: those before it are left.
+/// The sweep after so many steps found a layout of the request whose place is at this index: only the places before it
+/// are left.
 fn after_layout(sweep: Sweep, at: usize, steps: u64, parts: Vec<Part>) -> Sweep
     requires inside { at < length sweep.places.items }
     requires lesser { IfSome sweep.progress.found (λ laid. at_index sweep at < laid.place) }
@@ -140,7 +143,8 @@ fn after_layout(sweep: Sweep, at: usize, steps: u64, parts: Vec<Part>) -> Sweep
     }
 }
 
-/// Without the place at this index, where no such layout as is looked for is, as so many steps showed.
+/// The sweep after so many steps showed that there is no such layout as was looked for of the request whose place is at
+/// this index: that place is left out.
 fn after_refutation(sweep: Sweep, at: usize, steps: u64) -> Sweep
     requires { at < length sweep.places.items }
     ensures sweep { (requests : List LayoutRequest) (learnt : ℕ) → IsSweep requests learnt sweep
@@ -164,7 +168,7 @@ fn after_refutation(sweep: Sweep, at: usize, steps: u64) -> Sweep
     }
 }
 
-/// With a request that is passed after so many steps.
+/// The sweep after so many steps found nothing for a request, which is passed and keeps its place.
 fn after_giving_up(sweep: Sweep, steps: u64) -> Sweep
     ensures sweep { (requests : List LayoutRequest) (learnt : ℕ) → IsSweep requests learnt sweep
         → ArePaid learnt sweep.progress.steps steps → IsSweep requests learnt result }

@@ -55,7 +55,8 @@ fn are_right(
     lays(alloc, parts, names, request)
 }
 
-/// The parts that are proposed, where they lay the request and are no more than a blueprint may have.
+/// The parts that are proposed, where they lay the request, come in order, and are no more than a blueprint may have;
+/// else None.
 fn taken(
     alloc: Global,
     request: &Request,
@@ -72,7 +73,8 @@ fn taken(
     }
 }
 
-/// The parts that are proposed, if any are, where they lay the request. It needs no formula.
+/// The parts that are proposed, where they lay the request, come in ascending order of y and then x, and are no more
+/// than a blueprint may have; else None. It needs no formula.
 pub fn laid_by(
     alloc: Global,
     request: &Request,

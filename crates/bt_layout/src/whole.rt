@@ -10,7 +10,8 @@ use bt_model::Request;
 use std::alloc::{AllocError, Global};
 
 /// Searches for a layout of each request that is lesser than the one that was laid, from the greatest one downwards, by
-/// all steps that are left of so many. It ends where none is left, or where no parts lay a lesser request.
+/// all steps that are left of `learnt`, and gives the progress after that. It ends where no steps or no requests are
+/// left.
 pub fn after_all(
     alloc: Global,
     requests: &[Request],
@@ -30,7 +31,8 @@ pub fn after_all(
     Ok(progress)
 }
 
-/// Searches for a layout of the request at this place, by all steps that are left of so many.
+/// Searches for a layout of the request at this place, by all steps that are left of `learnt`, and gives the progress
+/// after that.
 fn after_whole(
     alloc: Global,
     requests: &[Request],
@@ -50,7 +52,7 @@ fn after_whole(
     Ok(after_searched(progress, place, searched))
 }
 
-/// With what the search for a layout of the request at this place came to.
+/// The progress after the search for a layout of the request at this place came to `searched`.
 fn after_searched(progress: Progress, place: usize, searched: Searched) -> Progress
     requires { IfSome progress.found (λ laid. place < laid.place) }
     ensures progress { (requests : List LayoutRequest) (learnt : ℕ)

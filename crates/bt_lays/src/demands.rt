@@ -19,7 +19,7 @@ use bt_model::Request;
 use bt_net::{Demand, End, Ends, Net, Pin, Side};
 use bt_parts::{Cell, Dir, Part, Rect, inside};
 
-/// The part that bears the name of an end.
+/// The part that bears the name of an end; none where the names have no such end, or an index that no part has.
 fn bearer(parts: &[Part], names: &Names, end: End) -> Option<Part>
     ensures { MatchOption result ((part : APart) → Bears parts.now (naming_of names.now) end part → ⊥)
         (Bears parts.now (naming_of names.now) end) }
@@ -48,7 +48,7 @@ fn is_same(one: Dir, other: Dir) -> bool
     one == other
 }
 
-/// Whether the direction is the one that is named, where one is.
+/// Whether the direction is the wanted one; true where none is wanted.
 fn points(wanted: Option<Dir>, dir: Dir) -> bool
     ensures { IsTrue result ↔ IfSome wanted (λ wanted. dir ≡ wanted) }
 {
@@ -58,7 +58,7 @@ fn points(wanted: Option<Dir>, dir: Dir) -> bool
     }
 }
 
-/// Whether the pinned end stands on its cell.
+/// Whether the pinned end stands on its cell, turned as the pin says; false where no part bears its name.
 fn keeps_pin(parts: &[Part], names: &Names, pin: Pin) -> bool
     ensures { IsTrue result ↔ KeepsPin parts.now (naming_of names.now) pin }
 {
@@ -68,7 +68,8 @@ fn keeps_pin(parts: &[Part], names: &Names, pin: Pin) -> bool
     }
 }
 
-/// The direction of the part with which an end stands at a side.
+/// The direction of the part with which an end stands at the side in direction `dir`: outputs leave there, inputs come
+/// in.
 fn way_across(end: End, dir: Dir) -> Dir
     ensures { result ≡ laying.way_across end dir }
 {
@@ -86,7 +87,7 @@ fn is_at_side(rect: Rect, dir: Dir, cell: Cell) -> bool
     inside(&rect, cell) && !inside(&rect, cell.ahead(dir, 1))
 }
 
-/// Whether the end stands at the side.
+/// Whether the end stands at the side, turned across it; false where no part bears its name.
 fn stands_at_side(parts: &[Part], rect: Rect, names: &Names, dir: Dir, end: End) -> bool
     requires { IsGrid rect }
     ensures { IsTrue result ↔ StandsAtSide parts.now rect (naming_of names.now) dir end }
@@ -125,7 +126,7 @@ fn outputs_stand(parts: &[Part], rect: Rect, names: &Names, dir: Dir, outputs: u
     true
 }
 
-/// Whether each end that is named stands at its side.
+/// Whether each end that the demand names stands at its side.
 fn keeps_side(parts: &[Part], rect: Rect, names: &Names, net: &Net, side: Side) -> bool
     requires grid { IsGrid rect }
     requires ends { HasEnds net.now side.ends }
@@ -139,8 +140,8 @@ fn keeps_side(parts: &[Part], rect: Rect, names: &Names, net: &Net, side: Side) 
     }
 }
 
-/// Whether a pinned end stands on its cell, or each end that is named at its side, or all ends of a kind in a row. Those that
-/// were recovered are as many as the network has ends.
+/// Whether a pinned end stands on its cell, or each end that the demand names at its side, or all ends of a kind in a
+/// row. The ends that were recovered of the parts, `own`, are as many as the network has.
 fn keeps_demand(
     parts: &[Part],
     own: &Names,
@@ -161,7 +162,8 @@ fn keeps_demand(
     }
 }
 
-/// Whether all ends stand where the request wants them.
+/// Whether all ends stand where the request wants them. `own` are the names that were recovered, `names` those that are
+/// tested.
 pub(crate) fn keeps_demands(parts: &[Part], own: &Names, request: &Request, names: &Names) -> bool
     requires request { IsRequest request.now }
     requires in_range { AreInRange parts.now }

@@ -22,7 +22,7 @@ fn count_of(net: &Net) -> usize
     net.splitters() as usize + net.inputs() as usize + net.outputs() as usize
 }
 
-/// The names that so many parts bear: the splitters first, behind them the inputs, and then the outputs.
+/// The names that the parts with these indices bear: the splitters first, behind them the inputs, and then the outputs.
 fn names_in(alloc: Global, bearers: &[usize], net: &Net) -> Result<Names, AllocError>
     requires { length bearers.now ≡ count_in net.now }
     ensures { IfOk result (λ names. naming_of names ≡ naming_in net.now bearers.now) }
@@ -36,7 +36,7 @@ fn names_in(alloc: Global, bearers: &[usize], net: &Net) -> Result<Names, AllocE
     })
 }
 
-/// The list with one more behind it.
+/// The list with one part more behind it.
 fn with(alloc: Global, bearers: &[usize], part: usize) -> Result<Vec<usize>, AllocError>
     ensures { IfOk result (λ more. more.items ≡ bearers.now ++ part ∷ []) }
 {
@@ -45,7 +45,7 @@ fn with(alloc: Global, bearers: &[usize], part: usize) -> Result<Vec<usize>, All
     Ok(more)
 }
 
-/// The names that these parts bear, where the parts lay the request by them.
+/// The names that these parts bear; none where the parts don't lay the request by them.
 fn tested(
     alloc: Global,
     parts: &[Part],
@@ -65,7 +65,8 @@ fn tested(
     }
 }
 
-/// Names that begin with these parts and go on with so many, by which the parts lay the request.
+/// Names that begin with these parts and go on with `left` more, by which the parts lay the request; none where no such
+/// names do.
 fn gone_on(
     alloc: Global,
     parts: &[Part],

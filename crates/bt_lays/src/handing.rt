@@ -34,7 +34,9 @@ fn hand_of(is_left: bool) -> Hand
     if is_left { Hand::Left } else { Hand::Right }
 }
 
-/// The hand on which the splitter is to give first, if one is wished for.
+/// The hand on which the splitter is to give first, that of the half where the edge starts that it is to prefer; none
+/// where no such edge is wished for. The two lists have the same edges in one order: of which halves they are, and what
+/// is wished.
 fn give_at(halves: &[Marked], wishes: &[Marked], splitter: usize) -> Option<Hand>
     requires { length halves.now ≡ length wishes.now }
     ensures { TellsGive halves.now wishes.now splitter result }
@@ -47,7 +49,9 @@ fn give_at(halves: &[Marked], wishes: &[Marked], splitter: usize) -> Option<Hand
     None
 }
 
-/// The hand on which the splitter is to take first, if one is wished for.
+/// The hand on which the splitter is to take first, that of the half where the edge ends that it is to prefer; none
+/// where no such edge is wished for. The two lists have the same edges in one order: of which halves they are, and what
+/// is wished.
 fn take_at(halves: &[Marked], wishes: &[Marked], splitter: usize) -> Option<Hand>
     requires { length halves.now ≡ length wishes.now }
     ensures { TellsTake halves.now wishes.now splitter result }
@@ -141,7 +145,7 @@ fn wanting(fault: RecoverFault) -> AllocError
     }
 }
 
-/// So many priorities of splitters that prefer their left halves.
+/// The priorities of so many splitters that prefer their left halves, where they give and where they take.
 fn all_left(alloc: Global, count: usize) -> Result<Vec<Priority>, AllocError>
     ensures { IfOk result (λ lefts. lefts.items ≡ replicate count to_left) }
 {
@@ -152,7 +156,7 @@ fn all_left(alloc: Global, count: usize) -> Result<Vec<Priority>, AllocError>
     vec![in alloc; to_left; count]
 }
 
-/// What each part on the grid is to prefer.
+/// What each part on the grid is to prefer, so that the layout shows what the network's splitters prefer.
 fn on_grid(
     alloc: Global,
     grid: &Grid,

@@ -26,7 +26,7 @@ fn bearer(list: &[usize], number: u32) -> usize
     }
 }
 
-/// The part that bears the number of a start.
+/// The part that bears the number of a start by these names, or the first part where none does.
 pub(crate) fn start_part(names: &Names, start: Start) -> usize
     ensures { result ≡ joins.start_part (naming_of names.now) start }
 {
@@ -36,7 +36,7 @@ pub(crate) fn start_part(names: &Names, start: Start) -> usize
     }
 }
 
-/// The part that bears the number of a target.
+/// The part that bears the number of a target by these names, or the first part where none does.
 pub(crate) fn target_part(names: &Names, target: Target) -> usize
     ensures { result ≡ joins.target_part (naming_of names.now) target }
 {
@@ -72,7 +72,7 @@ pub(crate) fn joins_of(
     Ok(joins)
 }
 
-/// Whether the one list has what the other has, as often.
+/// Whether the two lists have the same edges, each as often, in any order.
 pub(crate) fn are_rearranged(mut one: Vec<Join>, mut other: Vec<Join>) -> Result<bool, AllocError>
     ensures { IfOk result (λ same. IsTrue same ↔ IsPermutation one.items other.items) }
 {

@@ -15,7 +15,7 @@ pub fn laid_by_names()
         → Lays parts request → (naming : Naming) × LaysBy parts naming request }
 {}
 
-/// The same with what the splitters of the request prefer.
+/// Parts with priorities lay a request with what its splitters prefer where they do so by some names, and only there.
 pub fn laid_preferring_by_names()
     ensures by_names { (parts : List Part) (priorities : List Priority) (naming : Naming)
         → (request : LayoutRequest)

@@ -104,7 +104,7 @@ fn are_same(one: &[Marked], other: &[Marked]) -> bool
     true
 }
 
-/// Whether the one list has what the other has, as often.
+/// Whether the two lists have the same edges, each as often, in any order.
 fn are_rearranged(mut one: Vec<Marked>, mut other: Vec<Marked>) -> Result<bool, AllocError>
     ensures { IfOk result (λ same. IsTrue same ↔ IsPermutation one.items other.items) }
 {
@@ -113,7 +113,8 @@ fn are_rearranged(mut one: Vec<Marked>, mut other: Vec<Marked>) -> Result<bool, 
     Ok(are_same(&one, &other))
 }
 
-/// Whether the network that was recovered prefers what the network does, by these names.
+/// Whether the edges of the network that was recovered and those of the given one join the same parts by their names,
+/// and the same of them are preferred.
 fn prefer_same(alloc: Global, own: &Own, names: &Names, net: &Net) -> Result<bool, AllocError>
     ensures marked { IfOk result (λ same. IsTrue same
         → AreMarkedAs (naming_of own.now.names) own.now.net (naming_of names.now) net.now) }
@@ -125,7 +126,7 @@ fn prefer_same(alloc: Global, own: &Own, names: &Names, net: &Net) -> Result<boo
     are_rearranged(first, second)
 }
 
-/// Parts that are refused show nothing, unless it was memory that was wanting.
+/// The answer of parts of which no network was recovered: they show nothing. An error where memory was wanting.
 fn refused(fault: RecoverFault) -> Result<bool, AllocError>
     ensures { IfOk result (λ shows. (shows ≡ false) × (fault ≢ Memory)) }
 {

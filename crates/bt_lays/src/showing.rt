@@ -15,7 +15,7 @@ fn are_same(one: &[usize], other: &[usize]) -> bool
     one == other
 }
 
-/// Whether the one list has what the other has, as often.
+/// Whether the two lists have the same indices, each as often, in any order.
 fn has_each(alloc: Global, one: &[usize], other: &[usize]) -> Result<bool, AllocError>
     ensures { IfOk result (λ same. IsTrue same ↔ IsPermutation one.now other.now) }
 {
@@ -37,7 +37,8 @@ fn has_counts(names: &Names, net: &Net) -> bool
         && net.outputs() as usize == names.outputs.len()
 }
 
-/// Whether the names have the parts of those that were recovered, and are as many as the network has.
+/// Whether the names have the same splitters, inputs and outputs as those that were recovered, and as many of each as
+/// the network has.
 pub(crate) fn are_named(
     alloc: Global,
     own: &Names,
@@ -55,7 +56,8 @@ pub(crate) fn are_named(
     )
 }
 
-/// Whether the edges of the two networks join the same parts by their names.
+/// Whether the edges of the recovered network by its own names, and those of the given one by the given names, join the
+/// same parts.
 pub(crate) fn are_joined(
     alloc: Global,
     own: &Names,

@@ -56,7 +56,7 @@ pub(crate) struct Own {
     pub(crate) names: Names,
 }
 
-/// What was recovered.
+/// The network that was recovered, with the names of its parts.
 pub(crate) fn own_of(traced: Traced) -> Own
     ensures net { result.net ≡ traced.net }
     ensures names { naming_of result.names ≡ (network_and_naming traced).1 }
@@ -94,7 +94,7 @@ fn lays_placed(
     }
 }
 
-/// Parts that are refused lay nothing, unless it was memory that was wanting.
+/// The answer of parts of which no network was recovered: they lay nothing. An error where memory was wanting.
 fn refused(fault: RecoverFault) -> Result<bool, AllocError>
     ensures { IfOk result (λ holds. (holds ≡ false) × (fault ≢ Memory)) }
 {
@@ -109,7 +109,8 @@ fn refused(fault: RecoverFault) -> Result<bool, AllocError>
     }
 }
 
-/// Whether the parts fit the request, of which these are the ends.
+/// Whether no part stands on a blocked cell, and the rectangle ends behind the first part of each input and in front of
+/// the last part of each output.
 fn fits(grid: &Grid, own: &Names, request: &Request) -> bool
     requires suits { All (SuitsAlone request.now.rect request.now.tier) grid.now }
     requires inputs { ListsEach (IsInput grid.now)
@@ -128,7 +129,7 @@ fn fits(grid: &Grid, own: &Names, request: &Request) -> bool
     are_last(rect, parts, &own.outputs)
 }
 
-/// Whether the layout shows the network by the names.
+/// Whether the layout, of which `own` was recovered, shows the network by the given names.
 fn shows(
     alloc: Global,
     grid: &Grid,
@@ -158,7 +159,7 @@ fn keeps(grid: &Grid, own: &Own, names: &Names, request: &Request) -> bool
     keeps_demands(grid.parts(), &own.names, request, names)
 }
 
-/// Whether the parts, of which this is the network, lay the request by these names.
+/// Whether the parts, of which `own` was recovered, lay the request by the given names.
 fn lays_recovered(
     alloc: Global,
     grid: &Grid,

@@ -1,4 +1,5 @@
-//! What the columns of weighted rows add up to, told column by column.
+//! What the columns of weighted rows add up to, told column by column. A column is wide at a row where the product or
+//! the running sum there leaves 128 bits.
 ghost use Rattle.std.specs.Prelude.{◌≡◌, ◌<◌, ◌-◌, ◌^◌, true, None};
 ghost use Rattle.bt_lin.specs.inner.Totals.{IsAfterColumn};
 
@@ -17,7 +18,7 @@ pub struct Columns {
     pub end: usize,
 }
 
-/// What is known of no columns of so many rows.
+/// What is known of the columns of `rows` rows before the first one is summed.
 pub fn no_columns(rows: usize) -> Columns
     ensures { result ≡ record { cancel = true; wide = None; limit = rows; end = 0 } }
 {
@@ -29,7 +30,8 @@ pub fn no_columns(rows: usize) -> Columns
     }
 }
 
-/// What is known of the columns with one more of them, and what it adds up to.
+/// What is known of the columns with one more, which is greater than those before. `sum` is what this one adds up to
+/// over the first `limit` rows, or the row at which it is wide.
 pub fn after_column(columns: Columns, column: usize, sum: Result<Frac, usize>) -> Columns
     requires { column < 2 ^ 64 - 1 }
     ensures { IsAfterColumn columns column sum result }

@@ -8,8 +8,8 @@ use crate::places::{Place, least_column, part};
 use crate::running::add_product;
 use bt_frac::{Frac, Row};
 
-/// The sum at a place over the first rows, so many as the limit says, or the first of them at which
-/// it is wide.
+/// The sum at a place over the first `limit` picked rows, each times its weight. The error is the first row, by its
+/// place among the picks, whose product or running sum leaves 128 bits.
 pub fn total(
     rows: &[Row],
     picks: &[usize],
@@ -35,7 +35,7 @@ pub fn total(
     Ok(sum)
 }
 
-/// The least column of the picked rows that is at least this one.
+/// The least column of the picked rows that is at least `least`. None where they have no such column.
 pub fn next_column(rows: &[Row], picks: &[usize], least: usize) -> Option<usize>
     requires { ArePicks rows.now picks.now }
     ensures least { IsLeastFrom least (columns_in (picked rows.now picks.now)) result }
@@ -49,7 +49,7 @@ pub fn next_column(rows: &[Row], picks: &[usize], least: usize) -> Option<usize>
     best
 }
 
-/// The lesser of two columns, where there are two.
+/// The lesser of two columns, or the only one where one is missing. None where both are.
 fn lesser(first: Option<usize>, second: Option<usize>) -> Option<usize>
     ensures { result ≡ lesser_of first second }
 {

@@ -18,8 +18,8 @@ pub struct Entry {
     pub coefficient: Frac,
 }
 
-/// Puts the terms of the picked rows into `entries`, sorted by columns, and those of a column in the
-/// order of their rows.
+/// Puts the terms of the picked rows into `entries`, in place of what these were, sorted by columns, and those of a
+/// column in the order of the picks.
 pub fn gather(entries: &mut Vec<Entry>, rows: &[Row], picks: &[usize]) -> Result<(), AllocError>
     requires { ArePicks rows.now picks.now }
     ensures { OnOk result (AreGathered (picked rows.now picks.now) entries.new.items) }
@@ -32,7 +32,7 @@ pub fn gather(entries: &mut Vec<Entry>, rows: &[Row], picks: &[usize]) -> Result
     Ok(())
 }
 
-/// Adds the terms of the row at a place.
+/// Adds the terms of a row, which has the place `row` among the rows of the sum.
 fn add_terms(
     entries: &mut Vec<Entry>,
     row: usize,

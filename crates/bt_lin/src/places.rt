@@ -15,7 +15,7 @@ pub enum Place {
     Bound,
 }
 
-/// What stands in a row at a place, where something does.
+/// The number that stands in a row at a place. None where the row lacks the column.
 pub fn part(row: &Row, place: Place) -> Option<Frac>
     ensures { result ≡ part_of place row.now }
 {
@@ -25,7 +25,7 @@ pub fn part(row: &Row, place: Place) -> Option<Frac>
     }
 }
 
-/// The coefficient of a column.
+/// The coefficient of a column. None where no term names the column.
 fn coefficient(terms: &[(usize, Frac)], column: usize) -> Option<Frac>
     ensures { result ≡ coefficient_at column terms.now }
 {
@@ -37,7 +37,7 @@ fn coefficient(terms: &[(usize, Frac)], column: usize) -> Option<Frac>
     None
 }
 
-/// The least column of terms from one on.
+/// The least column that is at least `least` of terms in ascending order. None where all are below that.
 pub fn least_column(terms: &[(usize, Frac)], least: usize) -> Option<usize>
     requires { HaveColumns terms.now }
     ensures least { IsLeastFrom least (columns_of terms.now) result }

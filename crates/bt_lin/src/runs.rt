@@ -11,8 +11,9 @@ use crate::gathering::Entry;
 use crate::running::add_product;
 use bt_frac::Frac;
 
-/// The sums at all columns of the rows that these entries are of. Once a column is wide at a row, only
-/// the rows before it can be first.
+/// What the columns add up to of the rows whose terms these entries are, sorted by columns, with one weight for each
+/// row. Once a column is wide at a row, later columns are summed over the rows before that one alone, since the first
+/// row is to be named.
 pub fn sum_runs(entries: &[Entry], weights: &[Frac]) -> Columns
     requires rows { All (λ e. e.row < length weights.now) entries.now }
     requires columns { All (λ e. e.column < 2 ^ 64 - 1) entries.now }
@@ -42,8 +43,8 @@ fn run_length(entries: &[Entry], column: usize) -> usize
     entries.len()
 }
 
-/// The sum of the entries of a column over the rows before a limit, or the first of these rows at which
-/// it is wide.
+/// The sum of the entries of one column, each times its row's weight, over the rows before `limit`. The error is the
+/// first of these rows at which the product or the running sum leaves 128 bits.
 fn run_total(run: &[Entry], weights: &[Frac], limit: usize) -> Result<Frac, usize>
     requires { All (λ e. e.row < length weights.now) run.now }
     ensures { IsRunTotal weights.now run.now limit result }

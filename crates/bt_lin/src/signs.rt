@@ -7,8 +7,7 @@ ghost use Rattle.bt_lin.specs.inner.Totals.{ArePicks};
 
 use bt_frac::{Frac, Relation, Row};
 
-/// Whether no row that is no equation has a negative weight, of the rows at the picked places, each with
-/// its weight.
+/// Whether each row at the picked places may have its weight: of those that are no equations none has a negative one.
 pub fn may_weigh(rows: &[Row], picks: &[usize], weights: &[Frac]) -> bool
     requires picks { All (λ pick. pick < length rows.now) picks.now }
     requires weights { length weights.now ≡ length picks.now }
@@ -22,7 +21,8 @@ pub fn may_weigh(rows: &[Row], picks: &[usize], weights: &[Frac]) -> bool
     true
 }
 
-/// Whether a row that says that its sum is above its bound has a positive weight.
+/// Whether the sum of the weighted rows is strict: some row that says that its sum is above its bound has a positive
+/// weight.
 pub fn has_strict(rows: &[Row], picks: &[usize], weights: &[Frac]) -> bool
     requires picks { ArePicks rows.now picks.now }
     requires weights { length weights.now ≡ length picks.now }
@@ -36,14 +36,15 @@ pub fn has_strict(rows: &[Row], picks: &[usize], weights: &[Frac]) -> bool
     false
 }
 
-/// Whether a row of this relation may have this weight.
+/// Whether a row of this relation may have this weight. Only an equation may have a negative one.
 fn may_have(relation: Relation, weight: &Frac) -> bool
     ensures { IsTrue result ↔ MayHave relation weight.now }
 {
     relation == Relation::Equal || weight.numerator() >= 0
 }
 
-/// Whether a row of this relation with this weight makes a sum strict.
+/// Whether a row of this relation with this weight makes a sum strict: it says that its sum is above its bound, and the
+/// weight is positive.
 fn is_strict(relation: Relation, weight: &Frac) -> bool
     ensures { IsTrue result ↔ MakesStrict relation weight.now }
 {

@@ -12,8 +12,8 @@ use std::cmp::Ordering;
 
 /// Whether a row holds of values, one for each column from 0 on.
 ///
-/// The sum starts at 0 and takes the columns in ascending order. The answer is the first column whose
-/// product or running sum leaves 128 bits, with row 0, where there is one.
+/// The sum starts at 0 and takes the columns in ascending order. The error names the first column whose product or
+/// running sum leaves 128 bits, with row 0.
 pub fn eval(row: &Row, values: &[Frac]) -> Result<bool, WideAt>
     requires { All (λ t. t.0 < length values.now) row.now.terms }
     ensures { AnswersAlways (IsEvaluation row.now values.now) result }

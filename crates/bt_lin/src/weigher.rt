@@ -28,7 +28,8 @@ impl Weigher {
         }
     }
 
-    /// The answer of [`farkas`](crate::farkas), in the time of sorting the terms of the picked rows.
+    /// The answer of [`farkas`](crate::farkas), in the time of sorting the terms of the picked rows; or the error that
+    /// no memory could be had.
     pub fn farkas(
         &mut self,
         rows: &[Row],

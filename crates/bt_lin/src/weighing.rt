@@ -18,9 +18,9 @@ use bt_frac::{Frac, Row};
 
 /// Whether the rows at the picked places, each times its weight, add up to a row that no values meet.
 ///
-/// A negative weight of a row that is no equation gives false before any product is formed. Otherwise
-/// the answer is the first row and column, the rows in the order of the picks and the bound of a row
-/// last, whose product or running sum leaves 128 bits, where there is one.
+/// A negative weight of a row that is no equation gives false before any product is formed. Otherwise the error names
+/// where the sum leaves 128 bits: the first row, by its place among the picks, at which a product or a running sum
+/// does, and the first such column there. A row's bound comes behind its columns.
 pub fn farkas(rows: &[Row], picks: &[usize], weights: &[Frac]) -> Result<bool, WideAt>
     requires picks { All (λ pick. pick < length rows.now) picks.now }
     requires weights { length weights.now ≡ length picks.now }
@@ -33,8 +33,9 @@ pub fn farkas(rows: &[Row], picks: &[usize], weights: &[Frac]) -> Result<bool, W
     judged(rows, picks, weights, columns)
 }
 
-/// Whether rows that may have their weights add up to one that no values meet, by what their columns add
-/// up to.
+/// Whether rows that may have their weights add up to a row that no values meet: their columns, of which `columns`
+/// tells what they add up to, cancel, and the sum of their bounds can't be met. The error names the first row at which
+/// the sum leaves 128 bits, and its first such column.
 pub(crate) fn judged(
     rows: &[Row],
     picks: &[usize],
@@ -63,7 +64,8 @@ pub(crate) fn judged(
     }
 }
 
-/// The sums at all columns. Once a column is wide at a row, only the rows before it can be first.
+/// What the columns of the picked rows, each times its weight, add up to. Once a column is wide at a row, later columns
+/// are summed over the rows before that one alone, since the first row is to be named.
 fn sum_columns(rows: &[Row], picks: &[usize], weights: &[Frac]) -> Columns
     requires picks { ArePicks rows.now picks.now }
     requires weights { length weights.now ≡ length picks.now }
@@ -78,7 +80,8 @@ fn sum_columns(rows: &[Row], picks: &[usize], weights: &[Frac]) -> Columns
     columns
 }
 
-/// Whether 0 can't stand to the bound of a sum, which is strict or not.
+/// Whether no values meet a sum of rows whose columns cancel: 0 is below its bound, or equal to it where the sum is
+/// strict.
 fn is_false(bound: &Frac, strict: bool) -> bool
     ensures { IsTrue result ↔ IsFalseBound bound.now (IsTrue strict) }
 {

@@ -1,4 +1,6 @@
-//! Lines of a solved form: the positions whose numbers aren't 0, in ascending order, with these numbers.
+//! Lines of a solved form: the positions whose numbers aren't 0, in ascending order, with these numbers. A line gives
+//! what stands at its position, which it doesn't name, by what stands at those that it names. A line that is 0 wherever
+//! another one holds tells what the position that enters stands for: it has the number -1 there.
 ghost use Rattle.std.specs.Prelude.{◌≡◌, ◌≢◌, ◌∷◌, [], ◌<◌, ◌-◌, ◌^◌, pos, IfOk, IfErr, IfSome, Some, None, IsTrue, true, false, length, slice_index_or};
 ghost use Rattle.bt_frac.specs.Ratio.{Ratio, IsLowest};
 ghost use Rattle.bt_lin.specs.WeightedRows.{coefficient_at};
@@ -45,7 +47,7 @@ impl Model for Line {
 }
 
 impl Line {
-    /// The line of these terms.
+    /// The line of these terms: as small whole numbers where these can hold it, and else as fractions.
     pub fn of(alloc: Global, terms: Vec<Term>) -> Result<Line, AllocError>
         requires { IsLine terms.items }
         ensures { IfOk result (λ line. line ≡ terms.items) }
@@ -58,7 +60,7 @@ impl Line {
         }
     }
 
-    /// The line of small whole numbers over one denominator.
+    /// The line that is held as these small whole numbers over one denominator.
     fn whole(short: Short) -> Line
         ensures { result ≡ short }
     {
@@ -106,7 +108,8 @@ impl Line {
         }
     }
 
-    /// The position of a term, and the sign of its number, or the other sign where this is told.
+    /// The position of the term at a place, and how its number compares with 0, or its negated number where `negated`
+    /// is set.
     pub fn signed_at(&self, index: usize, negated: bool) -> (usize, Ordering)
         requires { index < length self.now }
         ensures { IsSignedTerm (signed_terms negated self.now) index result }
@@ -119,7 +122,7 @@ impl Line {
         }
     }
 
-    /// The position of a term, and the sign of its number.
+    /// The position of the term at a place, and how its number compares with 0.
     fn sign_at(&self, index: usize) -> (usize, Ordering)
         requires { index < length self.now }
         ensures { IsSignedTerm self.now index result }
@@ -157,7 +160,7 @@ impl Line {
         }
     }
 
-    /// The line, with the other sign where this is told.
+    /// The line, with all its numbers negated where `negated` is set.
     pub fn with_sign(self, alloc: Global, negated: bool) -> Result<Line, AllocError>
         ensures { IfOk result (λ line. line ≡ signed_terms negated self) }
     {
@@ -168,7 +171,8 @@ impl Line {
         }
     }
 
-    /// The same line, in the room of a list whose terms are dropped.
+    /// The same line. Where it is held as small whole numbers, it takes the room of a list whose terms are dropped, and
+    /// else new memory.
     pub fn copied_in(&self, alloc: Global, room: Room) -> Result<Line, AllocError>
         ensures { IfOk result (λ line. line ≡ self.now) }
     {
@@ -192,8 +196,9 @@ impl Line {
         }
     }
 
-    /// Puts what a position stands for, by a line that is 0, in place of it, where the line names it and both
-    /// are held as small whole numbers. A room is taken for the new terms, and that of the old ones is left.
+    /// Puts what the position `enters` stands for in place of it, where the line names it: adds the multiple of `zero`,
+    /// a line that is 0 and has -1 there, that removes it. Nothing is changed, and the answer says so, where a line
+    /// isn't held as small whole numbers. The new terms take the memory of `room`, which gets that of the old ones.
     pub fn substitute(
         &mut self,
         alloc: Global,
@@ -213,7 +218,7 @@ impl Line {
         Ok(self.unchanged(enters))
     }
 
-    /// Nothing is done where a position enters, or not yet.
+    /// What `substitute` answers where it changes nothing, by whether the line names the position that enters.
     fn unchanged(&self, enters: usize) -> Change
         ensures { (zero : Terms) → IsChange enters zero (Some self.now) (Some self.now) result }
     {
@@ -224,8 +229,9 @@ impl Line {
         }
     }
 
-    /// The line, which names a position, with what the position stands for, by a line that is 0, in place of
-    /// it, by fractions; or a product or a sum that doesn't fit.
+    /// The line, which names the position `enters`, with what that stands for in place of it, by fractions: the
+    /// multiple of `zero`, a line that is 0 and has -1 there, is added that removes the position. Or the first product
+    /// or sum that leaves 128 bits.
     pub fn substituted_long(
         &self,
         alloc: Global,
@@ -245,8 +251,9 @@ impl Line {
         combined(alloc, &left, &number, &right)
     }
 
-    /// The line that is 0 wherever this line holds of its position, where both are held as small whole
-    /// numbers, in the room of a list whose terms are dropped.
+    /// The line that is 0 wherever this line gives what stands at `position`, with -1 at `enters`, in the room of a
+    /// list whose terms are dropped. None where this line or that one isn't held as small whole numbers, or this one
+    /// doesn't name `enters`.
     pub fn whole_zero(
         &self,
         room: Room,
@@ -268,7 +275,7 @@ impl Line {
         }
     }
 
-    /// The room of a line that is needed no more, where it holds small whole numbers.
+    /// The room of a line that is needed no more. None where the line is held as fractions.
     pub fn into_room(self) -> Option<Room> {
         let Line { form } = self;
         match form {
@@ -277,8 +284,8 @@ impl Line {
         }
     }
 
-    /// The line of the position that enters, by this line, which is 0 and has its number -1 there, where both
-    /// are held as small whole numbers, in the room of a list whose terms are dropped.
+    /// The line that gives what stands at `enters`, by this line, which is 0 and has the number -1 there, in the room
+    /// of a list whose terms are dropped. None where this line or that one isn't held as small whole numbers.
     pub fn whole_entering(&self, room: Room, enters: usize) -> Result<Option<Line>, AllocError>
         requires { enters < 2 ^ 64 - 1 }
         ensures { IfOk result (λ o. IfSome o (IsEntering enters self.now)) }
@@ -309,7 +316,7 @@ fn found(terms: &[Term], position: usize) -> Option<Frac>
     None
 }
 
-/// The line of these terms, with the other sign where this is told.
+/// The line of these terms, with all numbers negated where `negated` is set.
 fn signed_line(alloc: Global, terms: &[Term], negated: bool) -> Result<Line, AllocError>
     requires { IsLine terms.now }
     ensures { IfOk result (λ line. line ≡ signed_terms negated terms.now) }
@@ -322,8 +329,8 @@ fn signed_line(alloc: Global, terms: &[Term], negated: bool) -> Result<Line, All
     }
 }
 
-/// The line of one position with the number 1, or -1 where this is told, in the room of a list whose terms are
-/// dropped.
+/// The line that names one position alone, with the number 1, or -1 where `negated` is set. It takes the room of a list
+/// whose terms are dropped, or new memory where the position doesn't fit 32 bits.
 pub fn lone_line(
     alloc: Global,
     room: Room,
@@ -350,8 +357,8 @@ fn negated_terms(alloc: Global, terms: &[Term]) -> Result<Vec<Term>, AllocError>
     Ok(others)
 }
 
-/// The sum of a line and a number, other than 0, times another line, or the first product or sum that
-/// doesn't fit.
+/// The line `left` plus `factor`, which isn't 0, times the line `right`; or the first product or sum that leaves 128
+/// bits.
 pub fn combined(
     alloc: Global,
     left: &[Term],

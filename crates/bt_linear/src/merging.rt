@@ -12,8 +12,8 @@ use bt_frac::Frac;
 use std::alloc::AllocError;
 use std::cmp::Ordering;
 
-/// The terms of the sum of a line and a number, other than 0, times another line, in the room of a list whose
-/// terms are dropped; or the first product or sum that doesn't fit.
+/// The terms of the line `left` plus `factor`, which isn't 0, times the line `right`, in the room of a list whose terms
+/// are dropped; or the first product or sum that leaves 128 bits.
 pub fn merged(
     room: Vec<Term>,
     left: &[Term],
@@ -48,8 +48,8 @@ pub fn merged(
     Ok(Ok(terms))
 }
 
-/// The first term of the sum of a line and a number times another, where it isn't 0, and what is left
-/// of both lines; or the product or the sum that doesn't fit.
+/// The first term of the line `left` plus `factor` times the line `right`, where its number isn't 0, and what is left
+/// of both lines; or the product or the sum that leaves 128 bits. One of the lines has a term.
 fn first_term<'a>(
     left: &'a [Term],
     factor: &Frac,
@@ -60,6 +60,7 @@ fn first_term<'a>(
     ensures step { IfOk result (λ s. IsStep left.now factor.now right.now s.0 s.1.now s.2.now) }
     ensures unfit { IfErr result (IsUnfit left.now factor.now right.now) }
 {
+    // This tells a proof that the fraction is in lowest terms.
     let _ = factor.denominator();
     match (split(left), split(right)) {
         (Some((first, left_rest)), Some((second, right_rest))) => {
@@ -84,14 +85,14 @@ fn first_term<'a>(
     }
 }
 
-/// Whether nothing is left of both lines.
+/// Whether both lines have no terms left.
 fn are_empty(first: &[Term], second: &[Term]) -> bool
     ensures { IsTrue result ↔ ((first.now ≡ []) × (second.now ≡ [])) }
 {
     first.is_empty() && second.is_empty()
 }
 
-/// The first term of a line, and the terms after it.
+/// The first term of a line, and the terms after it. None where the line is empty.
 fn split(line: &[Term]) -> Option<(Term, &[Term])>
     ensures some { IfSome result (λ s. line.now ≡ s.0 ∷ s.1.now) }
     ensures none { IfNone result (line.now ≡ []) }
@@ -102,8 +103,8 @@ fn split(line: &[Term]) -> Option<(Term, &[Term])>
     }
 }
 
-/// The term at a position where a number and a product stand, where their sum isn't 0; or the product
-/// or the sum that doesn't fit.
+/// The term of a position with the number `number` plus `factor` times `by`. None where that is 0; or the product or
+/// the sum that leaves 128 bits.
 fn added(position: usize, number: &Frac, factor: &Frac, by: &Frac) -> Result<Option<Term>, Unfit>
     ensures term { IfOk result (AddsTo position number.now factor.now by.now) }
     ensures unfit { IfErr result (IsUnfitHere position (Some number.now) factor.now by.now) }
@@ -125,7 +126,7 @@ fn added(position: usize, number: &Frac, factor: &Frac, by: &Frac) -> Result<Opt
     Ok(Some((position, sum)))
 }
 
-/// A term times a number; or the product that doesn't fit.
+/// A term times a number; or the product that leaves 128 bits.
 fn scaled(factor: &Frac, term: Term) -> Result<Term, Unfit>
     ensures term { IfOk result (λ t. (t.0 ≡ term.0) × IsLowest t.1 × IsProduct factor.now term.1 t.1) }
     ensures unfit { IfErr result (IsUnfitHere term.0 None factor.now term.1) }
@@ -136,12 +137,14 @@ fn scaled(factor: &Frac, term: Term) -> Result<Term, Unfit>
     Ok((term.0, product))
 }
 
-/// The product of two numbers. Of 1 and of -1 it needs no product of parts.
+/// The product of two numbers. None where it leaves 128 bits. Where `factor` is 1 or -1, nothing needs to be
+/// multiplied.
 fn product(factor: &Frac, by: &Frac) -> Option<Frac>
     ensures some { IfSome result (IsProduct factor.now by.now) }
     ensures lowest { IfSome result IsLowest }
     ensures none { IfNone result ((f : Ratio) → IsLowest f → IsProduct factor.now by.now f → ⊥) }
 {
+    // This tells a proof that the fraction is in lowest terms.
     let _ = by.denominator();
     if *factor == Frac::whole(1) {
         Some(*by)
@@ -152,7 +155,7 @@ fn product(factor: &Frac, by: &Frac) -> Option<Frac>
     }
 }
 
-/// The product of these numbers, at a position.
+/// What says that the product of these two numbers, formed for a position, leaves 128 bits.
 fn unfit_product(position: usize, factor: &Frac, by: &Frac) -> Unfit
     ensures { result
         ≡ record { column = position; operation = Operation.Mul; left = factor.now; right = by.now } }

@@ -13,7 +13,7 @@ use crate::unfit::{Operation, Unfit};
 use bt_frac::Frac;
 use std::alloc::{AllocError, Global};
 
-/// The term of a position with the negated quotient of two numbers; or the quotient that doesn't fit.
+/// The term of a position with the negated quotient of two numbers; or the quotient that leaves 128 bits.
 fn negated_share(position: usize, number: &Frac, by: &Frac) -> Result<Term, Unfit>
     requires { by.now.over ≢ pos 0 }
     ensures share { IfOk result (IsNegatedShare by.now (position, number.now)) }
@@ -30,7 +30,7 @@ fn negated_share(position: usize, number: &Frac, by: &Frac) -> Result<Term, Unfi
     Ok((position, share.negate()))
 }
 
-/// The negated quotients of all terms by a number; or a quotient that doesn't fit.
+/// The negated quotients of all terms by a number; or a quotient that leaves 128 bits.
 fn divided(alloc: Global, terms: &[Term], by: &Frac) -> Result<Result<Vec<Term>, Unfit>, AllocError>
     requires line { IsLine terms.now }
     requires lowest { IsLowest by.now }
@@ -48,7 +48,8 @@ fn divided(alloc: Global, terms: &[Term], by: &Frac) -> Result<Result<Vec<Term>,
     Ok(Ok(shares))
 }
 
-/// The line that is 0 wherever the given line holds of its position; or a quotient that doesn't fit.
+/// The line that is 0 wherever the line of these terms gives what stands at `position`: the position less the line,
+/// divided by `number`, which the line has at the position that enters. Or a quotient that leaves 128 bits.
 pub fn zero_line(
     alloc: Global,
     position: usize,

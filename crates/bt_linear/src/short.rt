@@ -1,5 +1,5 @@
-//! Lines whose numbers are small whole numbers over one small denominator. Sums of these need no
-//! fractions, and their products fit 64 bits.
+//! Lines whose numbers are small whole numbers over one small denominator, where small is below 2^31 in magnitude. Sums
+//! of these need no fractions, and their products fit 64 bits.
 ghost use Rattle.std.specs.Prelude.{◌≡◌, ◌≢◌, ◌<◌, ◌≤◌, ◌^◌, ◌*ℤ◌, IfOk, IfSome, None, true, false, IsTrue, ◌↔◌, length, slice_index_or, unsigned_abs};
 ghost use Rattle.std.specs.Int.{IsGcd};
 ghost use Rattle.std.specs.List.{All};
@@ -100,7 +100,7 @@ impl Short {
         }
     }
 
-    /// The line, with the other sign where this is told.
+    /// The line, with all its numbers negated where `negated` is set.
     pub fn with_sign(self, negated: bool) -> Short
         ensures { result ≡ signed_terms negated self }
     {
@@ -111,7 +111,7 @@ impl Short {
         }
     }
 
-    /// The position of a term, and the sign of its number.
+    /// The position of the term at a place, and how its number compares with 0.
     pub fn sign_at(&self, index: usize) -> (usize, Ordering)
         requires { index < length self.now }
         ensures { IsSignedTerm self.now index result }
@@ -166,7 +166,7 @@ fn fractions(alloc: Global, terms: &[Entry], under: u32) -> Result<Vec<Term>, Al
     Ok(fractions)
 }
 
-/// The number of a position, where the terms name it.
+/// The whole number of a position. None where the terms, whose positions ascend, don't name the position.
 fn whole_at(terms: &[Entry], position: usize) -> Option<i64>
     requires { Ascend terms.now }
     ensures { result ≡ whole_at position terms.now }
@@ -183,7 +183,7 @@ fn whole_at(terms: &[Entry], position: usize) -> Option<i64>
     None
 }
 
-/// The numbers, with the other sign where this is told.
+/// The entries, with their numbers negated where `negated` is set.
 fn signed_numbers(terms: Vec<Entry>, negated: bool) -> Vec<Entry>
     requires { All (λ t. IsSmall t.1) terms.items }
     ensures { result.items ≡ signed_numbers negated terms.items }
@@ -195,7 +195,7 @@ fn signed_numbers(terms: Vec<Entry>, negated: bool) -> Vec<Entry>
     }
 }
 
-/// The numbers with the other sign.
+/// The entries with their numbers negated.
 fn negated_numbers(terms: Vec<Entry>) -> Vec<Entry>
     requires { All (λ t. IsSmall t.1) terms.items }
     ensures { result.items ≡ signed_numbers true terms.items }
@@ -207,7 +207,8 @@ fn negated_numbers(terms: Vec<Entry>) -> Vec<Entry>
     others
 }
 
-/// The line of these terms, where their numbers are small over a small denominator and their positions fit.
+/// The line of these terms as small whole numbers over one small denominator. None where some number isn't such a one,
+/// or a position doesn't fit 32 bits.
 pub fn shortened(alloc: Global, terms: &[Term]) -> Result<Option<Short>, AllocError>
     requires { IsLine terms.now }
     ensures { IfOk result (λ o. IfSome o (λ line. line ≡ terms.now)) }
@@ -218,8 +219,8 @@ pub fn shortened(alloc: Global, terms: &[Term]) -> Result<Option<Short>, AllocEr
     }
 }
 
-/// The line of these terms over a common multiple of their denominators, where their numbers are small and
-/// their positions fit.
+/// The line of these terms over `under`, a common multiple of their denominators. None where a whole number isn't
+/// small, or a position doesn't fit 32 bits.
 fn short_over(alloc: Global, terms: &[Term], under: u32) -> Result<Option<Short>, AllocError>
     requires line { IsLine terms.now }
     requires some { 0 < under }
@@ -276,7 +277,7 @@ fn product(first: i64, second: i64) -> i64
     first * second
 }
 
-/// A part of a fraction, where it's small.
+/// The numerator of a fraction as a number of 64 bits. None where it isn't small.
 fn small_part(part: i128) -> Option<i64>
     ensures part { IfSome result (λ z. z ≡ part) }
     ensures small { IfSome result IsSmall }
@@ -292,7 +293,7 @@ fn small_number(number: i64) -> Option<i64>
     if is_small(number) { Some(number) } else { None }
 }
 
-/// Whether the number is small.
+/// Whether the number's magnitude is below 2^31.
 fn is_small(number: i64) -> bool
     ensures { IsTrue result ↔ IsSmall number }
 {
@@ -300,7 +301,7 @@ fn is_small(number: i64) -> bool
     -limit < number && number < limit
 }
 
-/// A common multiple of the denominators, where it's small.
+/// The least common multiple of the terms' denominators. None where it isn't small.
 fn common_multiple_of(terms: &[Term]) -> Option<u32>
     ensures some { IfSome result (λ under. 0 < under) }
     ensures fits { IfSome result (λ under. under < 2 ^ 31) }
@@ -313,7 +314,7 @@ fn common_multiple_of(terms: &[Term]) -> Option<u32>
     Some(under)
 }
 
-/// The denominator, where it's small.
+/// The denominator, where it fits 32 bits.
 fn small_under(number: &Frac) -> Option<u32>
     ensures some { 0 < number.now.under }
     ensures same { IfSome result (λ under. under ≡ number.now.under) }
@@ -321,7 +322,7 @@ fn small_under(number: &Frac) -> Option<u32>
     u32::try_from(number.denominator()).ok()
 }
 
-/// A common multiple of two numbers, where it's small.
+/// The least common multiple of two numbers above 0. None where it isn't small.
 fn common_multiple(first: u32, second: u32) -> Option<u32>
     requires first { 0 < first }
     requires second { 0 < second }
@@ -339,7 +340,7 @@ fn common_multiple(first: u32, second: u32) -> Option<u32>
     }
 }
 
-/// The greatest common divisor.
+/// The greatest common divisor of two numbers: where one of them is 0, the other one.
 fn common_divisor(first: u32, second: u32) -> u32
     ensures { IsGcd first second result }
 {

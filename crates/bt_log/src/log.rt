@@ -112,7 +112,7 @@ impl Log {
         self.steps.len()
     }
 
-    /// The step at a place.
+    /// The step at a place, from 0.
     pub fn step(&self, n: usize) -> StepView<'_>
         requires { n < length self.now.steps }
         ensures { slice_get self.now.steps n ≡ Some (step_of result) }
@@ -161,7 +161,7 @@ fn keep_both<T: Copy, K>(
     Ok((lits, items))
 }
 
-/// The same numbers in four bytes each. One that doesn't fit is want of memory.
+/// The same numbers in four bytes each. Memory counts as run out where one is 2^32 or more.
 fn narrow_all(alloc: Global, numbers: &[usize]) -> Result<Vec<u32>, AllocError>
     ensures { IfOk result (λ narrow. narrow.items ≡ numbers.now) }
 {
@@ -172,7 +172,7 @@ fn narrow_all(alloc: Global, numbers: &[usize]) -> Result<Vec<u32>, AllocError>
     Ok(narrow)
 }
 
-/// The same number in four bytes. One that doesn't fit is want of memory.
+/// The same number in four bytes. Memory counts as run out where it is 2^32 or more.
 fn narrowed(number: usize) -> Result<u32, AllocError>
     ensures { IfOk result (λ narrow. narrow ≡ number) }
 {

@@ -6,7 +6,7 @@ use crate::log::Log;
 use crate::step::StepView;
 use std::alloc::{AllocError, Global};
 
-/// A mark for each step that is needed.
+/// For each step whether it is needed.
 pub fn needed(alloc: Global, log: &Log) -> Result<Vec<bool>, AllocError>
     ensures { IfOk result (λ marks. AreMarked log.now 0 marks.items) }
 {
@@ -51,7 +51,7 @@ fn mark_of(log: &Log, place: usize, marks: &mut [bool])
     }
 }
 
-/// Marks those of the first so many steps that hints name.
+/// Marks those of the first `place` steps that hints name. The clause of the first step has the number `first`.
 fn mark_named(first: usize, hints: &[u32], place: usize, marks: &mut [bool])
     requires { place ≤ length marks.old }
     ensures { MarksNamed first hints.now place marks.old marks.new }
@@ -61,7 +61,8 @@ fn mark_named(first: usize, hints: &[u32], place: usize, marks: &mut [bool])
     }
 }
 
-/// Marks the step that a hint names, where it is one of the first so many.
+/// Marks the step that a hint names, where it is one of the first `place` steps, whose clauses have the numbers from
+/// `first` on.
 fn mark(first: usize, hint: usize, place: usize, marks: &mut [bool])
     requires { place ≤ length marks.old }
     ensures { MarksNamed first (hint ∷ []) place marks.old marks.new }

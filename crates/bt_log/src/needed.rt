@@ -6,14 +6,15 @@ use crate::log::Log;
 use crate::marking::needed;
 use std::alloc::{AllocError, Global};
 
-/// The places of the steps that are left, in their order, and at each of them its number among these.
+/// The places of the steps that are left, in their order, and a list that has at each of these places its number among
+/// them.
 #[derive(Drop)]
 pub struct Kept {
     pub places: Vec<usize>,
     pub numbers: Vec<usize>,
 }
 
-/// The steps that the last one needs.
+/// The steps that the last one needs, itself among them.
 pub fn kept_of(alloc: Global, log: &Log) -> Result<Kept, AllocError>
     ensures { IfOk result (IsKept log.now) }
 {
@@ -22,7 +23,7 @@ pub fn kept_of(alloc: Global, log: &Log) -> Result<Kept, AllocError>
     Ok(Kept { places, numbers })
 }
 
-/// The places of the steps that the last one needs.
+/// The places of the steps that the last one needs, its own among them.
 fn needed_places(alloc: Global, log: &Log) -> Result<Vec<usize>, AllocError>
     ensures { IfOk result (λ places. AreNeeded log.now places.items) }
 {
@@ -43,7 +44,7 @@ fn marked_places(alloc: Global, marks: &[bool]) -> Result<Vec<usize>, AllocError
     Ok(places)
 }
 
-/// A list of so many numbers, which has the number of each place at that place.
+/// A list of `count` numbers, which has at each of these places the number of the place among them, and 0 elsewhere.
 fn numbers_of(alloc: Global, count: usize, places: &[usize]) -> Result<Vec<usize>, AllocError>
     requires in_order { AllPairs (λ one other. one < other) places.now }
     requires inside { All (λ place. place < count) places.now }

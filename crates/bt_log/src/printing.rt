@@ -10,7 +10,7 @@ use crate::word::Spelled;
 use bt_cnf::Packed;
 use bt_io::{Sink, WriteFault, write_all_of};
 
-/// Writes a step's line.
+/// Writes a step's line: that of a lemma begins with `f`, that of a learnt clause with `r`.
 pub fn print_step<K: Sink>(step: StepView<'_>, sink: &mut K) -> Result<(), WriteFault>
     ensures { WritesText (passage K.held K.faults sink.old sink.new) (step_line (step_of step.entry)) result }
 {
@@ -20,7 +20,7 @@ pub fn print_step<K: Sink>(step: StepView<'_>, sink: &mut K) -> Result<(), Write
     }
 }
 
-/// Writes a head, literals, a 0, words, and an end.
+/// Writes a head, the words of literals, a 0, the words of items, and an end.
 fn print_parts<T: Spelled, K: Sink>(
     head: &[u8],
     lits: &[Packed],

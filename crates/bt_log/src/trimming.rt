@@ -39,7 +39,7 @@ fn add_all(alloc: Global, log: &Log, kept: &Kept, left: &mut Log) -> Result<(), 
     Ok(())
 }
 
-/// Adds a step, renumbered.
+/// Adds the step at a place of the log, with its hints renumbered.
 fn add_again(
     alloc: Global,
     step: StepView<'_>,
@@ -62,7 +62,7 @@ fn add_again(
     }
 }
 
-/// The hints of the step at a place, renumbered.
+/// The hints of the step at a place, renumbered. The clause of the first step has the number `first`.
 fn renamed_all(
     alloc: Global,
     first: usize,
@@ -82,7 +82,8 @@ fn renamed_all(
     Ok(again)
 }
 
-/// A hint of the step at a place, renumbered.
+/// A hint of the step at a place, renumbered. It stays where it names a clause of the formula, or none before the step.
+/// The clause of the first step has the number `first`.
 fn renamed(first: usize, kept: &Kept, place: usize, hint: u32) -> u32
     requires numbered { IsNumbered kept.now }
     requires named { (k : ℕ) → k < place → hint ≡ first + k → Contains kept.now.places.items k }

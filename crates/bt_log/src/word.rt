@@ -29,7 +29,8 @@ impl Model for Word {
 }
 
 impl Word {
-    /// A space, a minus where the sign isn't positive, and a number that is counted from 1 on.
+    /// A space, a minus where the sign isn't positive, and `number` plus 1 in decimal: texts count from 1, and places
+    /// from 0.
     pub fn signed(positive: bool, number: usize) -> Word
         ensures { result ≡ 32 ∷ cond positive (decimal (number + 1)) (45 ∷ decimal (number + 1)) }
     {
@@ -43,7 +44,7 @@ impl Word {
         word
     }
 
-    /// No byte.
+    /// A word without bytes.
     fn new() -> Word
         ensures { result ≡ [] }
     {
@@ -60,6 +61,7 @@ impl Word {
         &self.bytes[..self.len]
     }
 
+    /// Appends bytes, for which the word has room.
     fn push(&mut self, piece: &[u8])
         requires { length self.old + length piece.now ≤ 81 }
         ensures { self.new ≡ self.old ++ piece.now }
@@ -69,7 +71,7 @@ impl Word {
         self.len = end;
     }
 
-    /// A number that is counted from 1 on.
+    /// Appends `number` plus 1 in decimal: texts count from 1, and places from 0.
     fn push_after(&mut self, number: usize)
         requires { length self.old + 39 ≤ 81 }
         ensures { self.new ≡ self.old ++ decimal (number + 1) }

@@ -36,7 +36,7 @@ fn is_row(demand: Demand) -> bool
     }
 }
 
-/// Whether both lines name some end, and both say that ends stand in a row, or neither does.
+/// Whether some end is named by both lines, of which both or neither say that ends stand in a row.
 pub(crate) fn name_one_end(one: Demand, other: Demand) -> bool
     ensures { IsTrue result ↔ NameOneEnd one other }
 {
@@ -61,7 +61,7 @@ fn is_same_end(one: End, other: End) -> bool
     one == other
 }
 
-/// Whether the end is one of those that are named.
+/// Whether the end is one of these ends.
 pub fn names(ends: Ends, end: End) -> bool
     ensures { IsTrue result ↔ Names ends end }
 {
@@ -72,7 +72,7 @@ pub fn names(ends: Ends, end: End) -> bool
     }
 }
 
-/// Whether some input is named.
+/// Whether some input is one of these ends.
 fn names_inputs(ends: Ends) -> bool
     ensures { IsTrue result ↔ ShareEnd Ends.Inputs ends }
 {
@@ -83,7 +83,7 @@ fn names_inputs(ends: Ends) -> bool
     }
 }
 
-/// Whether some output is named.
+/// Whether some output is one of these ends.
 fn names_outputs(ends: Ends) -> bool
     ensures { IsTrue result ↔ ShareEnd Ends.Outputs ends }
 {
@@ -94,7 +94,7 @@ fn names_outputs(ends: Ends) -> bool
     }
 }
 
-/// Whether some end is named by both.
+/// Whether some end is one of both.
 fn share_end(one: Ends, other: Ends) -> bool
     ensures { IsTrue result ↔ ShareEnd one other }
 {

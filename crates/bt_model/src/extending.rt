@@ -6,12 +6,14 @@ pub fn extends()
     ensures { Extends }
 {}
 
-/// Where there is one of some width and height, there is one of that height and that width.
+/// Where a request without pins, sides, rows and blocks has a layout in a rectangle, it has one in the rectangle whose
+/// width is that height and whose height is that width.
 pub fn is_exchanged()
     ensures { ExtendsExchanged }
 {}
 
-/// Where there is none in a rectangle, there is none in any that fits into it, as it is or turned.
+/// Where a request without pins, sides, rows and blocks has no layout in a rectangle, it has none in any that fits into
+/// it, as it is or turned.
 pub fn none_inside()
     ensures { HasNoneInside }
 {}

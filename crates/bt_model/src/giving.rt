@@ -8,7 +8,7 @@ ghost use Rattle.bt_model.specs.Handing.{FeedsPart, Feeds, Hands};
 use crate::plain::{Plain, covers, is_kind};
 use bt_parts::{Cell, Kind, Part, accepts, cells_of, front, other_end, side};
 
-/// The exit with which the part is a pair, where it is an entrance that has one.
+/// The index of the exit with which part `a` is a pair, where it is an entrance that has one; else None.
 pub(crate) fn exit_of(parts: &[Part], a: usize) -> Option<usize>
     requires within { a < length parts.now }
     requires in_range { AreInRange parts.now }
@@ -23,7 +23,7 @@ pub(crate) fn exit_of(parts: &[Part], a: usize) -> Option<usize>
     }
 }
 
-/// Whether the two parts are the entrance and the exit of a pair.
+/// Whether part `a` is the entrance and part `b` the exit of a pair.
 pub fn pair(parts: &[Part], a: usize, b: usize) -> bool
     requires a_within { a < length parts.now }
     requires b_within { b < length parts.now }
@@ -37,7 +37,8 @@ pub fn pair(parts: &[Part], a: usize, b: usize) -> bool
     }
 }
 
-/// Whether this cell of the giver faces the taker, which takes.
+/// Whether the giver hands to the taker from this cell of its: it is no entrance, the cell faces the taker, and the
+/// taker takes from there.
 pub(crate) fn feeds_from(giver: &Part, half: Cell, taker: &Part) -> bool
     requires giver { IsInRange giver.now.cell }
     requires taker { IsInRange taker.now.cell }
@@ -49,7 +50,7 @@ pub(crate) fn feeds_from(giver: &Part, half: Cell, taker: &Part) -> bool
         && accepts(taker.kind, side(giver.dir, taker.dir))
 }
 
-/// Whether one part is a feeder of the other.
+/// Whether part `p` hands to part `q` over the ground, from one of its cells.
 fn feeds(parts: &[Part], p: usize, q: usize) -> bool
     requires p_within { p < length parts.now }
     requires q_within { q < length parts.now }
@@ -68,7 +69,7 @@ fn feeds(parts: &[Part], p: usize, q: usize) -> bool
     }
 }
 
-/// Whether one part hands what it carries to the other.
+/// Whether part `a` hands what it carries to part `b`, over the ground or through it.
 pub fn hands(parts: &[Part], a: usize, b: usize) -> bool
     requires a_within { a < length parts.now }
     requires b_within { b < length parts.now }

@@ -6,7 +6,7 @@ ghost use Rattle.bt_model.specs.Shown.{Naming, Shows, IsNumbered};
 
 use crate::request::{MOST_ACROSS, MOST_CELLS, MOST_EDGES, MOST_ENCODED, MOST_SPLITTERS};
 
-/// A layout shows the network that is numbered for it, under the numbering as naming.
+/// A layout shows the network that is numbered for it, with the numbering as the naming.
 pub fn numbered_shows()
     ensures { (parts : List Part) (net : Network) (naming : Naming)
         → IsNumbered parts net naming → Shows parts net naming }

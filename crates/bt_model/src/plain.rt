@@ -36,7 +36,7 @@ pub(crate) fn covers(part: &Part, cell: Cell) -> bool
     }
 }
 
-/// The first part that covers the cell.
+/// The index of the first part that covers the cell. None where no part does.
 pub(crate) fn part_at(parts: &[Part], cell: Cell) -> Option<usize>
     requires { AreInRange parts.now }
     ensures there { MatchOption result ((i : ℕ) → IsAt parts.now i cell → ⊥) (λ i. IsAt parts.now i cell) }
@@ -59,10 +59,12 @@ pub(crate) struct Plain<'a> {
 impl Layout for Plain<'_> {
     ghost parts = { λ plain. plain.parts.now };
 
+    /// The part at this place of the list.
     fn part(&self, i: usize) -> &Part {
         &self.parts[i]
     }
 
+    /// The index of the first part of the list that covers the cell. None where no part does.
     fn at(&self, cell: Cell) -> Option<usize> {
         part_at(self.parts, cell)
     }

@@ -16,7 +16,7 @@ use crate::demanding::{ends_of, line_of, name_one_end};
 use bt_net::{Block, Demand, End, Ends, Net};
 use bt_parts::Rect;
 
-/// The first edge with another cap than 1.
+/// The number of the first edge with another cap than 1, where there is one.
 pub(crate) fn other_cap(net: &Net) -> Option<usize>
     ensures { IsLeastIfAny (HasOtherCap net.now) result }
 {
@@ -55,7 +55,9 @@ pub(crate) fn refused_block(rect: Rect, demands: &[Demand], blocks: &[Block]) ->
     least
 }
 
-/// The line that is refused for the pin or side at this place, seen beside those before it.
+/// The least line that is refused where the pin, side or row at this place is looked at: its own where it names an end
+/// or a cell that is not there, else, of it and each one before it in the list that names the same end, the later. None
+/// where it is not refused.
 fn line_refused_by_demand(net: &Net, rect: Rect, demands: &[Demand], k: usize) -> Option<usize>
     requires { k < length demands.now }
     ensures { IsLeastIfAny
@@ -75,7 +77,9 @@ fn line_refused_by_demand(net: &Net, rect: Rect, demands: &[Demand], k: usize) -
     least
 }
 
-/// The line that is refused for the block at this place, seen beside the pins and the blocks before it.
+/// The least line that is refused where the block at this place is looked at: its own where its cell lies outside or is
+/// that of a pin, else, of it and each block before it in the list on the same cell, the later. None where it is not
+/// refused.
 fn line_refused_by_block(
     rect: Rect,
     demands: &[Demand],
@@ -106,7 +110,7 @@ fn is_out_of_place(net: &Net, rect: Rect, demand: Demand) -> bool
     !has_ends(net, ends_of(demand)) || !is_pinned_inside(rect, demand)
 }
 
-/// Whether a cell that is named lies in the rectangle.
+/// Whether the cell of a pin lies in the rectangle. Sides and rows name no cell, so of them it holds.
 fn is_pinned_inside(rect: Rect, demand: Demand) -> bool
     ensures { IsTrue result ↔ IsPinnedInside rect demand }
 {
@@ -116,7 +120,7 @@ fn is_pinned_inside(rect: Rect, demand: Demand) -> bool
     }
 }
 
-/// Whether the network has the ends that are named.
+/// Whether the network has the ends that are named: all inputs, or all outputs, always are there.
 fn has_ends(net: &Net, ends: Ends) -> bool
     ensures { IsTrue result ↔ HasEnds net.now ends }
 {
@@ -189,7 +193,7 @@ fn may_precede(line: usize, least: Option<usize>) -> bool
     }
 }
 
-/// The earlier of two lines, where there are two.
+/// The earlier of two lines; where one is None, the other.
 fn earlier(one: Option<usize>, other: Option<usize>) -> Option<usize>
     ensures { result ≡ lesser one other }
 {

@@ -17,10 +17,11 @@ pub const MOST_EDGES: usize = 1024;
 /// The most splitters of the network that a request asks for.
 pub const MOST_SPLITTERS: u32 = 512;
 
-/// A formula is written of a request whose rectangle has at most so many cells; of a greater one only where it has no room.
+/// A formula is written of a request whose rectangle has at most so many cells; of a greater one only where splitters
+/// and ends have no room in it.
 pub const MOST_CELLS: u32 = 1024;
 
-/// And whose network has at most so many edges, and at most so many splitters.
+/// The network of a request of which a formula is so written has at most so many edges, and at most so many splitters.
 pub const MOST_ENCODED: usize = 128;
 
 /// What a layout is asked for: a network, the rectangle with the corner (0, 0) in which its parts are to

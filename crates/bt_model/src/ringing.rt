@@ -10,7 +10,7 @@ use crate::giving::{exit_of, feeds_from};
 use crate::plain::{is_kind, part_at};
 use bt_parts::{Kind, Part, front};
 
-/// Whether the giver's cell faces the taker, which is no splitter and takes.
+/// Whether the giver's own cell faces the taker, which is no splitter and takes from there.
 fn feeds_link(giver: &Part, taker: &Part) -> bool
     requires giver { IsInRange giver.now.cell }
     requires taker { IsInRange taker.now.cell }
@@ -20,7 +20,7 @@ fn feeds_link(giver: &Part, taker: &Part) -> bool
     taker.kind != Kind::Splitter && feeds_from(giver, giver.cell, taker)
 }
 
-/// The belt or underground piece to which this one hands.
+/// The index of the belt or underground piece to which part `i` hands. None where it hands to none, or is a splitter.
 fn next_link(parts: &[Part], i: usize) -> Option<usize>
     requires within { i < length parts.now }
     requires in_range { AreInRange parts.now }

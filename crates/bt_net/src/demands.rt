@@ -11,7 +11,8 @@ use crate::rows::read_row;
 use crate::sides::read_side;
 use crate::wiring::Wiring;
 
-/// The pin, the side or the row of a line with this number that names ends of the network, where it is admitted.
+/// The pin, the side or the row of a line with this number. None where such a line is not admitted, where it is another
+/// line, or where it names an end that the network lacks.
 pub fn demand_here(
     admitted: Admitted,
     wiring: &Wiring,
@@ -30,7 +31,8 @@ pub fn demand_here(
     }
 }
 
-/// The side or the row of a line with this number.
+/// The side or the row of a line with this number. None where it is another line, or names an end that the network
+/// lacks.
 fn side_or_row(wiring: &Wiring, number: usize, line: &[u8]) -> Option<Demand>
     requires { HasSmallSizes wiring.now }
     ensures some { IfSome result (IsDemandHere Admitted.Sides wiring.now number line.now) }
@@ -46,7 +48,8 @@ fn side_or_row(wiring: &Wiring, number: usize, line: &[u8]) -> Option<Demand>
     }
 }
 
-/// The pin, the side or the row of a line with this number.
+/// The pin, the side or the row of a line with this number. None where it is another line, or names an end that the
+/// network lacks.
 fn read_demand(wiring: &Wiring, number: usize, line: &[u8]) -> Option<Demand>
     requires { HasSmallSizes wiring.now }
     ensures some { IfSome result (IsDemandLine wiring.now number line.now) }
@@ -58,7 +61,7 @@ fn read_demand(wiring: &Wiring, number: usize, line: &[u8]) -> Option<Demand>
     }
 }
 
-/// The block of a line with this number, where blocks are admitted.
+/// The block of a line with this number. None where blocks are not admitted, or it is another line.
 pub fn block_here(admitted: Admitted, number: usize, line: &[u8]) -> Option<Block>
     ensures some { IfSome result (IsBlockHere admitted number line.now) }
     ensures none { IfNone result ((block : ABlock) → IsBlockHere admitted number line.now block → ⊥) }

@@ -11,7 +11,8 @@ use bt_frac::read_whole;
 use bt_text::{after_word, split_once};
 use std::alloc::Global;
 
-/// The network that the first line of a text begins, without edges yet.
+/// The network without edges whose numbers of inputs, outputs and splitters the text's first line `net I O S` names.
+/// Another line is refused, and so is a number above `MOST_OF_EACH`.
 pub fn read_header(alloc: Global, line: &[u8]) -> Result<Wiring, NetFault>
     ensures { UnlessMemory NetFault.Memory (IsHeaderRead line.now) result }
 {
@@ -31,7 +32,7 @@ pub fn read_header(alloc: Global, line: &[u8]) -> Result<Wiring, NetFault>
     Ok(wiring)
 }
 
-/// The numbers of a header, where those past `u128::MAX` are that.
+/// The numbers of inputs, outputs and splitters that a header names, where those past `u128::MAX` are read as that.
 #[derive(Clone, Copy)]
 struct Sizes {
     inputs: u128,
@@ -39,7 +40,7 @@ struct Sizes {
     splitters: u128,
 }
 
-/// The numbers of a line that is a header, however large they are.
+/// The three numbers of a line `net I O S`, however large they are. None where it is another line.
 fn read_sizes(line: &[u8]) -> Option<Sizes>
     ensures some { IfSome result (λ s. AreSizes line.now s.inputs s.outputs s.splitters) }
     ensures none { IfNone result ((i o s : ℕ) → IsHeader line.now i o s → ⊥) }

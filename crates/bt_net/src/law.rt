@@ -8,7 +8,7 @@ ghost use Rattle.bt_net.specs.Longer.{Stays, StaysRefused};
 
 use crate::network::{MOST_CAP, MOST_OF_EACH, NO_COORDINATE};
 
-/// Bytes begin with the text of one network at most, and what follows it is one.
+/// Bytes begin with the text of at most one network, and only in one way: one text follows it.
 pub fn one_net()
     ensures { (bytes : List ℕ) (m n : Network) (r s : List ℕ) → IsNetwork m → IsNetwork n
         → BeginsWithNet bytes m r → BeginsWithNet bytes n s → (m ≡ n) × (r ≡ s) }
@@ -21,7 +21,7 @@ pub fn printed_is_read()
     ensures read { PrintedIsRead }
 {}
 
-/// Of a text without pins, sides, rows, blocks and preferred edges the same is told, whatever may stand.
+/// Of a text without pins, sides, rows, blocks and preferred edges the same is told, whichever lines are admitted.
 pub fn read_alike()
     ensures { ReadAlike }
 {}

@@ -68,14 +68,14 @@ impl Net {
         })
     }
 
-    /// The number of inputs, from 1.
+    /// The number of inputs, which is at least 1.
     pub fn inputs(&self) -> u32
         ensures { result ≡ self.now.inputs }
     {
         self.inputs
     }
 
-    /// The number of outputs, from 1.
+    /// The number of outputs, which is at least 1.
     pub fn outputs(&self) -> u32
         ensures { result ≡ self.now.outputs }
     {
@@ -89,7 +89,7 @@ impl Net {
         self.splitters
     }
 
-    /// The out edge that a splitter prefers, where it prefers one.
+    /// The number of the out edge that a splitter prefers, where it prefers one; else None.
     pub fn give(&self, splitter: usize) -> Option<usize>
         ensures { result ≡ give_of self.now splitter }
     {
@@ -99,7 +99,7 @@ impl Net {
         }
     }
 
-    /// The in edge that a splitter prefers, where it prefers one.
+    /// The number of the in edge that a splitter prefers, where it prefers one; else None.
     pub fn take(&self, splitter: usize) -> Option<usize>
         ensures { result ≡ take_of self.now splitter }
     {
@@ -109,8 +109,8 @@ impl Net {
         }
     }
 
-    /// The same network, in which each splitter prefers these edges: one of its out edges or none, and one
-    /// of its in edges or none.
+    /// The same network, in which each splitter prefers the edges that the lists name at its number: one of its out
+    /// edges or none, and one of its in edges or none.
     pub fn preferring(self, gives: Vec<Option<usize>>, takes: Vec<Option<usize>>) -> Net
         requires { IsPrioritised (preferring self gives.items takes.items) }
         ensures { result ≡ preferring self gives.items takes.items }

@@ -15,7 +15,8 @@ use crate::words::{number_behind, read_number};
 use bt_parts::Dir;
 use bt_text::{after_word, split_once};
 
-/// The pin of a pin line that has this number and names an end of the network.
+/// The pin of a line `pin E X Y` or `pin E X Y D` with this number. None where it is another line, or names an end that
+/// the network lacks.
 pub fn read_pin(wiring: &Wiring, number: usize, line: &[u8]) -> Option<Pin>
     requires { HasSmallSizes wiring.now }
     ensures some { IfSome result (IsPinLine wiring.now number line.now) }
@@ -36,7 +37,7 @@ pub fn read_pin(wiring: &Wiring, number: usize, line: &[u8]) -> Option<Pin>
     })
 }
 
-/// The block of a block line that has this number.
+/// The block of a line `block X Y` with this number. None where it is another line.
 pub fn read_block(number: usize, line: &[u8]) -> Option<Block>
     ensures some { IfSome result (IsBlockLine number line.now) }
     ensures none { IfNone result ((block : Block) → IsBlockLine number line.now block → ⊥) }
@@ -49,7 +50,8 @@ pub fn read_block(number: usize, line: &[u8]) -> Option<Block>
     })
 }
 
-/// An end: `i` and the number of an input, or `o` and that of an output.
+/// The end that a word names: `i` and the number of an input, or `o` and that of an output. None where it is another
+/// word.
 pub fn read_end(word: &[u8]) -> Option<End>
     ensures some { IfSome result (λ e. word.now ≡ end_text e) }
     ensures fits { IfSome result EndFits }
@@ -64,7 +66,7 @@ pub fn read_end(word: &[u8]) -> Option<End>
     }
 }
 
-/// The two numbers of a cell, and the direction where there is one.
+/// The x and the y of a cell, and the direction where a third word names one. None where the words are others.
 fn read_cell_and_way(words: &[u8]) -> Option<(u32, u32, Option<Dir>)>
     ensures some { IfSome result (λ found. AreCellAndWay words.now found.0 found.1 found.2) }
     ensures none { IfNone result ((x y : ℕ) (way : Option Dir) → AreCellAndWay words.now x y way → ⊥) }
@@ -75,7 +77,7 @@ fn read_cell_and_way(words: &[u8]) -> Option<(u32, u32, Option<Dir>)>
     Some((x, y, way))
 }
 
-/// The second number of a cell, and the direction where there is one.
+/// The y of a cell, and the direction where a second word names one. None where the words are others.
 fn read_row_and_way(words: &[u8]) -> Option<(u32, Option<Dir>)>
     ensures some { IfSome result (λ found. AreRowAndWay words.now found.0 found.1) }
     ensures none { IfNone result ((y : ℕ) (way : Option Dir) → AreRowAndWay words.now y way → ⊥) }
@@ -86,7 +88,7 @@ fn read_row_and_way(words: &[u8]) -> Option<(u32, Option<Dir>)>
     Some((read_coordinate(y)?, Some(read_dir(way)?)))
 }
 
-/// A direction by its word.
+/// The direction that a word names. None where it is no word of a direction.
 pub fn read_dir(word: &[u8]) -> Option<Dir>
     ensures some { IfSome result (λ dir. word.now ≡ dir_text dir) }
     ensures none { IfNone result ((dir : Dir) → word.now ≡ dir_text dir → ⊥) }
@@ -111,7 +113,7 @@ pub fn is_word(word: &[u8], other: &[u8]) -> bool
     word == other
 }
 
-/// A whole number of at most nine digits.
+/// The whole number of at most nine digits that a word spells. None where it spells none.
 fn read_coordinate(word: &[u8]) -> Option<u32>
     ensures some { IfSome result (λ n. (word.now ≡ decimal n) × (n < NO_COORDINATE)) }
     ensures none { IfNone result ((n : ℕ) → n < NO_COORDINATE → word.now ≡ decimal n → ⊥) }

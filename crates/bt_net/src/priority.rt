@@ -17,7 +17,8 @@ pub struct Preferred {
     pub takes: Vec<Option<usize>>,
 }
 
-/// The edge that such a list has for a splitter, where it has one.
+/// The edge that a list of preferred edges, by the numbers of splitters, has for a splitter. None where it has none, or
+/// the list is too short.
 pub fn edge_at(edges: &[Option<usize>], splitter: usize) -> Option<usize>
     ensures { result ≡ preferred_in edges.now splitter }
 {
@@ -27,7 +28,7 @@ pub fn edge_at(edges: &[Option<usize>], splitter: usize) -> Option<usize>
     }
 }
 
-/// Of so many splitters none prefers an edge.
+/// A list of preferred edges in which none of so many splitters prefers one.
 pub fn none_each(alloc: Global, splitters: usize) -> Result<Vec<Option<usize>>, AllocError>
     ensures { IfOk result (λ edges. edges.items ≡ none_each splitters) }
 {
@@ -38,7 +39,8 @@ pub fn none_each(alloc: Global, splitters: usize) -> Result<Vec<Option<usize>>, 
     Ok(edges)
 }
 
-/// Whether the splitter prefers no edge yet where the priority names one.
+/// Whether the priority's splitter prefers no out edge yet, where the priority names an out edge; or no in edge yet,
+/// where it names an in edge.
 pub fn is_free(preferred: &Preferred, priority: Priority) -> bool
     ensures { (n : Network) → IsTrue result
         ↔ IsFreeFor (preferring n preferred.now.gives.items preferred.now.takes.items) priority }
@@ -49,7 +51,7 @@ pub fn is_free(preferred: &Preferred, priority: Priority) -> bool
     }
 }
 
-/// Lets the splitter prefer the edge too.
+/// Lets the priority's splitter prefer its edge, as an out edge or as an in edge.
 pub fn prefer(preferred: &mut Preferred, priority: Priority)
     requires { HasPlace preferred.old priority }
     ensures { (n : Network) → preferring n preferred.new.gives.items preferred.new.takes.items
@@ -65,7 +67,7 @@ pub fn prefer(preferred: &mut Preferred, priority: Priority)
     }
 }
 
-/// The priority of a priority line.
+/// The priority of a line `give sN E` or `take sN E`. None where it is another line.
 pub fn read_priority(line: &[u8]) -> Option<Priority>
     ensures some { IfSome result (λ p. line.now ≡ priority_text p) }
     ensures fits { IfSome result PriorityFits }
@@ -80,7 +82,8 @@ pub fn read_priority(line: &[u8]) -> Option<Priority>
     }
 }
 
-/// The priority of an out edge, by the words behind `give s`.
+/// The priority of an out edge, by the words behind `give s`: the numbers of the splitter and of the edge. None where
+/// they are other words.
 fn read_give(words: &[u8]) -> Option<Priority>
     ensures some { IfSome result (λ p. codes "give s" ++ words.now ≡ priority_text p) }
     ensures fits { IfSome result PriorityFits }
@@ -93,7 +96,8 @@ fn read_give(words: &[u8]) -> Option<Priority>
     }
 }
 
-/// The priority of an in edge, by the words behind `take s`.
+/// The priority of an in edge, by the words behind `take s`: the numbers of the splitter and of the edge. None where
+/// they are other words.
 fn read_take(words: &[u8]) -> Option<Priority>
     ensures some { IfSome result (λ p. codes "take s" ++ words.now ≡ priority_text p) }
     ensures fits { IfSome result PriorityFits }
@@ -106,7 +110,7 @@ fn read_take(words: &[u8]) -> Option<Priority>
     }
 }
 
-/// Two numbers with a space between them.
+/// The two numbers, with a space between them, that the words spell. None where they are other words.
 fn read_numbers(words: &[u8]) -> Option<(u32, u32)>
     ensures some { IfSome result (λ found. words.now ≡ decimal found.0 ++ codes " " ++ decimal found.1) }
     ensures none { IfNone result ((k a : ℕ) → k < 2 ^ 32 → a < 2 ^ 32

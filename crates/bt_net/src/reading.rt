@@ -68,7 +68,8 @@ struct Items<'a> {
     rest: &'a [u8],
 }
 
-/// What the lines at the front of a text say, behind the edges, and what follows them.
+/// What the lines of priorities, pins, sides, rows and blocks at the front of a text say, which stand behind those of
+/// the edges, and what follows them.
 fn read_items<'a>(
     alloc: Global,
     admitted: Admitted,
@@ -101,7 +102,7 @@ fn read_items<'a>(
     })
 }
 
-/// What so many lines of priorities say, and what follows them.
+/// What `count` lines of priorities say, and what follows them.
 #[derive(Drop)]
 struct Priorities<'a> {
     preferred: Preferred,
@@ -109,7 +110,8 @@ struct Priorities<'a> {
     rest: &'a [u8],
 }
 
-/// What the priority lines at the front of a text say, behind the edges, and what follows them.
+/// What the lines of priorities at the front of a text say, which stand behind those of the edges, up to the first line
+/// that is none or may not stand; and what follows them.
 fn read_priorities<'a>(
     alloc: Global,
     admitted: Admitted,
@@ -144,7 +146,8 @@ fn read_priorities<'a>(
     }
 }
 
-/// The priority of this line, where it may come next.
+/// The priority of this line. None where no priorities are admitted, where it is another line, where the splitter lacks
+/// the edge, or where it prefers an edge of that kind already.
 fn next_priority(
     admitted: Admitted,
     wiring: &Wiring,
@@ -162,7 +165,7 @@ fn next_priority(
     }
 }
 
-/// Whether lines of priorities may stand.
+/// Whether lines of priorities may stand in the text.
 fn admits_priorities(admitted: Admitted) -> bool
     ensures { IsTrue result ↔ AdmitsPriorities admitted }
 {
@@ -172,7 +175,8 @@ fn admits_priorities(admitted: Admitted) -> bool
     }
 }
 
-/// The priority of this line, where its splitter has the edge and is free for it.
+/// The priority of this line. None where it is another line, where the splitter lacks the edge, or where it prefers an
+/// edge of that kind already.
 fn next_owned(wiring: &Wiring, preferred: &Preferred, line: &[u8]) -> Option<Priority>
     requires small { HasSmallSizes wiring.now }
     requires few { length wiring.now.edges ≤ MOST_OF_EACH }
@@ -186,7 +190,8 @@ fn next_owned(wiring: &Wiring, preferred: &Preferred, line: &[u8]) -> Option<Pri
     }
 }
 
-/// Adds the edges of the edge lines at the front of a text, and gives what follows them.
+/// Adds the edges of the edge lines at the front of a text, and gives what follows them. More than `MOST_OF_EACH` edges
+/// are refused.
 fn read_edges<'a>(wiring: &mut Wiring, text: &'a [u8]) -> Result<&'a [u8], NetFault>
     requires none { wiring.old.edges ≡ [] }
     requires small { HasSmallSizes wiring.old }
@@ -208,7 +213,8 @@ fn read_edges<'a>(wiring: &mut Wiring, text: &'a [u8]) -> Result<&'a [u8], NetFa
     }
 }
 
-/// The edge of this line, where it may come next.
+/// The edge of this line. None where it is no edge line, or where the network lacks its start or its target or has no
+/// room for an edge there.
 fn next_edge(wiring: &Wiring, line: &[u8]) -> Option<Edge>
     requires { HasSmallSizes wiring.now }
     ensures { IsNextEdge wiring.now line.now result }
@@ -221,8 +227,8 @@ fn next_edge(wiring: &Wiring, line: &[u8]) -> Option<Edge>
     }
 }
 
-/// The pins, sides and rows of the lines at the front of a text, of which the first has this number, and what follows
-/// them.
+/// The pins, sides and rows of the lines at the front of a text, up to the first line that is none or may not stand,
+/// and what follows them. `first` is the number of the first of these lines.
 fn read_demands<'a>(
     alloc: Global,
     admitted: Admitted,
@@ -248,8 +254,8 @@ fn read_demands<'a>(
     }
 }
 
-/// The blocks of the block lines at the front of a text, of which the first has this number, and what
-/// follows them.
+/// The blocks of the lines at the front of a text, up to the first line that is none or may not stand, and what follows
+/// them. `first` is the number of the first of these lines.
 fn read_blocks<'a>(
     alloc: Global,
     admitted: Admitted,
@@ -273,8 +279,8 @@ fn read_blocks<'a>(
     }
 }
 
-/// What follows the line `end` at the front of a text, where the network may end there. The line has this
-/// number.
+/// What follows the line `end` at the front of a text, which has this number. It is refused where it is another line,
+/// or where some input or output has no edge.
 fn read_end<'a>(wiring: &Wiring, number: usize, text: &'a [u8]) -> Result<&'a [u8], NetFault>
     ensures { IsEndRead wiring.now number text.now (seen (λ rest. rest.now) result) }
 {

@@ -8,7 +8,7 @@ use crate::network::{EndKind, Row};
 use crate::pins::is_word;
 use bt_text::after_word;
 
-/// The row of a row line that has this number.
+/// The row that a line `row inputs` or `row outputs` with this number asks for. None where it is another line.
 pub fn read_row(number: usize, line: &[u8]) -> Option<Row>
     ensures some { IfSome result (IsRowLine number line.now) }
     ensures none { IfNone result ((row : Row) → IsRowLine number line.now row → ⊥) }
@@ -17,7 +17,7 @@ pub fn read_row(number: usize, line: &[u8]) -> Option<Row>
     Some(Row { kind, line: number })
 }
 
-/// A kind of ends by its word.
+/// The kind of ends that a word names, `inputs` or `outputs`. None where it is another word.
 fn read_kind(word: &[u8]) -> Option<EndKind>
     ensures some { IfSome result (λ kind. word.now ≡ kind_text kind) }
     ensures none { IfNone result ((kind : EndKind) → word.now ≡ kind_text kind → ⊥) }

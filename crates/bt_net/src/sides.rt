@@ -11,7 +11,8 @@ use crate::pins::{is_word, read_dir, read_end};
 use crate::wiring::Wiring;
 use bt_text::{after_word, split_once};
 
-/// The side of a side line that has this number and names ends of the network.
+/// The side of a line `side E D` with this number. None where it is another line, or names an end that the network
+/// lacks.
 pub fn read_side(wiring: &Wiring, number: usize, line: &[u8]) -> Option<Side>
     requires { HasSmallSizes wiring.now }
     ensures some { IfSome result (IsSideLine wiring.now number line.now) }
@@ -30,7 +31,8 @@ pub fn read_side(wiring: &Wiring, number: usize, line: &[u8]) -> Option<Side>
     })
 }
 
-/// Ends: `inputs` or `outputs` for each of a kind, or one.
+/// The ends that a word names: `inputs` or `outputs` for each of a kind, or a single end. None where it is another
+/// word.
 fn read_ends(word: &[u8]) -> Option<Ends>
     ensures some { IfSome result (λ ends. word.now ≡ ends_text ends) }
     ensures fits { IfSome result EndsFit }
@@ -45,7 +47,7 @@ fn read_ends(word: &[u8]) -> Option<Ends>
     Some(Ends::One(read_end(word)?))
 }
 
-/// Whether the network has the ends that are named.
+/// Whether the network has the ends that are named: all inputs, or all outputs, always are there.
 fn has_ends(wiring: &Wiring, ends: Ends) -> bool
     ensures { IsTrue result ↔ HasEnds wiring.now ends }
 {

@@ -9,7 +9,8 @@ use crate::network::{Edge, End, Priority, Start, Target};
 use std::alloc::{AllocError, Global};
 use std::marker::Model;
 
-/// The edges of a network while they are read, and how many there are at each end.
+/// The edges of a network while they are read, and how many of them are at each input and each output, and leave and
+/// enter each splitter.
 #[derive(Drop)]
 pub struct Wiring {
     inputs: Vec<u8>,
@@ -36,7 +37,7 @@ impl Wiring {
     ghost use Rattle.bt_net.specs.Priorities.{Owns};
     ghost use Rattle.bt_net.specs.Wiring.{IsPartlyWired, with_edge, HasSmallSizes};
 
-    /// No edges yet.
+    /// A network of so many inputs, outputs and splitters, which has no edges yet.
     pub fn new(
         alloc: Global,
         inputs: u32,
@@ -79,7 +80,8 @@ impl Wiring {
         self.leaving.len()
     }
 
-    /// Whether the splitter of a priority is one of the network, and the edge one of its own.
+    /// Whether the priority's edge is an out edge of its splitter, where the priority gives, or an in edge of it, where
+    /// it takes. False where there is no such edge or splitter.
     pub fn owns(&self, priority: Priority) -> bool
         ensures { IsTrue result ↔ Owns self.now priority }
     {
@@ -95,7 +97,7 @@ impl Wiring {
         }
     }
 
-    /// Whether this edge may come next.
+    /// Whether this edge may be added: both its start and its target are there, and have room for an edge.
     pub fn admits(&self, edge: Edge) -> bool
         requires { IsCap edge.cap }
         ensures { IsTrue result ↔ IsPartlyWired (with_edge self.now edge) }
@@ -105,7 +107,7 @@ impl Wiring {
         start && target
     }
 
-    /// Adds an edge that may come next. Where memory runs out nothing changes.
+    /// Adds an edge that `admits` lets in. Where memory runs out nothing changes.
     pub fn push(&mut self, edge: Edge) -> Result<(), AllocError>
         requires { IsPartlyWired (with_edge self.old edge) }
         ensures ok { OnOk result (self.new ≡ with_edge self.old edge) }
@@ -117,7 +119,7 @@ impl Wiring {
         Ok(())
     }
 
-    /// The network of these edges.
+    /// The network of these edges, in which no splitter prefers an edge.
     pub fn into_net(self) -> Result<Net, NetFault>
         requires wired { IsWired self }
         requires small { HasSmallSizes self }
@@ -175,7 +177,7 @@ fn has_place(tally: &[u8], place: u32) -> bool
     (place as usize) < tally.len()
 }
 
-/// Whether the tally has this place, with fewer than that many.
+/// Whether the tally has this place, and counts fewer than `most` edges there.
 fn is_below(tally: &[u8], place: u32, most: u8) -> bool
     ensures { IsTrue result ↔ IsBelow tally.now place most }
 {

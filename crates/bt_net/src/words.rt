@@ -11,7 +11,7 @@ use crate::network::{Edge, MOST_CAP, Start, Target};
 use bt_frac::read_whole;
 use bt_text::{after_word, split_once};
 
-/// The edge of an edge line, with cap 1 where none is written.
+/// The edge of a line `edge S T` or `edge S T C`, from S to T, with the cap C or else 1. None where it is another line.
 pub fn read_edge(line: &[u8]) -> Option<Edge>
     ensures some { IfSome result (IsEdgeLine line.now) }
     ensures fits { IfSome result EdgeFits }
@@ -24,7 +24,7 @@ pub fn read_edge(line: &[u8]) -> Option<Edge>
     Some(Edge { start, target, cap })
 }
 
-/// The target of an edge and its cap, which is 1 where none is written.
+/// The target of an edge and its cap, which is 1 where none is written. None where the words are others.
 fn read_target_and_cap(words: &[u8]) -> Option<(Target, u32)>
     ensures some { IfSome result (λ found. IsTargetAndCap words.now found.0 found.1) }
     ensures fits { IfSome result (λ found. TargetFits found.0 × IsCap found.1) }
@@ -37,7 +37,7 @@ fn read_target_and_cap(words: &[u8]) -> Option<(Target, u32)>
     Some((read_target(target)?, read_cap(cap)?))
 }
 
-/// A cap: a whole number from 1 to `MOST_CAP`.
+/// The cap that a word spells: a whole number from 1 to `MOST_CAP`. None where it spells another or none.
 fn read_cap(word: &[u8]) -> Option<u32>
     ensures some { IfSome result (λ cap. (word.now ≡ decimal cap) × IsCap cap) }
     ensures none { IfNone result ((cap : ℕ) → IsCap cap → word.now ≡ decimal cap → ⊥) }
@@ -48,7 +48,7 @@ fn read_cap(word: &[u8]) -> Option<u32>
     }
 }
 
-/// The start of an edge: `i` and the number of an input, or `s` and that of a splitter.
+/// The start of an edge: `i` and the number of an input, or `s` and that of a splitter. None where it is another word.
 fn read_start(word: &[u8]) -> Option<Start>
     ensures some { IfSome result (λ s. word.now ≡ start_text s) }
     ensures fits { IfSome result StartFits }
@@ -63,7 +63,8 @@ fn read_start(word: &[u8]) -> Option<Start>
     }
 }
 
-/// The target of an edge: `s` and the number of a splitter, or `o` and that of an output.
+/// The target of an edge: `s` and the number of a splitter, or `o` and that of an output. None where it is another
+/// word.
 fn read_target(word: &[u8]) -> Option<Target>
     ensures some { IfSome result (λ t. word.now ≡ target_text t) }
     ensures fits { IfSome result TargetFits }
@@ -78,7 +79,7 @@ fn read_target(word: &[u8]) -> Option<Target>
     }
 }
 
-/// The number behind this letter, with which the word has to begin.
+/// The number behind this letter, with which the word has to begin. None where it is another word.
 pub fn number_behind(word: &[u8], letter: u8) -> Option<u32>
     ensures some { IfSome result (λ n. word.now ≡ letter ∷ decimal n) }
     ensures none { IfNone result ((n : ℕ) → n < 2 ^ 32 → word.now ≡ letter ∷ decimal n → ⊥) }
@@ -89,7 +90,7 @@ pub fn number_behind(word: &[u8], letter: u8) -> Option<u32>
     }
 }
 
-/// A whole number of at most 32 bits.
+/// The whole number of at most 32 bits that a word spells. None where it spells a greater one or none.
 pub fn read_number(word: &[u8]) -> Option<u32>
     ensures some { IfSome result (λ n. word.now ≡ decimal n) }
     ensures none { IfNone result ((n : ℕ) → n < 2 ^ 32 → word.now ≡ decimal n → ⊥) }

@@ -36,7 +36,7 @@ const MIXED: &str = "net 1 2 1\nedge i0 s0 4\nedge s0 o0\nedge s0 o1 4\nend\n";
 /// A splitter that prefers its first way out.
 const GIVEN: &str = "net 1 2 1\nedge i0 s0\nedge s0 o0\nedge s0 o1\ngive s0 1\nend\n";
 
-/// The fields of a row; those that it lacks are empty.
+/// The first five fields of a row; those that it lacks are empty.
 fn fields(row: &str, mark: char) -> [&str; 5] {
     let mut fields = [""; 5];
     for (place, text) in row.split(mark).enumerate() {
@@ -47,11 +47,12 @@ fn fields(row: &str, mark: char) -> [&str; 5] {
     fields
 }
 
-/// The number that a field spells.
+/// The number that a field spells; 0 where it spells none.
 fn number_of(field: &str) -> usize {
     field.parse::<usize>().unwrap_or(0)
 }
 
+/// The direction of this name; north where it is no other.
 fn direction_named(name: &str) -> Dir {
     match name {
         "east" => Dir::East,
@@ -61,6 +62,7 @@ fn direction_named(name: &str) -> Dir {
     }
 }
 
+/// The tier of this name; basic where it is no other.
 fn tier_named(name: &str) -> Tier {
     match name {
         "fast" => Tier::Fast,
@@ -70,6 +72,7 @@ fn tier_named(name: &str) -> Tier {
     }
 }
 
+/// The property of this name; unlimited where it is no other.
 fn property_named(name: &str) -> Property {
     match name {
         "balanced" => Property::Balanced,

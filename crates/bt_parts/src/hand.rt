@@ -48,7 +48,7 @@ pub fn half_on(hand: Hand, splitter: &Part) -> Cell
     }
 }
 
-/// Whether the half is the one that is preferred, if one is.
+/// Whether this half of the splitter is the one on the preferred hand; false where no hand is preferred.
 pub fn is_preferred(preferred: Option<Hand>, splitter: &Part, half: Cell) -> bool
     requires { IsInRange splitter.now.cell }
     ensures { IsTrue result ↔ IsPreferred preferred splitter.now half }

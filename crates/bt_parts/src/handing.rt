@@ -18,10 +18,10 @@ pub fn side(giver: Dir, taker: Dir) -> Side
     }
 }
 
-/// Whether a part of this kind takes from there.
+/// Whether a part of this kind takes items from a part that comes upon it from this side.
 ///
-/// A belt takes from behind and across, an entrance and a splitter take from behind alone, and an
-/// exit takes from no part that faces it.
+/// A belt takes from behind and across, an entrance and a splitter take from behind alone, and an exit takes from no
+/// part that faces it.
 pub fn accepts(kind: Kind, side: Side) -> bool
     ensures { IsTrue result ↔ TakesFrom kind side }
 {

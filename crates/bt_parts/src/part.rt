@@ -38,7 +38,7 @@ impl Cell {
         }
     }
 
-    /// The next cell in a direction; beyond the greatest coordinate comes the least.
+    /// The next cell in a direction; beyond the greatest number of 32 bits comes the least.
     pub fn next(self, dir: Dir) -> Cell
         ensures { result ≡ wrapped (step dir self) }
     {
@@ -183,7 +183,8 @@ pub struct Rect {
     pub height: u32,
 }
 
-/// The part's cells: its own one, which is a splitter's lesser half, and a splitter's greater half.
+/// The part's own cell, which is a splitter's lesser half; and a splitter's greater half, None where it is another
+/// part.
 pub fn cells_of(part: &Part) -> (Cell, Option<Cell>)
     requires { IsInRange part.now.cell }
     ensures first { result.0 ≡ part.now.cell }
@@ -199,7 +200,7 @@ pub fn cells_of(part: &Part) -> (Cell, Option<Cell>)
     (part.cell, greater)
 }
 
-/// The cell that this half of the part faces.
+/// The cell next to this one of the part's cells in the part's direction, which it faces.
 pub fn front(part: &Part, half: Cell) -> Cell
     requires range { IsInRange part.now.cell }
     requires half { Covers part.now half }
@@ -208,7 +209,7 @@ pub fn front(part: &Part, half: Cell) -> Cell
     half.ahead(part.dir, 1)
 }
 
-/// The cell behind this half of the part.
+/// The cell next to this one of the part's cells against the part's direction.
 pub fn back(part: &Part, half: Cell) -> Cell
     requires range { IsInRange part.now.cell }
     requires half { Covers part.now half }

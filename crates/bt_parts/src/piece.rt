@@ -45,7 +45,8 @@ fn is_piece_on(part: &Part, tier: Tier, dir: Dir) -> bool
     is_underground(part) && part.tier == tier && (part.dir == dir || part.dir == dir.opposite())
 }
 
-/// In which direction the other end of an underground piece lies, and of what kind it is.
+/// In which direction the other end of an underground piece lies, and of what kind it is. None where the part is no
+/// underground piece.
 fn far_end(part: &Part) -> Option<(Dir, Kind)>
     ensures { MatchOption result (IsUnderground part.now → ⊥) (λ far. IsFarEnd part.now far.0 far.1) }
 {
@@ -56,7 +57,8 @@ fn far_end(part: &Part) -> Option<(Dir, Kind)>
     }
 }
 
-/// The piece of the tier on the cell that points along the direction or against it.
+/// The index of the underground piece on the cell, where it is of the tier and points along the direction or against
+/// it; else None.
 fn piece_at<L: Layout>(layout: &L, cell: Cell, tier: Tier, dir: Dir) -> Option<usize>
     requires in_range { AreInRange (L.parts layout.now) }
     requires well_placed { IsWellPlaced (L.parts layout.now) }
@@ -74,7 +76,8 @@ fn piece_at<L: Layout>(layout: &L, cell: Cell, tier: Tier, dir: Dir) -> Option<u
     }
 }
 
-/// The first piece of the part's tier and axis from the part on in a direction, within its reach.
+/// The index of the nearest underground piece of the part's tier and axis in a direction from the part, at a distance
+/// of at most one more than the tier's reach. None where there is none.
 fn first_piece<L: Layout>(layout: &L, from: &Part, toward: Dir) -> Option<usize>
     requires in_range { AreInRange (L.parts layout.now) }
     requires well_placed { IsWellPlaced (L.parts layout.now) }
@@ -99,7 +102,8 @@ fn is_end_for(other: &Part, kind: Kind, part: &Part) -> bool
     other.kind == kind && other.dir == part.dir
 }
 
-/// The other end of the pair of the part with this index (Factorio Wiki, underground belts).
+/// The index of the other end of the underground pair of the part with this index (Factorio Wiki, underground belts).
+/// None where the part is in no pair.
 ///
 /// An entrance and an exit of one tier and direction are a pair where the exit lies ahead within
 /// reach and no piece of that tier and axis lies between. So from either end on toward the other, the

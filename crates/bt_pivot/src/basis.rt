@@ -1,5 +1,6 @@
-//! A basis with its solved form. Positions whose terms are the same up to the sign are a class, of which one
-//! line is held, or which member is outside.
+//! A basis with its solved form. A slot is what a basis tells of a position: its line, or none where the position is
+//! outside the basis. Positions whose terms are the same up to the sign are a class, of which one line is held, or
+//! which member is outside.
 ghost use Rattle.std.specs.Prelude.{◌≡◌, ◌<◌, ◌↔◌, ◌++◌, ◌∷◌, [], length, IfOk, IfSome, IsTrue, Some, None, true};
 ghost use Rattle.bt_frac.specs.Ratio.{negated};
 ghost use Rattle.bt_linear.specs.Lines.{one, IsLine, signed_terms};
@@ -49,8 +50,8 @@ pub struct Pivot {
 
 /// For each position its slot: the line, where it is in the basis.
 ///
-/// Rows have the same terms again and again, up to the sign. With one line for all of a class, a pivot merges a third of
-/// the lines.
+/// Rows have the same terms again and again, up to the sign. With one line for all of a class, a pivot merges a third
+/// of the lines.
 #[derive(Drop)]
 pub struct Basis {
     pub(crate) members: Vec<Member>,
@@ -98,7 +99,7 @@ impl Basis {
         self.firsts.len()
     }
 
-    /// Where a position stands.
+    /// Where a position stands. One that there isn't counts as outside.
     pub fn place(&self, position: usize) -> Place<'_>
         ensures { IsPlace self.now position result }
     {
@@ -136,7 +137,8 @@ impl Basis {
         }
     }
 
-    /// The line of a position, where that is in the basis, in the room of a list whose terms are dropped.
+    /// The line of a position, in the room of a list whose terms are dropped. None where the position is outside the
+    /// basis.
     pub fn line(
         &self,
         alloc: Global,
@@ -155,7 +157,8 @@ impl Basis {
         }
     }
 
-    /// One more position of this slot, in a class of its own.
+    /// The basis with one more position, in a class of its own, which has this line, or is outside the basis where
+    /// there is none.
     pub(crate) fn with_class(self, slot: Option<Line>) -> Result<Basis, AllocError>
         ensures { IfOk result (λ more. more ≡ self ++ slot ∷ []) }
     {
@@ -180,8 +183,8 @@ impl Basis {
         })
     }
 
-    /// One more position of the line of these terms, in this class, where the class's terms are the same up
-    /// to the sign, and else in a class of its own. The terms ascend and have no zeros.
+    /// The basis with one more position, whose line has these terms: in this class, where the class's terms are the
+    /// same up to the sign, and else in a class of its own. The terms ascend and have no zeros.
     pub(crate) fn with_line(
         self,
         alloc: Global,
@@ -221,14 +224,14 @@ fn pushed<T: Drop>(list: Vec<T>, item: T) -> Result<Vec<T>, AllocError>
     Ok(more)
 }
 
-/// Whether one of two is told and the other isn't.
+/// Whether exactly one of the two is true.
 pub fn differ(first: bool, second: bool) -> bool
     ensures { result ≡ differ first second }
 {
     if first { !second } else { second }
 }
 
-/// Whether a line has these terms, or these with the other sign where this is told.
+/// Whether a line has these terms, or these with their numbers negated where `negated` is set.
 fn are_same(line: &Line, others: &[Term], negated: bool) -> bool
     ensures { IsTrue result → signed_terms negated line.now ≡ others.now }
 {
@@ -243,7 +246,7 @@ fn are_same(line: &Line, others: &[Term], negated: bool) -> bool
     true
 }
 
-/// Whether two terms are the same, or the same with the other sign where this is told.
+/// Whether two terms are the same, or where `negated` is set, the same but for the sign of the number.
 fn is_same(term: &Term, other: &Term, negated: bool) -> bool
     ensures { IsTrue result → signed_terms negated (term.now ∷ []) ≡ other.now ∷ [] }
 {
@@ -251,7 +254,7 @@ fn is_same(term: &Term, other: &Term, negated: bool) -> bool
     term.0 == other.0 && number == other.1
 }
 
-/// The sign with which a line has these terms.
+/// Whether a line has these terms with the other sign: false where it has just these, and None where it has neither.
 fn sign_of(line: &Line, others: &[Term]) -> Option<bool>
     ensures { IfSome result (λ negated. signed_terms negated line.now ≡ others.now) }
 {
@@ -264,7 +267,8 @@ fn sign_of(line: &Line, others: &[Term]) -> Option<bool>
     }
 }
 
-/// The sign with which a position alone has these terms.
+/// Whether the line of a position alone has these terms with the other sign: false where it has just these, and None
+/// where it has neither.
 fn sign_alone(position: usize, terms: &[Term]) -> Option<bool>
     ensures { IfSome result (λ negated. signed_terms negated ((position, one) ∷ []) ≡ terms.now) }
 {
@@ -281,7 +285,9 @@ fn sign_alone(position: usize, terms: &[Term]) -> Option<bool>
     }
 }
 
-/// The sign with which a member of a class has these terms.
+/// Whether these terms are those of a class's first position with the other sign: false where they are just those. None
+/// where they are neither, or there is no such class. In a class without a line each member has the terms of the member
+/// outside: that position alone, up to the sign.
 fn sign_in(
     members: &[Member],
     lines: &[Option<Line>],

@@ -6,7 +6,9 @@ use bt_linear::Operation;
 #[derive(Clone, Copy)]
 pub struct Cause {
     pub place: WidePlace,
+    /// The position of the basis whose number was to be formed; at `Lemma` the row's place in the sum.
     pub row: usize,
+    /// The position outside the basis, or the leaving one; at `Settle` 0, and at `Lemma` the column.
     pub column: usize,
     pub operation: Operation,
     pub left: Frac,

@@ -1,5 +1,5 @@
-//! Rows over columns with a basis and its solved form: its pivots, the sums of its lines that are kept from pivot to pivot,
-//! and where its positions stand to their bounds.
+//! Rows over columns with a basis and its solved form: its pivots, the sums of its lines that are kept from pivot to
+//! pivot, and where its positions stand to their bounds.
 #![tactic(auto)]
 
 mod basis;

@@ -25,9 +25,9 @@ use bt_frac::Frac;
 use bt_linear::{Change, Line, Operation, Room, Unfit, combined, zero_line};
 use std::alloc::{AllocError, Global};
 
-/// Puts what the entering position stands for in place of it in the line of a slot, by small whole numbers. A
-/// room is taken for the new terms, and that of the old ones is left. Two thirds of the lines don't name the position,
-/// so a walk to it comes first.
+/// Puts what the entering position stands for in place of it in the line of a slot, by small whole numbers. An empty
+/// slot lacks the position. A room is taken for the new terms, and that of the old ones is left. Two thirds of the
+/// lines don't name the position, so a walk to it comes first.
 fn change(
     alloc: Global,
     room: &mut Room,
@@ -44,7 +44,7 @@ fn change(
 }
 
 /// Puts what the entering position stands for in place of it by fractions, in a slot whose line names it; or tells a
-/// product or a sum that doesn't fit.
+/// product or a sum that leaves 128 bits, and the slot stays.
 fn change_long(
     alloc: Global,
     slot: &mut Option<Line>,
@@ -67,8 +67,9 @@ fn change_long(
     }
 }
 
-/// Why a line can't be formed for a pivot, by the numbers of the solved form before it: the zero line has
-/// the quotients of the leaving line's numbers with the other sign.
+/// Why a line can't be formed for a pivot, by the numbers of the solved form before it. Products are formed with
+/// numbers of the zero line, which are quotients of the leaving line's numbers with the other sign: so the sign is
+/// turned back.
 fn entry_cause(row: usize, unfit: Unfit) -> Cause
     ensures { result ≡ entry_cause row unfit }
 {
@@ -86,8 +87,8 @@ fn entry_cause(row: usize, unfit: Unfit) -> Cause
     }
 }
 
-/// Puts what the entering position stands for in place of it, in each line, and carries the sums of those
-/// that change, or forgets them; or tells a product or a sum that doesn't fit.
+/// Puts what the entering position stands for in place of it, in each line, and carries the sums of those that change,
+/// or forgets them; or tells a product or a sum that leaves 128 bits, at a line before which the others have changed.
 fn substitute(
     tableau: &Table,
     alloc: Global,
@@ -144,7 +145,7 @@ fn entering_line(
     }
 }
 
-/// The line of the entering position, with the other sign where this is told.
+/// The line of the entering position, with its numbers negated where `is_negated` is set.
 fn signed_entering(
     alloc: Global,
     rooms: &mut Rooms,
@@ -160,7 +161,7 @@ fn signed_entering(
     entering.with_sign(alloc, is_negated)
 }
 
-/// The line that is 0 wherever a slot's line holds of its position; or a quotient that doesn't fit. Each number is
+/// The line that is 0 wherever a slot's line holds of its position; or a quotient that leaves 128 bits. Each number is
 /// divided by the entering position's, and not multiplied with an inverse, so that a cause names a quotient of the
 /// solved form itself.
 fn slot_zero(
@@ -183,7 +184,7 @@ fn slot_zero(
     long_zero(alloc, line, leaves, enters)
 }
 
-/// The line that is 0 wherever the line of a position of the basis holds; or a quotient that doesn't fit.
+/// The line that is 0 wherever the line of a position of the basis holds; or a quotient that leaves 128 bits.
 fn leaving_zero(
     alloc: Global,
     rooms: &mut Rooms,
@@ -203,7 +204,7 @@ fn leaving_zero(
     Ok(zero)
 }
 
-/// The line that is 0 wherever a line holds of its position, by fractions; or a quotient that doesn't fit.
+/// The line that is 0 wherever a line holds of its position, by fractions; or a quotient that leaves 128 bits.
 fn long_zero(
     alloc: Global,
     line: &Line,
@@ -222,8 +223,8 @@ fn long_zero(
     zero_line(alloc, leaves, &terms, &number)
 }
 
-/// Takes a class's line, and puts what the entering position stands for in place of it in each other line,
-/// with the sums of those that change carried or forgotten; or tells a product or a sum that doesn't fit, and
+/// Takes the line of the class `left` out, and puts what the entering position stands for in place of it in each other
+/// line, with the sums of those that change carried or forgotten; or tells a product or a sum that leaves 128 bits, and
 /// the same classes then have lines as before.
 fn substitute_others(
     tableau: &Table,
@@ -256,7 +257,8 @@ fn substitute_others(
     }
 }
 
-/// Gives a class its line, but where it is the one that is left.
+/// Gives a class the line of its first position, and forgets its sums. The class `left` gets none, since its leaving
+/// position is now outside: the line's room is kept.
 fn put_line(
     rooms: &mut Rooms,
     lines: &mut [Option<Line>],
@@ -278,7 +280,7 @@ fn put_line(
     kept.forget(class);
 }
 
-/// The cause, of a class's first position in place of the class.
+/// The cause, whose row is a class, with that class's first position for the row.
 fn at_first(firsts: &[usize], cause: Cause) -> Cause
     requires { cause.row < length firsts.now }
     ensures { result ≡ record cause { row = position_at firsts.now cause.row } }
@@ -293,8 +295,8 @@ fn at_first(firsts: &[usize], cause: Cause) -> Cause
     }
 }
 
-/// A pivot of the basis: one position leaves it, and one that its line names enters. Or the operation
-/// whose result doesn't fit; the same positions are then in the basis, but not with its lines. Both positions are below the
+/// A pivot of the basis: one position leaves it, and one that its line names enters. Or the operation whose result
+/// leaves 128 bits; the same positions are then in the basis, but not with its lines. Both positions are below the
 /// basis's length and differ, the one that enters isn't in the basis, and each line ascends and has no zeros.
 pub fn pivot(
     tableau: &Table,
@@ -316,6 +318,7 @@ pub fn pivot(
     ensures kept { IfOk result (λ o. IfOk o
         (λ _. SlotsStay tableau.now basis.old basis.new kept.old.sums.items kept.new.sums.items)) }
 {
+    // This tells a proof that the number of positions fits 64 bits.
     let _ = basis.len();
     match leaving_zero(alloc, rooms, basis, leaves, enters)? {
         Ok(zero) => {
@@ -327,7 +330,8 @@ pub fn pivot(
     }
 }
 
-/// Makes a pivot by the line that is 0 wherever the line of the leaving position holds.
+/// Makes a pivot by the line that is 0 wherever the line of the leaving position holds; or tells the operation whose
+/// result leaves 128 bits.
 fn pivot_by(
     tableau: &Table,
     alloc: Global,

@@ -1,5 +1,6 @@
-//! Where the positions of a tableau rest, as small whole numbers, which sums and tests of many positions read
-//! in place of the rows.
+//! Where the positions of a tableau rest, as small whole numbers, which sums and tests of many positions read in place
+//! of the rows. A position rests where it stands while it is outside the basis: a bound row at its bound, and the
+//! infinitesimal above it where it asks for more, and any other position at 0.
 ghost use Rattle.std.specs.Prelude.{◌≡◌, IfOk, IfSome, Some, replicate};
 ghost use Rattle.bt_pivot.specs.inner.Rests.{nowhere, IsRestOf};
 
@@ -17,7 +18,7 @@ pub struct Rest {
 }
 
 impl Rest {
-    /// Where a position rests that is no bound row.
+    /// Where a position rests that is no bound row: at 0.
     pub fn free() -> Rest
         ensures { result ≡ nowhere }
     {
@@ -28,7 +29,8 @@ impl Rest {
         }
     }
 
-    /// Where a bound row rests, where its bound is a small whole number.
+    /// Where a bound row rests: at its bound, and above it by the infinitesimal where it asks for more than the bound.
+    /// None where the bound isn't a whole number of 32 bits.
     pub fn at_bound(row: &Row) -> Option<Rest>
         ensures { IfSome result (IsRestOf (Some row.now)) }
     {
@@ -51,7 +53,7 @@ impl Rest {
     }
 }
 
-/// Where so many positions rest, of which none is a bound row.
+/// Where each of `count` positions rests, of which none is a bound row.
 pub fn all_free(alloc: Global, count: usize) -> Result<Vec<Option<Rest>>, AllocError>
     ensures { IfOk result (λ v. v.items ≡ replicate count (Some nowhere)) }
 {

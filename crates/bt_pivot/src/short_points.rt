@@ -1,4 +1,5 @@
-//! Where positions stand by their short lines, in whole numbers.
+//! Where positions stand by their short lines, in whole numbers: the sums of the lines' terms, where each position that
+//! a line names rests. A sum has two parts, a value and how often the infinitesimal stands in it.
 ghost use Rattle.std.specs.Prelude.{◌≡◌, ◌<◌, ◌^◌, ◌*ℤ◌, ◌+ℤ◌, IfSome, IsTrue, ◌↔◌, Some, neg_ℤ};
 ghost use Rattle.bt_frac.specs.declared.relation.Relation.TheVariants.{Equal as AnEquation};
 ghost use Rattle.bt_frac.specs.Deltas.{IsOrderOfDeltas};
@@ -44,7 +45,8 @@ pub fn short_point(tableau: &Table, line: &Short) -> Option<Delta>
     })
 }
 
-/// The sums of a line's terms. None as above.
+/// The sums of a line's terms where their positions rest. None where a bound isn't a small whole number or a sum leaves
+/// 64 bits.
 pub fn short_sums(tableau: &Table, line: &Short) -> Option<Sums>
     ensures same { IfSome result
         (λ s. IsSamePoint (delta_of s) (standing (resting tableau.now) 0 (Some line.now))) }
@@ -64,8 +66,8 @@ pub fn short_sums(tableau: &Table, line: &Short) -> Option<Sums>
     Some(sums)
 }
 
-/// Whether a row of this relation that rests here doesn't hold where these sums are, or with the other sign
-/// where this is told. None where a number doesn't fit. The sums' denominator is below 2^31.
+/// Whether a row of this relation, whose bound is `rest`, doesn't hold where its sum is `sums`, or the opposite of that
+/// where `negated` is set. None where a number leaves 64 bits. The sums' denominator is below 2^31.
 pub fn breaks_by(relation: Relation, rest: Rest, sums: Sums, negated: bool) -> Option<bool>
     requires fits { sums.under < 2 ^ 31 }
     ensures { IfSome result
@@ -75,8 +77,8 @@ pub fn breaks_by(relation: Relation, rest: Rest, sums: Sums, negated: bool) -> O
     Some(sums_break(relation, rest, others))
 }
 
-/// How where a row rests stands to where these sums are, or to them with the other sign where this is told.
-/// None where a number doesn't fit. The sums' denominator is below 2^31.
+/// How the bound value of a row, which is `rest`, compares with `sums`, or with the opposite of these where `negated`
+/// is set. None where a number leaves 64 bits. The sums' denominator is below 2^31.
 pub fn order_by(rest: Rest, sums: Sums, negated: bool) -> Option<Ordering>
     requires fits { sums.under < 2 ^ 31 }
     ensures { IfSome result
@@ -86,8 +88,8 @@ pub fn order_by(rest: Rest, sums: Sums, negated: bool) -> Option<Ordering>
     Some(sums_order(rest, others))
 }
 
-/// Whether a row of this relation that rests here doesn't hold where it stands as another position rests, or
-/// with the other sign where this is told. None where a number doesn't fit.
+/// Whether a row of this relation, whose bound is `rest`, doesn't hold where its sum is where another position rests,
+/// or the opposite of that where `negated` is set. None where a number leaves 64 bits.
 pub fn breaks_at(relation: Relation, rest: Rest, other: Rest, negated: bool) -> Option<bool>
     ensures { IfSome result
         (λ told. TellsBreak relation (rest_point rest) (signed_point negated (rest_point other)) told) }
@@ -97,7 +99,7 @@ pub fn breaks_at(relation: Relation, rest: Rest, other: Rest, negated: bool) -> 
     Some(sums_break(relation, rest, others))
 }
 
-/// The sums of one position alone, with the number 1.
+/// The sums of the line of one position alone, with the number 1, where that position rests here.
 fn rest_sums(rest: Rest) -> Sums
     ensures same { delta_of result ≡ rest_point rest }
     ensures under { result.under ≡ 1 }
@@ -109,7 +111,7 @@ fn rest_sums(rest: Rest) -> Sums
     }
 }
 
-/// The sums with a number times where its position rests, where these fit.
+/// The sums, with a number times the value where its position rests added. None where a sum leaves 64 bits.
 fn added(sums: Sums, over: i64, rest: Rest) -> Option<Sums>
     requires { IsSmall over }
     ensures { IfSome result (AddsWhole (rest_point rest) sums over) }
@@ -120,8 +122,8 @@ fn added(sums: Sums, over: i64, rest: Rest) -> Option<Sums>
     Some(Sums { value, tiny, under })
 }
 
-/// The sums of a line to which a number times another is added, by the sums of both and by their scales. None
-/// where the sums are over other denominators, or leave 64 bits.
+/// The sums of a line to which a number times another is added, by the sums of both and by their scales. None where the
+/// sums have other denominators than the scales, or a sum leaves 64 bits.
 pub fn carried(sums: Sums, others: Sums, scales: &Scales) -> Option<Sums>
     ensures { IfSome result (AreCarried scales.now sums others) }
 {
@@ -134,7 +136,7 @@ pub fn carried(sums: Sums, others: Sums, scales: &Scales) -> Option<Sums>
     Some(Sums { value, tiny, under })
 }
 
-/// The sum of two numbers by their scales, where it and both products fit.
+/// One number times the left scale plus the other times the right one. None where it or a product leaves 64 bits.
 fn scaled(number: i64, other: i64, scales: &Scales) -> Option<i64>
     ensures { IfSome result (λ z. z ≡ number *ℤ scales.now.left +ℤ scales.now.right *ℤ other) }
 {
@@ -151,7 +153,7 @@ fn multiple(over: i64, by: i32) -> i64
     over * i64::from(by)
 }
 
-/// The sums, with the other sign where this is told, where they fit.
+/// The sums, negated where `negated` is set. None where one leaves 64 bits.
 fn signed_sums(sums: Sums, negated: bool) -> Option<Sums>
     ensures same { IfSome result (λ s. delta_of s ≡ signed_point negated (delta_of sums)) }
     ensures under { IfSome result (λ s. s.under ≡ sums.under) }
@@ -165,14 +167,15 @@ fn signed_sums(sums: Sums, negated: bool) -> Option<Sums>
     Some(Sums { value, tiny, under })
 }
 
-/// The number with the other sign, where it fits.
+/// The negated number. None where it leaves 64 bits.
 fn opposite(number: i64) -> Option<i64>
     ensures { IfSome result (λ z. z ≡ neg_ℤ number) }
 {
     number.checked_neg()
 }
 
-/// Whether a row of this relation that rests here doesn't hold where it stands.
+/// Whether a row of this relation, whose bound is `rest`, doesn't hold where its sum is `sums`, whose denominator is
+/// below 2^31.
 fn sums_break(relation: Relation, rest: Rest, sums: Sums) -> bool
     requires { sums.under < 2 ^ 31 }
     ensures { TellsBreak relation (rest_point rest) (delta_of sums) result }
@@ -185,7 +188,7 @@ fn sums_break(relation: Relation, rest: Rest, sums: Sums) -> bool
     }
 }
 
-/// How where a row rests stands to where these sums are.
+/// How the bound value of a row, which is `rest`, compares with `sums`, whose denominator is below 2^31.
 fn sums_order(rest: Rest, sums: Sums) -> Ordering
     requires { sums.under < 2 ^ 31 }
     ensures { IsOrderOfDeltas result (rest_point rest) (delta_of sums) }
@@ -208,7 +211,7 @@ fn is_equation(relation: Relation) -> bool
     relation == Relation::Equal
 }
 
-/// Whether a row that stands at its bound, but for a multiple of the infinitesimal, doesn't hold.
+/// Whether a row doesn't hold that stands at its bound but for `tiny` over `under` times the infinitesimal.
 fn breaks_tiny(relation: Relation, tiny: i64, under: u32) -> bool
     ensures { IsTrue result ↔ BreaksTiny relation (record { over = tiny; under = under }) }
 {

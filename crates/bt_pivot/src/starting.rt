@@ -34,7 +34,7 @@ fn kept_terms(alloc: Global, terms: &[Term]) -> Result<Vec<Term>, AllocError>
     Ok(left)
 }
 
-/// An empty slot for each column, and for each row its line.
+/// The first basis: each column is outside it, and each row's line has the row's own terms.
 pub fn first_basis(alloc: Global, rows: &[Row], columns: usize) -> Result<Basis, AllocError>
     ensures { IfOk result (λ basis. basis ≡ start_slots rows.now columns) }
 {
@@ -48,7 +48,7 @@ pub fn first_basis(alloc: Global, rows: &[Row], columns: usize) -> Result<Basis,
     Ok(basis)
 }
 
-/// An empty slot for each column.
+/// The basis of columns alone, of which each is outside and in a class of its own.
 fn column_slots(alloc: Global, columns: usize) -> Result<Basis, AllocError>
     ensures { IfOk result (λ basis. basis ≡ replicate columns None) }
 {
@@ -59,7 +59,7 @@ fn column_slots(alloc: Global, columns: usize) -> Result<Basis, AllocError>
     Ok(basis)
 }
 
-/// The class of each column.
+/// For each column its class, which has the column's number.
 fn first_classes(alloc: Global, columns: usize) -> Result<Vec<usize>, AllocError> {
     let mut classes = Vec::new(alloc);
     for column in 0..columns {
@@ -68,8 +68,10 @@ fn first_classes(alloc: Global, columns: usize) -> Result<Vec<usize>, AllocError
     Ok(classes)
 }
 
-/// The class that a line may be in: of a single column that column's, and else the latest whose lines have
-/// the same first column. From now on that is the next class, where there is a line of more columns.
+/// The class to try for a line of these terms: of a single column that column's, and else the one noted in `classes`
+/// for the line's first column, in place of which `next` is noted, the class that is made next. A line that is in
+/// neither gets a class of its own, so a wrong guess costs but time. No terms are tried with `next`, which isn't there
+/// yet.
 fn likely_class(classes: &mut [usize], next: usize, terms: &[Term]) -> usize {
     match terms {
         [] => next,
@@ -103,7 +105,7 @@ pub fn copied(alloc: Global, rows: &[Row]) -> Result<Vec<Row>, AllocError>
     Ok(copies)
 }
 
-/// So many rows, of which none is bound.
+/// For each of `count` rows that it isn't bound.
 pub fn unbound(alloc: Global, count: usize) -> Result<Vec<bool>, AllocError>
     ensures { IfOk result (λ v. v.items ≡ replicate count false) }
 {

@@ -28,7 +28,7 @@ impl SumCache {
         }
     }
 
-    /// Drops all sums, and has places for those of so many classes.
+    /// Drops all sums, and has places for those of `classes` classes.
     pub fn restart(&mut self, classes: usize) -> Result<(), AllocError>
         ensures { IfOk result (λ _. self.new.sums.items ≡ replicate classes None) }
     {
@@ -40,7 +40,7 @@ impl SumCache {
         Ok(())
     }
 
-    /// The sums that are kept of a class.
+    /// The sums that are kept of a class. None where none are.
     fn at(&self, class: usize) -> Option<ClassSums>
         ensures { result ≡ slice_index_or self.now.sums.items class None }
     {
@@ -51,7 +51,7 @@ impl SumCache {
         }
     }
 
-    /// The sums of a class, where they are kept for this first position.
+    /// The sums of a class, where they are kept for this first position. None elsewhere.
     fn found(&self, class: usize, first: usize) -> Option<ClassSums>
         ensures { IfSome result
             (λ k. (slice_index_or self.now.sums.items class None ≡ Some k) × (k.first ≡ first)) }
@@ -64,7 +64,7 @@ impl SumCache {
         }
     }
 
-    /// Keeps the sums of a class.
+    /// Keeps the sums of a class. Does nothing where the class has no place.
     fn keep(&mut self, class: usize, sums: ClassSums)
         ensures { Keeps sums self.old.sums.items self.new.sums.items }
     {
@@ -73,7 +73,7 @@ impl SumCache {
         }
     }
 
-    /// Drops the sums of a class.
+    /// Drops the sums of a class, where there are some.
     pub(crate) fn forget(&mut self, class: usize)
         ensures { Forgets class self.old.sums.items self.new.sums.items }
     {
@@ -82,8 +82,8 @@ impl SumCache {
         }
     }
 
-    /// Keeps the sums of a class to whose line a number times another is added, by those before, those of
-    /// the other line and the scales of both, where all of these are at hand.
+    /// Keeps the sums of a class to whose line a number times another is added, by those before, those of the other
+    /// line and the scales of both. Drops them where one of these isn't at hand, or a sum leaves 64 bits.
     pub(crate) fn carry(&mut self, class: usize, others: Option<Sums>, scales: &Scales)
         ensures { Carries class others scales.now self.old.sums.items self.new.sums.items }
     {
@@ -92,7 +92,8 @@ impl SumCache {
         }
     }
 
-    /// Drops the sums that are kept for a first position of another class.
+    /// Drops the sums of each class that are kept for a position that isn't a member of the class with the sign of its
+    /// first position.
     pub(crate) fn own(&mut self, members: &[Member])
         ensures { AreOwn members.now self.old.sums.items self.new.sums.items }
     {
@@ -101,7 +102,8 @@ impl SumCache {
         }
     }
 
-    /// Drops the sums of a class that are kept for a first position of another one.
+    /// Drops the sums of one class, where they are kept for a position that isn't a member of the class with the sign
+    /// of its first position.
     fn own_at(&mut self, members: &[Member], class: usize)
         ensures { OwnsAt members.now class self.old.sums.items self.new.sums.items }
     {
@@ -112,7 +114,8 @@ impl SumCache {
     }
 }
 
-/// The sums of a class, where they are kept, with those of another line by their scales.
+/// The sums of a class with those of another line added by the scales of both. None where either are lacking, or a sum
+/// leaves 64 bits.
 fn carried_of(sums: Option<ClassSums>, others: Option<Sums>, scales: &Scales) -> Option<ClassSums>
     ensures { IfSome result (IsCarriedOf sums others scales.now) }
 {
@@ -123,7 +126,7 @@ fn carried_of(sums: Option<ClassSums>, others: Option<Sums>, scales: &Scales) ->
     Some(ClassSums { first, sums })
 }
 
-/// The sums of a line, where whole numbers tell them.
+/// The sums of a line where its positions rest. None where small whole numbers don't tell them.
 pub fn sums_of(tableau: &Table, line: &Line) -> Option<Sums>
     ensures fits { IfSome result (λ s. s.under < 2 ^ 31) }
     ensures same { IfSome result
@@ -133,7 +136,8 @@ pub fn sums_of(tableau: &Table, line: &Line) -> Option<Sums>
     short_sums(tableau, short)
 }
 
-/// Whether the sums, where there are some, are kept for a first position of their class.
+/// Whether the sums of a class are kept for a member of it with the sign of its first position. True where there are
+/// none.
 fn is_own(members: &[Member], class: usize, sums: Option<ClassSums>) -> bool
     ensures { IsTrue result → IfSome sums (IsOwn members.now class) }
 {
@@ -173,7 +177,7 @@ pub fn class_sums(
     Some(formed)
 }
 
-/// The sums of the line of a class, by its first position, formed.
+/// The sums of a class by the line of its first position. None where small whole numbers don't tell them.
 fn formed(tableau: &Table, first: usize, line: &Line) -> Option<ClassSums>
     ensures { IfSome result (IsFormed tableau.now first line.now) }
 {

@@ -142,7 +142,8 @@ impl Table {
         self.rows.get(row)
     }
 
-    /// Where a position rests and whether it is a bound row, where that is told by small whole numbers.
+    /// Where a position rests and whether it is a bound row. None where small whole numbers don't tell that, or there
+    /// is no such position.
     pub(crate) fn whole_rest(&self, position: usize) -> Option<Rest>
         ensures { IfSome result (IsRestOf (bound_row self.now position)) }
     {
@@ -171,7 +172,7 @@ impl Table {
     }
 }
 
-/// Whether a row is bound.
+/// Whether a row is bound. False where there is no such row.
 fn is_bound(bound: &[bool], row: usize) -> bool
     ensures { result ≡ slice_index_or bound.now row false }
 {

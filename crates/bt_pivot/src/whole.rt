@@ -10,8 +10,8 @@ use crate::sum_cache::{SumCache, class_sums};
 use crate::table::Table;
 use std::cmp::Ordering;
 
-/// Whether a position is a bound row of the basis that doesn't hold, where whole numbers tell it. The sums that are kept
-/// are those of the basis's lines.
+/// Whether a position is a bound row of the basis that doesn't hold. None where small whole numbers don't tell it. The
+/// sums that are kept are those of the basis's lines.
 pub fn fails_whole(
     tableau: &Table,
     basis: &Basis,
@@ -49,8 +49,8 @@ pub fn fails_whole(
     }
 }
 
-/// How the bound value of a row of the basis stands to where the row stands, where whole numbers tell it. The sums that
-/// are kept are those of the basis's lines.
+/// How the bound value of a row of the basis compares with where the row stands. None where small whole numbers don't
+/// tell it, or its class has no line. The sums that are kept are those of the basis's lines.
 pub fn whole_order(
     tableau: &Table,
     basis: &Basis,

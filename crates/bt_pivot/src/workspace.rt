@@ -29,7 +29,8 @@ impl Rooms {
         }
     }
 
-    /// Keeps the room of a line that is needed no more, where there is memory to note it.
+    /// Keeps the room of a line that is needed no more, where there is memory to note it. A line of fractions has none
+    /// to keep.
     pub(crate) fn give(&mut self, slot: Option<Line>) {
         let Some(line) = slot else {
             return;
@@ -67,7 +68,8 @@ impl Workspace {
         }
     }
 
-    /// The same slots as those of a basis, in the memory of this one.
+    /// A workspace whose basis has the same slots as this one, in the memory of `self`. The sums stay those of `self`,
+    /// so they are to be started anew.
     pub fn copy_of(self, alloc: Global, basis: &Basis) -> Result<Workspace, AllocError>
         ensures { IfOk result (λ copy. copy.basis ≡ basis.now) }
     {

@@ -1,4 +1,4 @@
-//! Where the blocks of variables begin.
+//! Where the blocks of variables begin. A block has the variables of the facts of one kind.
 ghost use Rattle.std.specs.Prelude.{◌≡◌, ◌<◌, ◌+◌, ◌-◌, ◌*◌, ◌^◌, []};
 ghost use Rattle.bt_place.specs.Numbering.{variables};
 ghost use Rattle.bt_place.specs.Blocks.{starts_of};
@@ -46,7 +46,7 @@ pub struct Starts {
     pub end: usize,
 }
 
-/// Where a block of so many rows ends that begins here.
+/// Where a block ends that begins at `from` and has so many rows, with so many variables each.
 fn after(from: usize, rows: usize, each: usize) -> usize
     requires { from + rows * each < 2 ^ 64 }
     ensures { result ≡ from + rows * each }
@@ -91,7 +91,8 @@ struct LastOnes {
     end: usize,
 }
 
-/// Where the blocks of cells begin.
+/// Where the blocks begin of which each of so many cells has a part, behind that of halves, which begins at `halves`;
+/// and where they end.
 fn of_cells(halves: usize, spots: usize, extent: Extent) -> OfCells
     requires { halves + spots + spots + spots + spots * extent.inputs + spots * extent.stops
         + spots * extent.lines < 2 ^ 64 }
@@ -119,7 +120,8 @@ fn of_cells(halves: usize, spots: usize, extent: Extent) -> OfCells
     }
 }
 
-/// Where the blocks of directions begin.
+/// Where the blocks begin of which each direction of each of so many cells has a part, behind that of pairs, which
+/// begins at `pairs`; and where they end.
 fn of_turns(pairs: usize, spots: usize, extent: Extent) -> OfTurns
     requires dirs { spots * 4 < 2 ^ 64 }
     requires columns { pairs + spots * 4 * extent.distances + spots * 4 + spots * 4 < 2 ^ 64 }
@@ -137,7 +139,8 @@ fn of_turns(pairs: usize, spots: usize, extent: Extent) -> OfTurns
     }
 }
 
-/// Where the blocks of splitters begin.
+/// Where the blocks begin of which each splitter has a part, behind that of columns, which begins at `columns`; and
+/// where they end.
 fn of_splitters(columns: usize, extent: Extent) -> OfSplitters
     requires { columns + extent.splitters * extent.width + extent.splitters * extent.height
         + extent.splitters * 4 + extent.splitters + extent.splitters < 2 ^ 64 }
@@ -164,7 +167,8 @@ fn of_splitters(columns: usize, extent: Extent) -> OfSplitters
     }
 }
 
-/// Where the last blocks begin.
+/// Where the last two blocks begin, of what cells hold and of where splitters stand, behind that of the counter, which
+/// begins at `held`; and where they end.
 fn last_ones(held: usize, spots: usize, extent: Extent) -> LastOnes
     requires spots { spots + 1 < 2 ^ 64 }
     requires places { extent.splitters * spots < 2 ^ 64 }

@@ -28,7 +28,7 @@ fn kind_of(shape: Shape) -> Option<Kind>
     }
 }
 
-/// The part of which the cell with this number is the own one.
+/// The part whose own cell has this number; none where nothing stands there, or the greater half of a splitter.
 fn part_on(reading: &Reading, i: usize) -> Option<Part>
     requires solved { IsSolved reading.now }
     requires within { i < spots_in reading.now.request.rect }
@@ -48,7 +48,7 @@ fn part_on(reading: &Reading, i: usize) -> Option<Part>
     })
 }
 
-/// The parts of the cells that are marked.
+/// The parts whose own cells are marked, in the order of the cells.
 fn parts_on(alloc: Global, reading: &Reading, marks: &[bool]) -> Result<Vec<Part>, AllocError>
     requires solved { IsSolved reading.now }
     requires marks { AreMarks reading.now marks.now }

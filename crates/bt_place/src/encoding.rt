@@ -138,7 +138,7 @@ fn write_splitters(
     Ok(())
 }
 
-/// The rules of inputs, pins, sides and blocks.
+/// The rules of inputs, pins, sides, rows and blocks.
 fn end_draft(alloc: Global, request: &Request, cells: &[Cell]) -> Result<Draft, AllocError>
     requires { cells.now ≡ spots.cells_of request.now.rect }
     ensures { IfOk result (λ draft. draft ≡ end_rules request.now) }
@@ -148,7 +148,7 @@ fn end_draft(alloc: Global, request: &Request, cells: &[Cell]) -> Result<Draft, 
     Ok(draft)
 }
 
-/// Adds the clauses of the rules of inputs, pins, sides and blocks.
+/// Adds the clauses of the rules of inputs, pins, sides, rows and blocks.
 fn write_ends(
     alloc: Global,
     formula: &mut Formula,

@@ -6,7 +6,7 @@ ghost use Rattle.bt_place.specs.inner.Grid.{spots_in, spot_in, cell_numbered, Te
 
 use bt_parts::{Cell, Dir, Rect, inside};
 
-/// The number of cells.
+/// The number of cells of the rectangle.
 pub(crate) fn spots(rect: Rect) -> usize
     requires { IsGrid rect }
     ensures spots { result ≡ spots_in rect }
@@ -37,7 +37,7 @@ pub(crate) fn cell_of(rect: Rect, i: usize) -> Cell
     }
 }
 
-/// The number of the cell so far in front of this one, where that is inside.
+/// The number of the cell at this distance in front of this one; none where that is outside.
 pub(crate) fn ahead(rect: Rect, i: usize, dir: Dir, distance: u32) -> Option<usize>
     requires grid { IsGrid rect }
     requires within { i < spots_in rect }

@@ -27,7 +27,8 @@ pub fn literal_of(formula: &Formula, numbers: &Numbers, fact: Fact, holds: bool)
     })
 }
 
-/// Makes the list that of the literals of a rule. Whether each of its facts has a variable: else some are left out.
+/// Replaces the list by the literals of a rule. Whether each of the rule's facts has a variable: else literals are
+/// lacking.
 fn set_literals(
     lits: &mut Vec<Lit>,
     formula: &Formula,
@@ -46,7 +47,7 @@ fn set_literals(
     Ok(true)
 }
 
-/// Adds the clause of the rule at a place, where each of its facts has a variable.
+/// Adds the clause of the rule at a place; nothing where some fact of the rule has no variable.
 fn narrow_at(
     lits: &mut Vec<Lit>,
     formula: &mut Formula,

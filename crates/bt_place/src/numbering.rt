@@ -40,7 +40,7 @@ impl Model for Numbers {
     ghost invariant = { λ n. AreNumbers (sizes_with n.extent n.classes.items n.ranks.items) n.starts };
 }
 
-/// The number of a direction.
+/// The number of a direction, from 0.
 fn dir_number(dir: Dir) -> usize
     ensures value { result ≡ numbering.dir_number dir }
     ensures few { result < 4 }
@@ -53,7 +53,7 @@ fn dir_number(dir: Dir) -> usize
     }
 }
 
-/// The number of a half.
+/// The number of a half, from 0.
 fn half_number(half: Half) -> usize
     ensures value { result ≡ numbering.half_number half }
     ensures few { result < 2 }
@@ -64,7 +64,7 @@ fn half_number(half: Half) -> usize
     }
 }
 
-/// The number of a shape.
+/// The number of a shape, from 0.
 fn shape_number(shape: Shape) -> usize
     ensures value { result ≡ numbering.shape_number shape }
     ensures few { result < 5 }
@@ -77,7 +77,7 @@ fn shape_number(shape: Shape) -> usize
     }
 }
 
-/// The number of a row.
+/// The number of a row in which ends may stand, from 0.
 fn line_number(line: Line) -> usize
     ensures value { result ≡ numbering.line_number line }
     ensures few { result < 4 }
@@ -90,7 +90,7 @@ fn line_number(line: Line) -> usize
     }
 }
 
-/// The number of what a cell may hold.
+/// The number of what a cell may hold, from 0.
 fn content_number(content: Content) -> usize
     ensures value { result ≡ numbering.content_number content }
     ensures few { result < 21 }
@@ -101,7 +101,7 @@ fn content_number(content: Content) -> usize
     }
 }
 
-/// The number of a place in a block that begins here, in a row of so many.
+/// The variable at a place of a row, both from 0, in a block that begins at `from` and has `each` variables a row.
 fn numbered(from: usize, row: usize, each: usize, place: usize) -> usize
     requires { from + (row * each + place) < 2 ^ 64 }
     ensures { result ≡ from + (row * each + place) }
@@ -109,7 +109,7 @@ fn numbered(from: usize, row: usize, each: usize, place: usize) -> usize
     from + (row * each + place)
 }
 
-/// The place of a class among classes.
+/// The place of a class among classes, or how many these are where it isn't one of them.
 /// Only classes that occur have numbers: two for each splitter and one for each input would leave variables that no
 /// clause has, which a search goes through at each choice.
 fn place_among(classes: &[Class], class: Class) -> usize
@@ -144,7 +144,7 @@ fn is_inside(width: usize, height: usize, cell: Cell) -> bool
         && (cell.y.unsigned_abs() as usize) < height
 }
 
-/// The extent of a request.
+/// How much of each kind a request has, but for classes.
 fn extent_of(request: &Request) -> Extent
     ensures { (classes : _) (ranks : _) → sizes_with result classes ranks
         ≡ record (sizes_of request.now) { classes = classes; ranks = ranks } }
@@ -249,7 +249,8 @@ impl Numbers {
         numbered(0, behind, spots, self.from_last(cell))
     }
 
-    /// The number of a fact of a cell and something of which there are so many.
+    /// The variable of the fact of a cell and of that at a place, from 0, of `each` things, in the block that begins at
+    /// `from`.
     fn on_cell(&self, from: usize, cell: Cell, each: usize, place: usize) -> usize
         requires cell { IsSpot self.now cell }
         requires few { from + (numbering.spot_of self.now cell * each + place) < 2 ^ 64 }
@@ -258,7 +259,7 @@ impl Numbers {
         numbered(from, self.spot(cell), each, place)
     }
 
-    /// The number of a fact of a cell and a direction.
+    /// The variable of the fact of a cell and a direction, in the block that begins at `from`.
     fn turned(&self, from: usize, cell: Cell, dir: Dir) -> usize
         requires cell { IsSpot self.now cell }
         requires few { from + (numbering.spot_of self.now cell * 4 + numbering.dir_number dir) < 2 ^ 64 }
@@ -267,7 +268,8 @@ impl Numbers {
         numbered(from, self.spot(cell), 4, dir_number(dir))
     }
 
-    /// The number of a pair that begins on a cell, of this direction and distance.
+    /// The variable of the pair that begins on a cell, of this direction and distance, in the block that begins at
+    /// `from`.
     fn pair(&self, from: usize, cell: Cell, dir: Dir, distance: usize) -> usize
         requires cell { IsSpot self.now cell }
         requires some { 1 ≤ distance }
@@ -281,7 +283,7 @@ impl Numbers {
         numbered(from, row, self.extent.distances, distance - 1)
     }
 
-    /// The number of a fact, where that is small.
+    /// The variable of a fact that has one.
     fn number(&self, fact: Fact) -> usize
         requires within { IsNumbered self.now fact }
         requires few { numbering.variable_of self.now fact < 2 ^ 64 }
@@ -354,7 +356,7 @@ impl Numbers {
         splitter < self.extent.splitters
     }
 
-    /// Whether so many cells may hold no half.
+    /// Whether the rectangle has at least so many cells more than there are halves.
     fn has_spare(&self, spare: usize) -> bool
         ensures { IsTrue result ↔ (spare + self.now.halves ≤ numbering.spots self.now) }
     {
@@ -389,7 +391,7 @@ impl Numbers {
         }
     }
 
-    /// The variable of a fact, where it has one.
+    /// The variable of a fact; none where it speaks of what the request doesn't have.
     pub fn find(&self, fact: Fact) -> Option<usize>
         ensures none { IfNone result (IsNumbered self.now fact → ⊥) }
         ensures some { IfSome result (λ variable. IsNumbered self.now fact

@@ -9,7 +9,7 @@ use bt_demands::{enters, leaves};
 use bt_net::{Edge, Net};
 use std::alloc::{AllocError, Global};
 
-/// Whether the edge goes from one of these splitters to this one, or from this one to one of these.
+/// Whether the edge goes from one of the placed splitters to this one, or from this one to one of those.
 fn joins(placed: &[usize], splitter: usize, edge: Edge) -> bool
     ensures { result ≡ numbering.joins placed.now splitter edge }
 {
@@ -25,7 +25,7 @@ fn joins(placed: &[usize], splitter: usize, edge: Edge) -> bool
     false
 }
 
-/// The number of edges between these splitters and this one.
+/// The number of edges between the placed splitters and this one.
 fn joining(edges: &[Edge], placed: &[usize], splitter: usize) -> usize
     ensures { result ≡ numbering.joining edges.now placed.now splitter }
 {
@@ -38,7 +38,7 @@ fn joining(edges: &[Edge], placed: &[usize], splitter: usize) -> usize
     count
 }
 
-/// The place of the first of those that are left with the most edges to those that are placed.
+/// The place in `left` of the first splitter with the most edges to those that are placed; 0 where none is left.
 fn first_most(edges: &[Edge], placed: &[usize], left: &[usize]) -> usize
     ensures { result ≡ numbering.first_most (map (numbering.joining edges.now placed.now) left.now) }
 {
@@ -61,7 +61,7 @@ fn first_most(edges: &[Edge], placed: &[usize], left: &[usize]) -> usize
     place
 }
 
-/// Places the first of those that are left with the most edges to those that are placed.
+/// Moves behind the splitters that are placed the first of those that are left with the most edges to them.
 fn place_next(
     edges: &[Edge],
     placed: &mut Vec<usize>,
@@ -76,7 +76,7 @@ fn place_next(
     Ok(())
 }
 
-/// The numbers of so many splitters.
+/// The numbers of so many splitters, from 0.
 fn all_splitters(alloc: Global, splitters: usize) -> Result<Vec<usize>, AllocError>
     ensures { IfOk result (λ all. all.items ≡ range_with_len 0 splitters) }
 {
@@ -101,7 +101,7 @@ fn splitter_order(alloc: Global, net: &Net) -> Result<Vec<usize>, AllocError>
     Ok(placed)
 }
 
-/// The place of the splitter in an order.
+/// The place of the splitter in an order; the order's length where it isn't there.
 fn rank(order: &[usize], splitter: usize) -> usize
     ensures { result ≡ position_or_len (λ k. k == splitter) order.now }
 {
@@ -117,7 +117,7 @@ fn rank(order: &[usize], splitter: usize) -> usize
     place
 }
 
-/// The place of each splitter in an order.
+/// The place of each of so many splitters in an order.
 fn ranks_in(alloc: Global, order: &[usize], splitters: usize) -> Result<Vec<usize>, AllocError>
     ensures { IfOk result (λ ranks. ranks.items
         ≡ map (λ s. position_or_len (λ k. k == s) order.now) (range_with_len 0 splitters)) }
@@ -129,7 +129,7 @@ fn ranks_in(alloc: Global, order: &[usize], splitters: usize) -> Result<Vec<usiz
     Ok(ranks)
 }
 
-/// The rank of each splitter.
+/// The rank of each splitter: its place in the order in which the search places them.
 pub fn ranks_of(alloc: Global, net: &Net) -> Result<Vec<usize>, AllocError>
     ensures { IfOk result (λ ranks. ranks.items ≡ formula.ranks_of net.now) }
 {

@@ -25,7 +25,7 @@ fn starts(reading: &Reading, i: usize) -> bool
     reading.says(Fact::Begins(cell)) || reading.says(Fact::HalfOn(cell))
 }
 
-/// The number of the cell to which what stands on this one, so turned, hands.
+/// The number of the cell to which what stands on this one, so turned, hands; none where it hands to none inside.
 fn handed(reading: &Reading, i: usize, dir: Dir) -> Option<usize>
     requires solved { IsSolved reading.now }
     requires within { i < spots_in reading.now.request.rect }
@@ -38,7 +38,7 @@ fn handed(reading: &Reading, i: usize, dir: Dir) -> Option<usize>
     ahead(rect, i, dir, 1)
 }
 
-/// The number of the cell so far ahead, where the entrance on this one pairs with an exit there.
+/// The number of the cell at this distance ahead, where the entrance on this one pairs with an exit there; else none.
 fn paired(reading: &Reading, i: usize, dir: Dir, distance: u32) -> Option<usize>
     requires within { i < spots_in reading.now.request.rect }
     requires some { 1 ≤ distance }
@@ -57,7 +57,7 @@ fn paired(reading: &Reading, i: usize, dir: Dir, distance: u32) -> Option<usize>
     }
 }
 
-/// The number of the cell of the exit with which the entrance on this one pairs.
+/// The number of the cell of the exit with which the entrance on this one pairs; none where it pairs with none.
 fn exit_of(reading: &Reading, i: usize, dir: Dir) -> Option<usize>
     requires { i < spots_in reading.now.request.rect }
     ensures { TellsExit reading.now i dir result }
@@ -78,7 +78,8 @@ fn is_entrance(shape: Shape) -> bool
     matches!(shape, Shape::Entrance)
 }
 
-/// The number of the cell to which what comes to this one goes.
+/// The number of the cell to which what comes to this one goes; none where this one is empty, or it goes to none
+/// inside.
 fn next(reading: &Reading, i: usize) -> Option<usize>
     requires solved { IsSolved reading.now }
     requires within { i < spots_in reading.now.request.rect }
@@ -94,7 +95,7 @@ fn next(reading: &Reading, i: usize) -> Option<usize>
     }
 }
 
-/// Marks the cells to which what comes to this one goes, and this one.
+/// Marks this cell and those to which what comes to it goes, one after another, up to one that is marked already.
 fn mark_from(reading: &Reading, marks: &mut Vec<bool>, start: usize)
     requires solved { IsSolved reading.now }
     requires marks { AreMarks reading.now marks.old.items }
@@ -114,7 +115,8 @@ fn mark_from(reading: &Reading, marks: &mut Vec<bool>, start: usize)
     }
 }
 
-/// Marks for each cell whether it is reached.
+/// For each cell, by its number, whether it is reached: a half stands there, an input begins there, or something comes
+/// to it from such a cell.
 pub(crate) fn reached(alloc: Global, reading: &Reading) -> Result<Vec<bool>, AllocError>
     requires { IsSolved reading.now }
     ensures marks { IfOk result (λ marks. AreMarks reading.now marks.items) }

@@ -96,7 +96,7 @@ impl<'a> Reading<'a> {
         }
     }
 
-    /// Whether a fact holds.
+    /// Whether a fact of the request holds.
     pub(crate) fn says(&self, fact: Fact) -> bool
         requires { IsWithin self.now.request fact }
         ensures { result ≡ reading_of self.now fact }
@@ -128,7 +128,7 @@ impl<'a> Reading<'a> {
         self.request.tier().reach() + 1
     }
 
-    /// What the cell with this number holds.
+    /// What the cell with this number holds. The assignment meets the formula, so it says exactly one thing.
     pub(crate) fn content(&self, i: usize) -> Content
         requires solved { IsSolved self.now }
         requires within { i < spots_in self.now.request.rect }

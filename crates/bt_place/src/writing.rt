@@ -25,7 +25,7 @@ fn var_of(formula: &Formula, numbers: &Numbers, fact: Fact) -> Var
     }
 }
 
-/// Adds the literal of a claim, where it is one of those that are given.
+/// Adds the literal that a claim doesn't hold, where the claim is one of those that are given.
 fn push_given(
     lits: &mut Vec<Lit>,
     formula: &Formula,
@@ -46,7 +46,7 @@ fn push_given(
     Ok(())
 }
 
-/// Adds the literal of a claim, where it is one of those of which one follows.
+/// Adds the literal that a claim holds, where the claim is one of those of which one follows.
 fn push_following(
     lits: &mut Vec<Lit>,
     formula: &Formula,
@@ -67,7 +67,7 @@ fn push_following(
     Ok(())
 }
 
-/// Adds the literals of the claims that are given.
+/// Adds for each claim that is given the literal that it doesn't hold.
 fn push_all_given(
     lits: &mut Vec<Lit>,
     formula: &Formula,
@@ -85,7 +85,7 @@ fn push_all_given(
     Ok(())
 }
 
-/// Adds the literals of the claims of which one follows.
+/// Adds for each claim of those of which one follows the literal that it holds.
 fn push_all_following(
     lits: &mut Vec<Lit>,
     formula: &Formula,
@@ -103,7 +103,7 @@ fn push_all_following(
     Ok(())
 }
 
-/// Makes the list that of the literals of a rule.
+/// Replaces the list by the literals of a rule's clause: some given claim doesn't hold, or one that follows does.
 fn set_literals(
     lits: &mut Vec<Lit>,
     formula: &Formula,

@@ -45,7 +45,7 @@ pub fn print_place_formula<K: Sink>(
     print_clauses(formula, sink)
 }
 
-/// Writes the line of the marks.
+/// Writes the line that says that the first variables are the marks of edges.
 fn print_marks<K: Sink>(columns: Columns, sink: &mut K) -> Result<(), WriteFault>
     ensures { WritesText (passage K.held K.faults sink.old sink.new)
         (block_line (mark_block columns)) result }

@@ -22,7 +22,7 @@ pub fn print<K: Sink>(net: &Net, sink: &mut K) -> Result<(), WriteFault>
     write_all_of(sink, b"end\n")
 }
 
-/// Writes the same text with these lines before `end`.
+/// Writes the text of a network with these lines before its last one, `end`.
 pub fn print_with<K: Sink>(net: &Net, lines: &[u8], sink: &mut K) -> Result<(), WriteFault>
     ensures { WritesText (passage K.held K.faults sink.old sink.new) (text_with net.now lines.now) result }
 {
@@ -82,6 +82,7 @@ fn print_preference<K: Sink>(
     }
 }
 
+/// The first line of a network's text, with the numbers of inputs, outputs and splitters.
 fn header_line(net: &Net) -> LineBuffer
     ensures { result ≡ line (header net.now) }
 {
@@ -94,6 +95,7 @@ fn header_line(net: &Net) -> LineBuffer
     line
 }
 
+/// The line of an edge: where it starts and ends, and its cap where that isn't 1.
 fn edge_line(edge: Edge) -> LineBuffer
     ensures { result ≡ line (edge_text edge) }
 {
@@ -107,6 +109,7 @@ fn edge_line(edge: Edge) -> LineBuffer
     line
 }
 
+/// The line that begins with a word and names a splitter, and the edge that it prefers.
 fn priority_line(word: &[u8], splitter: u32, edge: u32) -> LineBuffer
     requires { length word.now ≤ 6 }
     ensures { result ≡ line (word.now ++ decimal splitter ++ codes " " ++ decimal edge) }

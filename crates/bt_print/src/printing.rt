@@ -51,7 +51,7 @@ pub fn print_answer<K: Sink>(answer: &Answer, formed: &[u8], sink: &mut K) -> Re
     }
 }
 
-/// Writes the yes certificate for a property.
+/// Writes the certificate that a network has a property: the line `yes`, the definitions, and the steps of the log.
 fn print_proof<K: Sink>(
     property: Property,
     definitions: &[Definition],
@@ -91,7 +91,8 @@ fn print_same<K: Sink>(
     print_extended_log(definitions, log, sink)
 }
 
-/// Writes why a search was given up.
+/// Writes why a search was given up: the log whose steps are used up, over the formula that the definitions extend, or
+/// the trace of a check.
 fn print_gave_up<K: Sink>(
     definitions: &[Definition],
     cause: &GaveUp,
@@ -107,7 +108,7 @@ fn print_gave_up<K: Sink>(
     }
 }
 
-/// Writes a log that is used up.
+/// Writes the line `spent` with the number of steps, and the definitions and the steps of a log that is used up.
 fn print_spent<K: Sink>(
     definitions: &[Definition],
     log: &Log,

@@ -72,7 +72,7 @@ fn print_row<K: Sink>(
     write_all_of(sink, b"\n")
 }
 
-/// Writes the words before the terms.
+/// Writes the words of an atom's line before its terms: its variable, from 1, its relation and its bound.
 fn print_head<K: Sink>(place: usize, row: &Row, sink: &mut K) -> Result<(), WriteFault>
     ensures { WritesText (passage K.held K.faults sink.old sink.new) (row_head place row.now) result }
 {

@@ -33,7 +33,7 @@ pub enum Detail {
 #[derive(Clone, Copy)]
 pub struct Line(pub &'static str, pub Detail);
 
-/// The line, and a line feed.
+/// The text of a line: its words, what they are said of, and a line feed.
 fn text_of(alloc: Global, line: &Line) -> Result<Vec<u8>, AllocError>
     ensures { IfOk result (λ text. text.items ≡ line_text line.now) }
 {
@@ -43,6 +43,7 @@ fn text_of(alloc: Global, line: &Line) -> Result<Vec<u8>, AllocError>
     Ok(text)
 }
 
+/// Adds what a line says after its words, each name and each number after a space.
 fn push_detail(text: &mut Vec<u8>, detail: Detail) -> Result<(), AllocError>
     ensures { OnOk result (text.new.items ≡ text.old.items ++ detail_text detail) }
 {
@@ -75,6 +76,7 @@ fn push_detail(text: &mut Vec<u8>, detail: Detail) -> Result<(), AllocError>
     }
 }
 
+/// Adds a space and a name.
 fn push_spaced_name(text: &mut Vec<u8>, name: &str) -> Result<(), AllocError>
     ensures { OnOk result (text.new.items ≡ text.old.items ++ (codes " " ++ name.now)) }
 {
@@ -82,6 +84,7 @@ fn push_spaced_name(text: &mut Vec<u8>, name: &str) -> Result<(), AllocError>
     text.extend_from_slice(name.as_bytes())
 }
 
+/// Adds a space and a number.
 fn push_spaced_number(text: &mut Vec<u8>, number: usize) -> Result<(), AllocError>
     ensures { OnOk result (text.new.items ≡ text.old.items ++ (codes " " ++ decimal number)) }
 {

@@ -16,7 +16,7 @@ pub fn says_yes(property: Property, line: &[u8]) -> bool
     }
 }
 
-/// Whether the line says that it hasn't.
+/// Whether the line says that the network lacks the property.
 pub fn says_no(property: Property, line: &[u8]) -> bool
     ensures { IsTrue result ↔ (line.now ≡ codes "no " ++ property_name property) }
 {
@@ -40,7 +40,7 @@ pub fn says_same(line: &[u8]) -> bool
     line == b"same".as_slice()
 }
 
-/// Whether the line says that they don't.
+/// Whether the line says that the networks don't behave the same.
 pub fn says_differ(line: &[u8]) -> bool
     ensures { IsTrue result ↔ (line.now ≡ codes "differ") }
 {

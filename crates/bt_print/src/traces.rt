@@ -39,6 +39,7 @@ pub fn print_wide<K: Sink>(wide: &Wide, sink: &mut K) -> Result<(), WriteFault>
     print_wide_end(wide, sink)
 }
 
+/// Writes the line `wide`: what the numbers are for, and their row and column.
 fn print_wide_head<K: Sink>(wide: &Wide, sink: &mut K) -> Result<(), WriteFault>
     ensures { WritesText (passage K.held K.faults sink.old sink.new) (wide_head wide.now) result }
 {
@@ -50,6 +51,7 @@ fn print_wide_head<K: Sink>(wide: &Wide, sink: &mut K) -> Result<(), WriteFault>
     write_pieces(sink, &[b"wide ", place, b" ", row, b" ", column, b"\n"])
 }
 
+/// Writes the line `numbers` with an operation and its two numbers, and the line `end`.
 fn print_wide_end<K: Sink>(wide: &Wide, sink: &mut K) -> Result<(), WriteFault>
     ensures { WritesText (passage K.held K.faults sink.old sink.new) (wide_end wide.now) result }
 {
@@ -125,6 +127,7 @@ fn print_pivot_lines<K: Sink>(steps: &[Pivot], sink: &mut K) -> Result<(), Write
     Ok(())
 }
 
+/// Writes the line of a pivot: which position leaves the basis, and which enters.
 fn print_pivot<K: Sink>(step: Pivot, sink: &mut K) -> Result<(), WriteFault>
     ensures { WritesText (passage K.held K.faults sink.old sink.new) (pivot_line step) result }
 {

@@ -13,7 +13,7 @@ impl Random {
         Random { state }
     }
 
-    /// The next number, below a bound; 0 where the bound is 0.
+    /// The next number, from 0 on and below a bound, of at most 31 bits; 0 where the bound is 0.
     pub fn below(&mut self, bound: usize) -> usize
         ensures { 0 < bound → result < bound }
     {
@@ -24,7 +24,7 @@ impl Random {
         (self.state >> 33) as usize % bound.max(1)
     }
 
-    /// A number or one of the two beside it; 0 in place of a negative one.
+    /// The number itself, one less or one more, by the next draw; 0 where one less than 0 is drawn.
     pub fn near(&mut self, number: usize) -> usize {
         number.saturating_add(self.below(3)).saturating_sub(1)
     }

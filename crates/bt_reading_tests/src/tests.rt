@@ -22,6 +22,7 @@ fn fields(row: &str, mark: char) -> [&str; 5] {
     fields
 }
 
+/// The tier of this name, or the basic one.
 fn tier_named(name: &str) -> Tier {
     match name {
         "fast" => Tier::Fast,
@@ -31,6 +32,7 @@ fn tier_named(name: &str) -> Tier {
     }
 }
 
+/// The kind of part of this name, or a belt.
 fn kind_named(name: &str) -> Kind {
     match name {
         "entrance" => Kind::Entrance,
@@ -40,6 +42,7 @@ fn kind_named(name: &str) -> Kind {
     }
 }
 
+/// The direction of this name, or north.
 fn direction_named(name: &str) -> Dir {
     match name {
         "east" => Dir::East,

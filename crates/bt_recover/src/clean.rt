@@ -14,7 +14,7 @@ use crate::partners::Pairs;
 use crate::refusals::{first_blocked, first_side_loaded};
 use std::alloc::Global;
 
-/// What is refused where a piece is in no pair.
+/// The refusal of a layout whose underground pieces aren't all in pairs.
 fn fault_of(fault: PairFault) -> RecoverFault
     ensures { result ≡ fault_of fault }
 {

@@ -1,8 +1,8 @@
-//! One edge for each chain, found by following the chain to its end.
+//! One edge for each chain, found by following the chain to its end. A chain is what an item passes from an input or a
+//! half of a splitter to the next splitter or to an output.
 //!
-//! An edge names a splitter or an output by its number, so the numbers are written into a table by
-//! part first. With it each chain is walked once, the least speed so far is carried along, and the work
-//! is that of the parts.
+//! An edge names a splitter or an output by its number, so the numbers are written into a table by part first. With it
+//! each chain is walked once, the least speed so far is carried along, and the work is that of the parts.
 ghost use Rattle.std.specs.Prelude.{◌≡◌, ◌≢◌, map, ◌↔◌, ℕ, ◌<◌, ◌≤◌, length, OnOk, IfOk, MatchOption, All, AllPairs, Contains};
 ghost use Rattle.bt_parts.specs.Layouts.{IsAt};
 ghost use Rattle.bt_recover.specs.Pairing.{ArePartners};
@@ -48,7 +48,7 @@ struct Way {
     speed: u32,
 }
 
-/// Writes the place of each listed part in the list.
+/// Writes for each listed part its place in the list, at the index of the part.
 fn write_places(numbers: &mut Vec<u32>, list: &[usize])
     requires within { All (λ i. i < length numbers.old.items) list.now }
     requires once { AllPairs ◌≢◌ list.now }
@@ -62,7 +62,7 @@ fn write_places(numbers: &mut Vec<u32>, list: &[usize])
     }
 }
 
-/// The numbers of the splitters and of the outputs, by their parts.
+/// The numbers of the splitters and of the outputs, at the indices of their parts. At all others there is 0.
 fn numbers_of(alloc: Global, grid: &Grid, names: &Names) -> Result<Vec<u32>, AllocError>
     requires names { AreNames grid.now (naming_of names.now) }
     requires few { HasMany (naming_of names.now) → ⊥ }
@@ -153,7 +153,8 @@ fn way_from(grid: &Grid, pairs: &Pairs, labels: &Labels, first: usize) -> Way
     unreachable!()
 }
 
-/// Where the chain from this half of a splitter leads, at the chain's speed, if the half hands on.
+/// Where the chain from this half of the splitter `s` leads, at the chain's speed. None where no part is in front of
+/// the half.
 fn way_from_half(grid: &Grid, pairs: &Pairs, labels: &Labels, s: usize, half: Cell) -> Option<Way>
     requires splitter { IsSplitter grid.now s }
     requires half { IsAt grid.now s half }

@@ -26,7 +26,7 @@ pub(crate) struct Names {
     pub(crate) outputs: Vec<usize>,
 }
 
-/// Whether the part is a belt or an entrance without a feeder.
+/// Whether the part is a belt or an entrance to which no part hands.
 fn is_input(grid: &Grid, pairs: &Pairs, i: usize) -> bool
     requires within { i < length grid.now }
     requires partners { ArePartners grid.now pairs.now }
@@ -63,7 +63,7 @@ fn is_splitter(grid: &Grid, i: usize) -> bool
     is_kind(grid.part(i), Kind::Splitter)
 }
 
-/// Lists the part where it belongs to the list.
+/// Adds the part to the list where `listed` is set.
 fn push_if(list: &mut Vec<usize>, i: usize, listed: bool) -> Result<(), AllocError>
     ensures { OnOk result (list.new.items ≡ (if listed then list.old.items ++ i ∷ [] else list.old.items)) }
 {
@@ -93,7 +93,7 @@ fn listed(alloc: Global, grid: &Grid, pairs: &Pairs) -> Result<Names, AllocError
     })
 }
 
-/// The parts with their cells.
+/// The parts with these indices, each with its cell before its index.
 fn keyed(alloc: Global, parts: &[Part], indices: &[usize]) -> Result<Vec<(Cell, usize)>, AllocError>
     requires { All (λ i. i < length parts.now) indices.now }
     ensures { IfOk result (λ list. AreKeyed parts.now indices.now list.items) }
@@ -105,7 +105,7 @@ fn keyed(alloc: Global, parts: &[Part], indices: &[usize]) -> Result<Vec<(Cell, 
     Ok(list)
 }
 
-/// The parts without their cells.
+/// The indices of the parts without their cells.
 fn unkeyed(alloc: Global, keyed: &[(Cell, usize)]) -> Result<Vec<usize>, AllocError>
     ensures { IfOk result (λ list. list.items ≡ map (λ entry. entry.1) keyed.now) }
 {

@@ -1,7 +1,8 @@
-//! Which part hands to a belt or an underground piece, and to which it hands, by looking at few cells.
+//! Which part hands to a belt or an underground piece, and to which it hands, by looking at few cells. A part looks at
+//! the cell in front of it, and hands to the part there; an entrance looks at none, and hands to its exit.
 //!
-//! In a layout that is refused for nothing but rings each has one giver and one taker at most, so that
-//! chains can be walked in both directions.
+//! In a layout that is refused for nothing but rings each has one giver and one taker at most, so that chains can be
+//! walked in both directions.
 ghost use Rattle.std.specs.Prelude.{◌≡◌, ◌≢◌, ◌↔◌, ℕ, ◌<◌, length, IsTrue, MatchOption, IfSome};
 ghost use Rattle.bt_parts.specs.Cells.{IsInRange, opposite};
 ghost use Rattle.bt_parts.specs.Layouts.{HasPart, IsAt, IsWellPlaced};
@@ -18,7 +19,7 @@ use crate::sight::{left, looker};
 use bt_model::is_kind;
 use bt_parts::{Kind, Part, front};
 
-/// A part that looks at the cell of a belt, and not from ahead.
+/// A part that looks at the cell of a belt, and not from ahead. None where no part does.
 fn belt_feeder(grid: &Grid, belt: &Part) -> Option<usize>
     requires { IsInRange belt.now.cell }
     ensures feeder { TellsOne (IsBeltFeeder grid.now belt.now) result }
@@ -33,7 +34,7 @@ fn belt_feeder(grid: &Grid, belt: &Part) -> Option<usize>
     looker(grid, belt.cell, left(belt.dir).opposite())
 }
 
-/// The part that hands to this belt or underground piece.
+/// The part that hands to this belt or underground piece. None where no part does.
 pub(crate) fn giver(grid: &Grid, pairs: &Pairs, i: usize) -> Option<usize>
     requires link { IsLink grid.now i }
     requires within { i < length grid.now }
@@ -66,7 +67,7 @@ pub(crate) fn taker(grid: &Grid, pairs: &Pairs, i: usize) -> Option<usize>
     grid.at(front(part, part.cell))
 }
 
-/// The belt or underground piece that hands to this one.
+/// The belt or underground piece that hands to this one. None where a splitter does, or nothing.
 pub(crate) fn link_before(grid: &Grid, pairs: &Pairs, i: usize) -> Option<usize>
     requires link { IsLink grid.now i }
     requires within { i < length grid.now }
@@ -84,7 +85,7 @@ pub(crate) fn link_before(grid: &Grid, pairs: &Pairs, i: usize) -> Option<usize>
     }
 }
 
-/// The belt or underground piece to which this one hands.
+/// The belt or underground piece to which this one hands. None where it hands to a splitter, or to nothing.
 pub(crate) fn link_after(grid: &Grid, pairs: &Pairs, i: usize) -> Option<usize>
     requires link { IsLink grid.now i }
     requires within { i < length grid.now }

@@ -37,14 +37,14 @@ impl From<AllocError> for GridFault {
     }
 }
 
-/// The index at the cell.
+/// The index of the part on the cell. None where the cell is empty.
 fn index_at(cells: &BTreeMap<Cell, usize>, cell: Cell) -> Option<usize>
     ensures { result ≡ index_at cells.now cell }
 {
     cells.get(&cell).copied()
 }
 
-/// The lesser of the indices that are there.
+/// The lesser of two indices, or the only one where one is missing. None where both are.
 fn lesser(one: Option<usize>, other: Option<usize>) -> Option<usize>
     ensures { IsLesser one other result }
 {
@@ -55,7 +55,7 @@ fn lesser(one: Option<usize>, other: Option<usize>) -> Option<usize>
     }
 }
 
-/// The least index on a cell of the part.
+/// The least index of a part that is already on a cell of this part. None where its cells are empty.
 fn least_on(cells: &BTreeMap<Cell, usize>, part: &Part) -> Option<usize>
     requires { IsInRange part.now.cell }
     ensures { MatchOption result (IsFreeFor cells.now part.now) (IsLeastOn cells.now part.now) }

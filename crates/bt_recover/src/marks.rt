@@ -17,7 +17,7 @@ use bt_model::is_kind;
 use bt_parts::Kind;
 use std::alloc::{AllocError, Global};
 
-/// Marks the belts and underground pieces from this one on.
+/// Marks this belt or underground piece, and those after it on its chain, up to one that is marked already.
 fn mark_from(grid: &Grid, pairs: &Pairs, marks: &mut Vec<bool>, start: usize)
     requires partners { ArePartners grid.now pairs.now }
     requires orderly { IsOrderly grid.now }
@@ -39,7 +39,8 @@ fn mark_from(grid: &Grid, pairs: &Pairs, marks: &mut Vec<bool>, start: usize)
     }
 }
 
-/// Marks the chain that starts with this part, if one does.
+/// Marks the belts and underground pieces of a chain that starts with this part: no other such piece hands to it. Does
+/// nothing where none starts here.
 fn mark_chain(grid: &Grid, pairs: &Pairs, marks: &mut Vec<bool>, i: usize)
     requires partners { ArePartners grid.now pairs.now }
     requires orderly { IsOrderly grid.now }
@@ -57,7 +58,7 @@ fn mark_chain(grid: &Grid, pairs: &Pairs, marks: &mut Vec<bool>, i: usize)
     }
 }
 
-/// The first belt or underground piece that isn't marked.
+/// The first belt or underground piece that isn't marked. None where all are.
 fn first_unmarked(grid: &Grid, marks: &[bool]) -> Option<usize>
     requires { length marks.now ≡ length grid.now }
     ensures { TellsFirst (IsUnmarkedLink grid.now marks.now) result }
@@ -70,7 +71,7 @@ fn first_unmarked(grid: &Grid, marks: &[bool]) -> Option<usize>
     None
 }
 
-/// The first part that is on a ring.
+/// The first part that is on a ring. None where no part is.
 ///
 /// A belt or underground piece is on a ring where no chain that starts somewhere leads to it.
 pub(crate) fn first_on_ring(

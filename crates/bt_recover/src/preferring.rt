@@ -26,7 +26,7 @@ fn priority_of(priorities: &[Priority], i: usize) -> Priority
     }
 }
 
-/// Whether the half of this part is the one on this hand.
+/// Whether the half of this splitter is the one on this hand. False where no hand is named.
 fn is_half_on(grid: &Grid, s: usize, hand: Option<Hand>, half: Cell) -> bool
     requires { s < length grid.now }
     ensures { IsTrue result ↔ IsHalfOn grid.now s hand half }
@@ -34,7 +34,8 @@ fn is_half_on(grid: &Grid, s: usize, hand: Option<Hand>, half: Cell) -> bool
     is_preferred(hand, grid.part(s), half)
 }
 
-/// The number of the splitter that gives to this edge first.
+/// The number of the splitter that gives to this edge first. None where the edge starts at no splitter, or that one
+/// prefers another edge or none.
 fn given(grid: &Grid, priorities: &[Priority], splitters: &[usize], joint: Joint) -> Option<usize>
     requires { All (λ s. s < length grid.now) splitters.now }
     ensures told { (naming : Naming) (chain : Chain) → naming.splitters ≡ splitters.now
@@ -59,7 +60,8 @@ fn given(grid: &Grid, priorities: &[Priority], splitters: &[usize], joint: Joint
     }
 }
 
-/// The number of the splitter that takes from this edge first.
+/// The number of the splitter that takes from this edge first. None where the edge ends at no splitter, or that one
+/// prefers another edge or none.
 fn taken(grid: &Grid, priorities: &[Priority], splitters: &[usize], joint: Joint) -> Option<usize>
     requires { All (λ s. s < length grid.now) splitters.now }
     ensures told { (naming : Naming) (chain : Chain) → naming.splitters ≡ splitters.now
@@ -84,7 +86,7 @@ fn taken(grid: &Grid, priorities: &[Priority], splitters: &[usize], joint: Joint
     }
 }
 
-/// For each splitter the edge to which it gives first.
+/// For each splitter the edge to which it gives first; None where it prefers none.
 pub(crate) fn gives_of(
     alloc: Global,
     grid: &Grid,
@@ -107,7 +109,7 @@ pub(crate) fn gives_of(
     Ok(gives)
 }
 
-/// For each splitter the edge from which it takes first.
+/// For each splitter the edge from which it takes first; None where it prefers none.
 pub(crate) fn takes_of(
     alloc: Global,
     grid: &Grid,

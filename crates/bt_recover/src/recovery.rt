@@ -32,7 +32,8 @@ pub struct Traced {
     pub outputs: Vec<usize>,
 }
 
-/// What is refused where the size of a network is: of wired edges no other fault comes.
+/// The refusal of a layout whose edges make no network: there are too many of them, or else an end is lacking. No other
+/// fault comes of edges that chains make.
 fn size_fault(fault: NetFault) -> RecoverFault
     ensures { result ≡ size_fault fault }
 {
@@ -67,7 +68,7 @@ struct Found {
     joints: Vec<Joint>,
 }
 
-/// What is found of the layout.
+/// What is found of the layout; or the first of its faults, in the order of [`RecoverFault`].
 fn found_in(alloc: Global, grid: &Grid) -> Result<Found, RecoverFault>
     ensures { UnlessMemory Memory (IsFound grid.now) result }
 {

@@ -14,7 +14,8 @@ use crate::sight::{is_seen_aside, is_seen_twice};
 use bt_model::is_kind;
 use bt_parts::{Cell, Kind, Side, cells_of, front, side};
 
-/// Whether there is side-loading at the part.
+/// Whether the part is side-loaded: a belt at which two parts look that aren't ahead of it, or an underground piece at
+/// which one looks from a side.
 fn is_side_loaded(grid: &Grid, i: usize) -> bool
     requires within { i < length grid.now }
     requires well_placed { IsWellPlaced grid.now }
@@ -29,7 +30,7 @@ fn is_side_loaded(grid: &Grid, i: usize) -> bool
     }
 }
 
-/// The first part at which there is side-loading.
+/// The first part that is side-loaded. None where no part is.
 pub(crate) fn first_side_loaded(grid: &Grid) -> Option<usize>
     ensures well_placed { IsWellPlaced grid.now }
     ensures none { TellsFirst (IsSideLoaded grid.now) result }
@@ -42,10 +43,9 @@ pub(crate) fn first_side_loaded(grid: &Grid) -> Option<usize>
     None
 }
 
-/// Whether the kind blocks what comes from there.
+/// Whether a part of the kind takes nothing from a part that looks at it from this side.
 ///
-/// A belt and an entrance block from ahead, an exit from behind and ahead, and a splitter from
-/// everywhere but behind.
+/// A belt and an entrance block from ahead, an exit from behind and ahead, and a splitter from everywhere but behind.
 fn blocks(kind: Kind, side: Side) -> bool
     ensures { IsTrue result ↔ BlocksFrom kind side }
 {
@@ -88,7 +88,7 @@ fn is_blocked(grid: &Grid, i: usize) -> bool
     }
 }
 
-/// The first part that looks at one that takes nothing from there.
+/// The first part that looks at one that takes nothing from there. None where no part does.
 pub(crate) fn first_blocked(grid: &Grid) -> Option<usize>
     ensures { TellsFirst (IsBlocked grid.now) result }
 {

@@ -87,7 +87,7 @@ fn push_stays(
     Ok(())
 }
 
-/// Adds what there is.
+/// Adds the demand, where there is one.
 fn push_if_any(stays: &mut Vec<Demand>, stay: Option<Demand>) -> Result<(), AllocError>
     ensures { OnOk result (stays.new.items ≡ stays.old.items ++ option_to_list stay) }
 {
@@ -97,7 +97,8 @@ fn push_if_any(stays: &mut Vec<Demand>, stay: Option<Demand>) -> Result<(), Allo
     Ok(())
 }
 
-/// That the end with this part is to stand at the side across which the part looks.
+/// That the end with this part is to stand at the side across which the part looks. None where the part isn't at that
+/// side.
 fn stay_of(parts: &[Part], end: End, part: &Part) -> Option<Demand>
     requires { AreInRange parts.now }
     ensures { IsStayOf parts.now end part.now (option_to_list result) }
@@ -112,7 +113,8 @@ fn stay_of(parts: &[Part], end: End, part: &Part) -> Option<Demand>
     }
 }
 
-/// The side across which an end looks whose part points in the direction.
+/// The side at which an end may stand whose part points in the direction: behind the part of an input, and ahead of
+/// that of an output.
 fn side_ahead(end: End, dir: Dir) -> Dir
     ensures { dir ≡ way_across end result }
 {
@@ -122,7 +124,7 @@ fn side_ahead(end: End, dir: Dir) -> Dir
     }
 }
 
-/// Whether the cell is at the side that lies in the direction of the least rectangle that holds the parts.
+/// Whether no part reaches farther in the direction than the cell, which is then at that side of the layout.
 fn is_at_side(parts: &[Part], dir: Dir, cell: Cell) -> bool
     requires { AreInRange parts.now }
     ensures { IsTrue result ↔ IsAtSideOf parts.now dir cell }
@@ -135,7 +137,7 @@ fn is_at_side(parts: &[Part], dir: Dir, cell: Cell) -> bool
     true
 }
 
-/// Whether the part covers a cell that lies farther in the direction.
+/// Whether the part covers a cell that lies farther in the direction than this one.
 fn reaches_farther(part: &Part, dir: Dir, cell: Cell) -> bool
     requires { IsInRange part.now.cell }
     ensures { IsTrue result ↔ ReachesFarther part.now dir cell }

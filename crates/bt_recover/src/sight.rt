@@ -1,4 +1,5 @@
-//! Which parts look at a cell, by the direction in which they look.
+//! Which parts look at a cell, by the direction in which they look. A part looks at the cell in front of it, and an
+//! entrance, which hands on below the ground, at none.
 ghost use Rattle.std.specs.Prelude.{◌≡◌, ◌≢◌, ◌↔◌, ◌⊎◌, ℕ, ◌<◌, length, IsTrue, MatchOption, IfSome};
 ghost use Rattle.bt_parts.specs.Cells.{IsInRange, opposite};
 ghost use Rattle.bt_parts.specs.Layouts.{HasPart, IsAt};
@@ -20,14 +21,14 @@ pub(crate) fn left(dir: Dir) -> Dir
     }
 }
 
-/// Whether the part points in the direction above the ground.
+/// Whether the part looks in the direction. An entrance looks in none.
 fn looks_along(part: &Part, dir: Dir) -> bool
     ensures { IsTrue result ↔ ((part.now.kind ≢ Kind.Entrance) × (part.now.dir ≡ dir)) }
 {
     part.kind != Kind::Entrance && part.dir == dir
 }
 
-/// The part that looks in the direction at the cell.
+/// The part that looks in the direction at the cell. None where no part does.
 pub(crate) fn looker(grid: &Grid, cell: Cell, dir: Dir) -> Option<usize>
     requires { IsInRange cell }
     ensures seen { TellsOne (LooksToward grid.now cell dir) result }
@@ -51,7 +52,7 @@ fn is_seen(grid: &Grid, cell: Cell, dir: Dir) -> bool
     looker(grid, cell, dir).is_some()
 }
 
-/// Whether a part looks at the cell across the direction.
+/// Whether a part looks at the cell from the left or from the right of the direction.
 pub(crate) fn is_seen_aside(grid: &Grid, cell: Cell, dir: Dir) -> bool
     requires { IsInRange cell }
     ensures { IsTrue result ↔ IsSeenAside grid.now cell dir }
@@ -59,7 +60,7 @@ pub(crate) fn is_seen_aside(grid: &Grid, cell: Cell, dir: Dir) -> bool
     is_seen(grid, cell, left(dir)) || is_seen(grid, cell, left(dir).opposite())
 }
 
-/// Whether both sides of the cell, as the direction has them, are looked at from.
+/// Whether parts look at the cell from the left and from the right of the direction.
 fn is_seen_on_both(grid: &Grid, cell: Cell, dir: Dir) -> bool
     requires { IsInRange cell }
     ensures { IsTrue result ↔ IsSeenOnBoth grid.now cell dir }

@@ -13,7 +13,7 @@ fn is_of_tier(part: &Part, tier: Tier) -> bool
     part.tier == tier
 }
 
-/// Whether all parts have one tier.
+/// Whether all parts have one tier, as those of an empty list do.
 pub(crate) fn has_one_tier(parts: &[Part]) -> bool
     ensures { IsTrue result ↔ HasOneTier parts.now }
 {

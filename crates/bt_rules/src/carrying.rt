@@ -1,4 +1,5 @@
-//! Rules of how classes go on from one cell to the next.
+//! Rules of how classes go on from one cell to the next. What stands on a cell carries a class where it lies on the
+//! chain of an edge of that class, and a half carries the class of the edges that leave its splitter.
 ghost use Rattle.std.specs.Prelude.{◌≡◌, ◌++◌, ◌∷◌, [], map, flat_map, OnOk};
 ghost use Rattle.std.specs.List.{AllByRecursion};
 ghost use Rattle.bt_rules.specs.Carrying as carrying;
@@ -12,7 +13,9 @@ use bt_model::Request;
 use bt_parts::{Cell, DIRS, Dir};
 use std::alloc::{AllocError, Global};
 
-/// Adds how a class goes on to a part that is no half, and to a half.
+/// Adds how a class goes on where the cell hands to the next one in this direction. A part that is no half has the
+/// class that it is handed, since a chain is of one edge from end to end; a half is of a splitter into which an edge of
+/// the class goes, since else the chain would stand for no edge of the network.
 fn add_carried(
     alloc: Global,
     draft: &mut Draft,
@@ -37,7 +40,8 @@ fn add_carried(
     draft.add(&[goes, half, here], &goals)
 }
 
-/// Adds that what comes to a half of a splitter has a class of which edges go into it.
+/// Adds that what is handed to a half of this splitter has a class of which an edge goes into the splitter: the network
+/// has no other edges into it.
 fn add_taken(
     alloc: Global,
     draft: &mut Draft,
@@ -62,7 +66,8 @@ fn add_taken(
     draft.add(&given, &sources)
 }
 
-/// Adds that a belt or an exit that faces the outside hasn't this class.
+/// Adds that a belt or an exit that faces the outside hasn't this class, of which no edge ends at an output: what
+/// leaves the rectangle is an output.
 fn add_kept_in(draft: &mut Draft, cell: Cell, dir: Dir, class: Class) -> Result<(), AllocError>
     ensures { OnOk result (draft.new ≡ draft.old ++ carrying.kept_in_rules cell dir class) }
 {
@@ -71,7 +76,7 @@ fn add_kept_in(draft: &mut Draft, cell: Cell, dir: Dir, class: Class) -> Result<
     draft.add(&[carries, holds(cell, Shape::Exit, dir)], &[])
 }
 
-/// Adds how each of these classes goes on.
+/// Adds how each of these classes goes on where the cell hands to the next one in this direction.
 fn add_all_carried(
     alloc: Global,
     draft: &mut Draft,
@@ -91,7 +96,7 @@ fn add_all_carried(
     Ok(())
 }
 
-/// Adds what comes to a half of each of these splitters.
+/// Adds of each of these splitters that what is handed to a half of it has a class of which an edge goes into it.
 fn add_all_taken(
     alloc: Global,
     draft: &mut Draft,
@@ -126,7 +131,7 @@ fn add_all_kept_in(
     Ok(())
 }
 
-/// Adds how classes go on from a cell to one inside the rectangle.
+/// Adds how classes go on where the cell hands to the next one in this direction, which is inside the rectangle.
 fn add_onward_inside(
     alloc: Global,
     draft: &mut Draft,
@@ -144,7 +149,8 @@ fn add_onward_inside(
     Ok(())
 }
 
-/// Adds how classes go on from a cell in a direction.
+/// Adds how classes go on from a cell in a direction: to the next cell, or out of the rectangle, which outputs alone
+/// do.
 fn add_onward(
     alloc: Global,
     draft: &mut Draft,
@@ -164,7 +170,7 @@ fn add_onward(
     }
 }
 
-/// Adds the rules of classes, at a cell.
+/// Adds how classes go on from a cell in each direction.
 pub fn add_carrying(
     alloc: Global,
     draft: &mut Draft,

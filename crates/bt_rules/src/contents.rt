@@ -1,4 +1,5 @@
-//! Rules of what a cell holds.
+//! Rules of what a cell holds, and of which class it has: that of the edge on whose chain a part lies, or of the edges
+//! that leave the splitter of a half.
 ghost use Rattle.std.specs.Prelude.{◌≡◌, ◌++◌, ◌∷◌, [], map, flat_map, IfOk, OnOk};
 ghost use Rattle.bt_rules.specs.Contents as contents;
 ghost use Rattle.bt_facts.specs.Facts as told;
@@ -17,7 +18,7 @@ use bt_model::Request;
 use bt_parts::{Cell, DIRS, Dir, Rect};
 use std::alloc::{AllocError, Global};
 
-/// Adds that the cell holds a part of one of these shapes, in each direction.
+/// Adds for each of these shapes and each direction the fact that the cell holds a part of the shape, turned that way.
 fn push_turned(facts: &mut Vec<Fact>, cell: Cell, shapes: &[Shape]) -> Result<(), AllocError>
     ensures { OnOk result (facts.new.items ≡ facts.old.items
         ++ flat_map (λ of. map (told.holds cell of) dirs) shapes.now) }
@@ -28,7 +29,7 @@ fn push_turned(facts: &mut Vec<Fact>, cell: Cell, shapes: &[Shape]) -> Result<()
     Ok(())
 }
 
-/// What the cell may hold.
+/// The facts of what the cell may hold: nothing, or a part of each shape in each direction.
 fn kinds(alloc: Global, cell: Cell) -> Result<Vec<Fact>, AllocError>
     ensures { IfOk result (λ facts. facts.items ≡ map (fact.Kind cell) contents.contents) }
 {
@@ -43,7 +44,7 @@ fn kinds(alloc: Global, cell: Cell) -> Result<Vec<Fact>, AllocError>
     Ok(facts)
 }
 
-/// Adds that the cell holds exactly one thing.
+/// Adds that the cell holds exactly one thing, a part or nothing: parts don't overlap.
 fn add_contents(alloc: Global, draft: &mut Draft, cell: Cell) -> Result<(), AllocError>
     ensures { OnOk result (draft.new ≡ draft.old ++ contents.content_rules cell) }
 {
@@ -52,7 +53,8 @@ fn add_contents(alloc: Global, draft: &mut Draft, cell: Cell) -> Result<(), Allo
     Ok(())
 }
 
-/// Adds which cells hold a half, and which a belt.
+/// Adds that a half stands on the cell exactly where it holds one, turned some way, and a belt likewise. So rules to
+/// which the direction is all the same are short.
 fn add_shapes(alloc: Global, draft: &mut Draft, cell: Cell) -> Result<(), AllocError>
     ensures { OnOk result (draft.new ≡ draft.old ++ contents.shape_rules cell) }
 {
@@ -64,7 +66,8 @@ fn add_shapes(alloc: Global, draft: &mut Draft, cell: Cell) -> Result<(), AllocE
     Ok(())
 }
 
-/// Adds that beside a half so turned stands the other one.
+/// Adds that beside a half so turned stands the other one, since a splitter covers both cells; or that no such half
+/// stands here, where the other one would be outside.
 fn add_mate(
     draft: &mut Draft,
     rect: Rect,
@@ -87,7 +90,7 @@ fn add_mate(
     }
 }
 
-/// Adds that beside this half stands the other one.
+/// Adds that beside this half, however it is turned, stands the other one.
 fn add_mates_of(draft: &mut Draft, rect: Rect, cell: Cell, half: Half) -> Result<(), AllocError>
     requires { IsNear cell }
     ensures { OnOk result (draft.new ≡ draft.old ++ map (contents.mate_rule rect cell half) dirs) }
@@ -98,7 +101,7 @@ fn add_mates_of(draft: &mut Draft, rect: Rect, cell: Cell, half: Half) -> Result
     Ok(())
 }
 
-/// Adds that halves stand side by side.
+/// Adds that beside either half on the cell, however it is turned, stands the other one.
 fn add_mates(draft: &mut Draft, rect: Rect, cell: Cell) -> Result<(), AllocError>
     requires { IsNear cell }
     ensures { OnOk result (draft.new ≡ draft.old ++ contents.mate_rules rect cell) }
@@ -107,7 +110,8 @@ fn add_mates(draft: &mut Draft, rect: Rect, cell: Cell) -> Result<(), AllocError
     add_mates_of(draft, rect, cell, Half::Greater)
 }
 
-/// Adds that a cell that isn't empty has a class, and no more than one.
+/// Adds that a cell that isn't empty has a class, and an empty one none, and no cell more than one: each part lies on
+/// the chain of one edge, or is a half of one splitter.
 fn add_one_class(
     alloc: Global,
     draft: &mut Draft,
@@ -127,7 +131,7 @@ fn add_one_class(
     Ok(())
 }
 
-/// Adds that a half has no class of edges from inputs.
+/// Adds that a half has no class of edges from inputs: it has that of the edges that leave its splitter.
 fn add_half_class(
     alloc: Global,
     draft: &mut Draft,
@@ -143,7 +147,7 @@ fn add_half_class(
     Ok(())
 }
 
-/// Adds the rules of what a cell holds.
+/// Adds the rules of what a cell holds, but for classes.
 fn add_things(alloc: Global, draft: &mut Draft, rect: Rect, cell: Cell) -> Result<(), AllocError>
     requires { IsNear cell }
     ensures { OnOk result (draft.new ≡ draft.old ++ (contents.content_rules cell ++ contents.shape_rules cell

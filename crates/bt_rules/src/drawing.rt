@@ -21,7 +21,7 @@ use bt_model::Request;
 use bt_parts::Cell;
 use std::alloc::{AllocError, Global};
 
-/// Adds the rules of what stands on a cell.
+/// Adds the rules of what stands on a cell, of which class it has and of which splitter a half is.
 fn add_standing_parts(
     alloc: Global,
     draft: &mut Draft,
@@ -37,7 +37,7 @@ fn add_standing_parts(
     add_standing(alloc, draft, request, cell)
 }
 
-/// Adds the rules of what is handed on from a cell.
+/// Adds the rules of what is handed on from a cell, above and below the ground, and with which class.
 fn add_handing_parts(
     alloc: Global,
     draft: &mut Draft,
@@ -72,7 +72,7 @@ pub fn add_cell(
     Ok(())
 }
 
-/// Adds the rules of a splitter.
+/// Adds the rules of a splitter: that it stands in one place, and by which halves its edges come and go.
 pub fn add_splitter(
     alloc: Global,
     draft: &mut Draft,
@@ -125,7 +125,7 @@ fn add_splitters(
     Ok(())
 }
 
-/// Adds the rules of a request whose rectangle has room.
+/// Adds the rules of a request whose rectangle has room for its halves and ends.
 fn add_room(
     alloc: Global,
     draft: &mut Draft,
@@ -144,8 +144,7 @@ fn add_room(
     Ok(())
 }
 
-/// The rules of a request.
-///
+/// The rules of a request. Where its rectangle has no room for halves and ends, that is a rule that nothing keeps.
 /// They are many: who writes them elsewhere asks `has_room`, and draws them up part by part, by `Plan::new`,
 /// `cells_of`, `add_cell`, `add_splitter`, `add_ends` and `add_counts`, in the same order.
 pub fn rules_of(alloc: Global, request: &Request) -> Result<Draft, AllocError>

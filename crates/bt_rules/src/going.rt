@@ -17,7 +17,9 @@ use bt_model::Request;
 use bt_parts::{Cell, DIRS, Dir, Rect};
 use std::alloc::{AllocError, Global};
 
-/// Adds that only a belt, an exit or a half hands on, and that what is there takes.
+/// Adds that only a belt, an exit or a half so turned hands on in this direction, and only to a belt, an entrance or a
+/// half: a belt takes from behind and from its sides, so not where it faces this cell, and the others take from behind
+/// alone.
 fn add_handed(draft: &mut Draft, cell: Cell, dir: Dir) -> Result<(), AllocError>
     requires { IsNear cell }
     ensures { OnOk result (draft.new ≡ draft.old ++ parts.handed_rules cell dir) }
@@ -41,7 +43,8 @@ fn add_handed(draft: &mut Draft, cell: Cell, dir: Dir) -> Result<(), AllocError>
     draft.add(&[goes, holds(next, Shape::Belt, dir.opposite())], &[])
 }
 
-/// Adds that a belt and an exit hand on, and that a half does so unless nothing is there.
+/// Adds that a belt and an exit so turned hand on to the next cell, and that a half does so unless that is empty: a
+/// chain stops within the rectangle at splitters alone, but a splitter may have a half by which no edge leaves.
 fn add_running(draft: &mut Draft, cell: Cell, dir: Dir) -> Result<(), AllocError>
     requires { IsNear cell }
     ensures { OnOk result (draft.new ≡ draft.old ++ parts.running_rules cell dir) }
@@ -54,7 +57,7 @@ fn add_running(draft: &mut Draft, cell: Cell, dir: Dir) -> Result<(), AllocError
     draft.add(&[holds(cell, Shape::Half(Half::Greater), dir)], &free)
 }
 
-/// Adds what the cell hands on in a direction.
+/// Adds what the cell hands on in a direction. To a cell outside it hands nothing: what leaves there is an output.
 fn add_going(draft: &mut Draft, rect: Rect, cell: Cell, dir: Dir) -> Result<(), AllocError>
     requires { IsNear cell }
     ensures { OnOk result (draft.new ≡ draft.old ++ going.going_rules rect cell dir) }
@@ -67,7 +70,7 @@ fn add_going(draft: &mut Draft, rect: Rect, cell: Cell, dir: Dir) -> Result<(), 
     }
 }
 
-/// Adds what the cell hands on.
+/// Adds what the cell hands on in each direction.
 fn add_all_going(draft: &mut Draft, rect: Rect, cell: Cell) -> Result<(), AllocError>
     requires { IsNear cell }
     ensures { OnOk result (draft.new ≡ draft.old ++ flat_map (going.going_rules rect cell) dirs) }
@@ -78,7 +81,7 @@ fn add_all_going(draft: &mut Draft, rect: Rect, cell: Cell) -> Result<(), AllocE
     Ok(())
 }
 
-/// Adds that an input begins on the cell, where what is behind it in this direction is outside.
+/// Adds the fact that an input begins on the cell. Adds nothing where the cell behind it in this direction is inside.
 fn push_begins_there(
     facts: &mut Vec<Fact>,
     rect: Rect,
@@ -91,7 +94,7 @@ fn push_begins_there(
     push_outside(facts, rect, behind(dir, cell), &[Fact::Begins(cell)])
 }
 
-/// Adds that something comes to the cell in any of these directions.
+/// Adds for each of these directions the fact that the cell behind hands to this one in it, where that cell is inside.
 fn push_all_going_into(
     facts: &mut Vec<Fact>,
     rect: Rect,
@@ -108,7 +111,8 @@ fn push_all_going_into(
     Ok(())
 }
 
-/// Adds that a belt so turned is fed from behind or from a side, or begins an input.
+/// Adds that a belt so turned is fed from behind or from a side, or begins an input: else a chain could begin out of
+/// nothing.
 fn add_fed_belt(
     alloc: Global,
     draft: &mut Draft,
@@ -126,7 +130,7 @@ fn add_fed_belt(
     draft.add(&[holds(cell, Shape::Belt, dir)], &facts)
 }
 
-/// Adds that a belt is fed from behind or from a side, or begins an input.
+/// Adds that a belt, however it is turned, is fed from behind or from a side, or begins an input.
 fn add_fed_belts(alloc: Global, draft: &mut Draft, rect: Rect, cell: Cell) -> Result<(), AllocError>
     requires { IsNear cell }
     ensures { OnOk result (draft.new ≡ draft.old ++ map (going.fed_belt rect cell) dirs) }
@@ -137,7 +141,8 @@ fn add_fed_belts(alloc: Global, draft: &mut Draft, rect: Rect, cell: Cell) -> Re
     Ok(())
 }
 
-/// Adds that an entrance so turned is fed from behind, or begins an input.
+/// Adds that an entrance so turned is fed from behind, or begins an input: else a chain could begin out of nothing.
+/// From its sides it takes nothing.
 fn add_fed_entrance(
     alloc: Global,
     draft: &mut Draft,
@@ -154,7 +159,7 @@ fn add_fed_entrance(
     draft.add(&[holds(cell, Shape::Entrance, dir)], &facts)
 }
 
-/// Adds that an entrance is fed from behind, or begins an input.
+/// Adds that an entrance, however it is turned, is fed from behind, or begins an input.
 fn add_fed_entrances(
     alloc: Global,
     draft: &mut Draft,
@@ -170,7 +175,8 @@ fn add_fed_entrances(
     Ok(())
 }
 
-/// Adds a belt and an entrance on the cell so turned, where what is behind them is outside.
+/// Adds the facts that a belt and that an entrance stands on the cell so turned. Adds nothing where the cell behind is
+/// inside.
 fn push_starters(facts: &mut Vec<Fact>, rect: Rect, cell: Cell, dir: Dir) -> Result<(), AllocError>
     requires { IsNear cell }
     ensures { OnOk result (facts.new.items ≡ facts.old.items ++ parts.starters_towards rect cell dir) }
@@ -182,7 +188,8 @@ fn push_starters(facts: &mut Vec<Fact>, rect: Rect, cell: Cell, dir: Dir) -> Res
     push_outside(facts, rect, behind(dir, cell), &parts)
 }
 
-/// The belts and entrances on the cell behind which the rectangle ends.
+/// The facts that a belt or an entrance stands on the cell with its back to the outside, for each direction in which it
+/// may.
 fn starters(alloc: Global, rect: Rect, cell: Cell) -> Result<Vec<Fact>, AllocError>
     requires { IsNear cell }
     ensures { IfOk result (λ facts. facts.items ≡ going.starters rect cell) }
@@ -194,7 +201,8 @@ fn starters(alloc: Global, rect: Rect, cell: Cell) -> Result<Vec<Fact>, AllocErr
     Ok(facts)
 }
 
-/// Adds with which parts an input begins, and which classes it has there.
+/// Adds that where an input begins, a belt or an entrance stands with its back to the outside, and has a class of edges
+/// from inputs: nothing else comes in there.
 fn add_begins(
     alloc: Global,
     draft: &mut Draft,
@@ -213,7 +221,8 @@ fn add_begins(
     draft.add(&[begins], &classes)
 }
 
-/// Adds that what is handed goes out and comes in once.
+/// Adds that the cell hands on in at most one direction, and that it is fed from at most one or begins an input: chains
+/// neither fork nor join but at splitters.
 fn add_once(alloc: Global, draft: &mut Draft, rect: Rect, cell: Cell) -> Result<(), AllocError>
     requires { IsNear cell }
     ensures { OnOk result (draft.new ≡ draft.old ++ going.once_rules rect cell) }
@@ -228,7 +237,7 @@ fn add_once(alloc: Global, draft: &mut Draft, rect: Rect, cell: Cell) -> Result<
     add_at_most_one(draft, &coming)
 }
 
-/// Adds what a belt and an entrance is fed by.
+/// Adds what the cell hands on, and by what a belt or an entrance on it is fed.
 fn add_fed(alloc: Global, draft: &mut Draft, rect: Rect, cell: Cell) -> Result<(), AllocError>
     requires { IsNear cell }
     ensures { OnOk result (draft.new ≡ draft.old ++ (flat_map (going.going_rules rect cell) dirs
@@ -239,7 +248,7 @@ fn add_fed(alloc: Global, draft: &mut Draft, rect: Rect, cell: Cell) -> Result<(
     add_fed_entrances(alloc, draft, rect, cell)
 }
 
-/// Adds the rules of what is handed on, at a cell.
+/// Adds the rules of what is handed on from a cell, by what it is fed and with what an input begins there.
 pub fn add_handing(
     alloc: Global,
     draft: &mut Draft,

@@ -1,4 +1,4 @@
-//! Rules of ports.
+//! Rules of ports: which edges come into a splitter, and which leave it, by which of its halves.
 ghost use Rattle.std.specs.Prelude.{◌≡◌, ◌++◌, ◌∷◌, [], map, flat_map, IfOk, OnOk};
 ghost use Rattle.std.specs.List.{All};
 ghost use Rattle.bt_parts.specs.Cells.{IsInRange};
@@ -18,7 +18,7 @@ use bt_model::Request;
 use bt_parts::{Cell, DIRS, Dir, Rect};
 use std::alloc::{AllocError, Global};
 
-/// What is behind the cell in this direction has the class, where that is inside.
+/// The fact that the cell behind this one has the class; no fact where that cell is outside.
 fn carries_into(
     alloc: Global,
     rect: Rect,
@@ -53,7 +53,7 @@ fn cell_of(stand: Stand, half: Half) -> Cell
     half_at(half, stand.dir, stand.cell)
 }
 
-/// Adds that nothing comes into the half.
+/// Adds that nothing comes into the half, since no edge goes into the splitter.
 fn add_none_in(
     alloc: Global,
     draft: &mut Draft,
@@ -71,7 +71,8 @@ fn add_none_in(
     Ok(())
 }
 
-/// Adds that one edge of this class comes in, by the half or by the other one.
+/// Adds where `EntersLesser` says that the one edge into the splitter, of this class, comes in by this half: it does,
+/// and nothing comes in by the other half, since no other edge goes into the splitter.
 fn add_one_in(
     alloc: Global,
     draft: &mut Draft,
@@ -96,9 +97,9 @@ fn add_one_in(
     Ok(())
 }
 
-/// Adds which class the half takes of the two that come in.
-/// A splitter has two halves, so one truth value says all of it; where both edges in have one class, no fact is
-/// needed.
+/// Adds which class the half takes of the two that come in: where the first edge comes in by this half, the second
+/// comes in by the other one.
+/// A splitter has two halves, so one truth value says all of it; where both edges in have one class, no fact is needed.
 fn add_two_classes(
     alloc: Global,
     draft: &mut Draft,
@@ -125,7 +126,8 @@ fn add_two_classes(
     }
 }
 
-/// Adds that something comes into the half, of one of these two classes.
+/// Adds that something comes into the half, of one of these two classes: two edges go into the splitter, and take a
+/// half each.
 fn add_two_in(
     alloc: Global,
     draft: &mut Draft,
@@ -145,7 +147,8 @@ fn add_two_in(
     add_two_classes(alloc, draft, rect, stand, half, one, two)
 }
 
-/// Adds what the half takes.
+/// Adds what comes into the half, by the classes of the edges into its splitter: nothing, the one edge or one of the
+/// two.
 fn add_in(
     alloc: Global,
     draft: &mut Draft,
@@ -165,8 +168,8 @@ fn add_in(
     }
 }
 
-/// In front of the half of a splitter that hands on to the cell is its class, or a splitter into which edges
-/// of it go.
+/// The facts of what may be on a cell to which a half of the gate's splitter hands: its class, or that of a splitter
+/// into which its edges go, which a half has. None where the cell is outside.
 fn in_front(
     alloc: Global,
     request: &Request,
@@ -183,7 +186,8 @@ fn in_front(
     }
 }
 
-/// Adds that one edge leaves, by the half or by the other one.
+/// Adds where `LeavesLesser` says that the one edge leaves the splitter by this half: it does, to one of what may be in
+/// `front`, and nothing leaves by the other half, since no other edge leaves the splitter.
 fn add_one_out(
     draft: &mut Draft,
     stand: Stand,
@@ -203,7 +207,8 @@ fn add_one_out(
     draft.add_by(half, by_lesser, &[stand.at, there], &[])
 }
 
-/// Adds that an edge leaves by the half.
+/// Adds that an edge leaves by the half, to one of what may be in `front`: two edges leave the splitter, by a half
+/// each.
 fn add_two_out(
     draft: &mut Draft,
     stand: Stand,
@@ -219,7 +224,8 @@ fn add_two_out(
     draft.add(&[stand.at], front)
 }
 
-/// Adds what the half gives.
+/// Adds what leaves by the half: nothing where no edge leaves its splitter, else the one edge, where that leaves by
+/// this half, or one of the two.
 fn add_out(
     alloc: Global,
     draft: &mut Draft,
@@ -264,7 +270,8 @@ fn add_halves(
     add_out(alloc, draft, request, gate, stand, Half::Greater)
 }
 
-/// Adds the rules of the ports of a splitter whose lesser half stands on the cell, so turned.
+/// Adds the rules of the ports of a splitter whose lesser half stands on the cell, so turned; nothing where the greater
+/// half would be outside, since other rules say that it doesn't stand there.
 fn add_standing_ports(
     alloc: Global,
     draft: &mut Draft,
@@ -290,7 +297,7 @@ fn add_standing_ports(
     Ok(())
 }
 
-/// Adds the rules of the ports of a splitter whose lesser half stands on the cell.
+/// Adds the rules of the ports of a splitter whose lesser half stands on the cell, however it is turned.
 fn add_ports_on(
     alloc: Global,
     draft: &mut Draft,
@@ -309,7 +316,7 @@ fn add_ports_on(
     Ok(())
 }
 
-/// Adds the rules of the ports of a splitter.
+/// Adds the rules of the ports of a splitter, wherever it stands.
 pub fn add_ports(
     alloc: Global,
     draft: &mut Draft,

@@ -15,7 +15,7 @@ use bt_model::Request;
 use bt_parts::{Cell, DIRS, Dir, Rect};
 use std::alloc::{AllocError, Global};
 
-/// Adds that a lesser half so turned is that of some splitter.
+/// Adds that a lesser half so turned is that of some splitter of the network: the layout has no others.
 fn add_owner(
     alloc: Global,
     draft: &mut Draft,
@@ -30,7 +30,7 @@ fn add_owner(
     draft.add(&[holds(cell, Shape::Half(Half::Lesser), dir)], &owners)
 }
 
-/// Adds that a lesser half is that of some splitter.
+/// Adds that a lesser half, however it is turned, is that of some splitter of the network.
 fn add_owners(
     alloc: Global,
     draft: &mut Draft,
@@ -46,7 +46,8 @@ fn add_owners(
     Ok(())
 }
 
-/// Adds what follows where a splitter stands here, so turned.
+/// Adds what follows where a splitter stands with its lesser half here, so turned: that half, its class on both cells,
+/// and its column, row and direction. The greater half follows from the lesser one by another rule.
 fn add_at(
     alloc: Global,
     draft: &mut Draft,
@@ -71,7 +72,7 @@ fn add_at(
     add_implied(draft, &[Fact::At(splitter, cell, dir)], &facts)
 }
 
-/// Adds what follows where a splitter stands here.
+/// Adds what follows where a splitter stands with its lesser half here, however it is turned.
 fn add_here(
     alloc: Global,
     draft: &mut Draft,
@@ -88,7 +89,7 @@ fn add_here(
     Ok(())
 }
 
-/// Adds what follows where any splitter stands here.
+/// Adds what follows where any of so many splitters stands with its lesser half here.
 fn add_all_here(
     alloc: Global,
     draft: &mut Draft,
@@ -106,7 +107,8 @@ fn add_all_here(
     Ok(())
 }
 
-/// Adds where the splitter stands with one of its halves on the cell, so turned.
+/// Adds the facts that the splitter stands, so turned, with its lesser half on the cell, or with its greater one, where
+/// the cell of its lesser half is then inside.
 fn push_stands_on(
     facts: &mut Vec<Fact>,
     rect: Rect,
@@ -122,7 +124,7 @@ fn push_stands_on(
     push_inside(facts, rect, other, &[Fact::At(splitter, other, dir)])
 }
 
-/// Where the splitter stands with one of its halves on the cell.
+/// The facts that the splitter stands with one of its halves on the cell, in each direction.
 fn stands_on(
     alloc: Global,
     rect: Rect,
@@ -139,7 +141,8 @@ fn stands_on(
     Ok(facts)
 }
 
-/// Adds that a half with the class of the splitter is one of its halves.
+/// Adds that a half with the class of the splitter is one of its halves: so no half is left over beside those of the
+/// places where splitters stand.
 fn add_name(
     alloc: Global,
     draft: &mut Draft,
@@ -155,7 +158,7 @@ fn add_name(
     draft.add(&[Fact::HalfOn(cell), class], &facts)
 }
 
-/// Adds that a half with the class of a splitter is one of its halves.
+/// Adds for each of so many splitters that a half with its class is one of its halves.
 fn add_names(
     alloc: Global,
     draft: &mut Draft,
@@ -173,7 +176,7 @@ fn add_names(
     Ok(())
 }
 
-/// Adds the rules of where splitters stand, at a cell.
+/// Adds the rules of which splitter stands on a cell, and what follows from that.
 pub fn add_standing(
     alloc: Global,
     draft: &mut Draft,
@@ -190,7 +193,7 @@ pub fn add_standing(
     add_names(alloc, draft, rect, cell, splitters)
 }
 
-/// Adds that the splitter stands on the cell, in each direction.
+/// Adds for each direction the fact that the splitter stands with its lesser half on the cell, turned that way.
 fn push_ats(facts: &mut Vec<Fact>, splitter: usize, cell: Cell) -> Result<(), AllocError>
     ensures { OnOk result (facts.new.items ≡ facts.old.items ++ map (fact.At splitter cell) dirs) }
 {
@@ -200,7 +203,7 @@ fn push_ats(facts: &mut Vec<Fact>, splitter: usize, cell: Cell) -> Result<(), Al
     Ok(())
 }
 
-/// Where the splitter may stand.
+/// The facts that the splitter stands with its lesser half on a cell, for each cell and direction.
 fn stands_at(alloc: Global, cells: &[Cell], splitter: usize) -> Result<Vec<Fact>, AllocError>
     ensures { IfOk result (λ facts. facts.items ≡ flat_map (λ c. map (fact.At splitter c) dirs) cells.now) }
 {
@@ -211,7 +214,7 @@ fn stands_at(alloc: Global, cells: &[Cell], splitter: usize) -> Result<Vec<Fact>
     Ok(facts)
 }
 
-/// Adds that the splitter is in at most one column.
+/// Adds that the lesser half of the splitter is in at most one column.
 fn add_one_column(
     alloc: Global,
     draft: &mut Draft,
@@ -225,7 +228,7 @@ fn add_one_column(
     add_at_most_one(draft, &facts)
 }
 
-/// Adds that the splitter is in at most one row.
+/// Adds that the lesser half of the splitter is in at most one row.
 fn add_one_row(
     alloc: Global,
     draft: &mut Draft,
@@ -250,7 +253,8 @@ fn add_one_direction(draft: &mut Draft, splitter: usize) -> Result<(), AllocErro
     add_at_most_one(draft, &[north, east, south, west])
 }
 
-/// Adds that the splitter stands in exactly one place.
+/// Adds that the splitter stands in exactly one place, since it is one part. A place is a column, a row and a
+/// direction: that there is at most one of each takes fewer clauses than that no two places are taken.
 pub fn add_place(
     alloc: Global,
     draft: &mut Draft,

@@ -1,4 +1,4 @@
-//! Rules of underground pairs.
+//! Rules of underground pairs. A tunnel is the way of a pair from one cell to the next in its direction.
 ghost use Rattle.std.specs.Prelude.{◌≡◌, ◌≤◌, ◌<◌, ◌-◌, ◌++◌, ◌∷◌, [], map, flat_map, IfOk, OnOk};
 ghost use Rattle.std.specs.List.{range_with_len};
 ghost use Rattle.bt_demands.specs.Plans.{IsPlan};
@@ -17,7 +17,8 @@ use bt_model::Request;
 use bt_parts::{Cell, DIRS, Dir, Rect};
 use std::alloc::{AllocError, Global};
 
-/// Adds that a tunnel of this direction comes to the cell from behind, where that is inside.
+/// Adds the fact that a tunnel of this direction comes to the cell from behind. Adds nothing where the cell behind is
+/// outside.
 fn push_tunnel_into(
     facts: &mut Vec<Fact>,
     rect: Rect,
@@ -31,7 +32,7 @@ fn push_tunnel_into(
     push_inside(facts, rect, before, &[Fact::Tunnel(before, dir)])
 }
 
-/// Adds that an entrance begins a tunnel and an exit has one behind it.
+/// Adds that an entrance so turned begins a tunnel and that one comes to an exit from behind, as each is in a pair.
 fn add_end_tunnels(
     alloc: Global,
     draft: &mut Draft,
@@ -51,7 +52,8 @@ fn add_end_tunnels(
     draft.add(&[holds(cell, Shape::Exit, dir)], &into)
 }
 
-/// Adds that a tunnel comes from an entrance or from a tunnel behind, and ends at an exit.
+/// Adds that a tunnel on from the cell comes from an entrance there or from a tunnel behind, and that none goes on
+/// behind an exit: a tunnel is there for pairs alone.
 fn add_sources(
     alloc: Global,
     draft: &mut Draft,
@@ -69,7 +71,8 @@ fn add_sources(
     draft.add(&[tunnel, holds(cell, Shape::Exit, dir)], &[])
 }
 
-/// Adds that a tunnel doesn't leave the rectangle, and passes no entrance and no piece that points back.
+/// Adds that a tunnel doesn't leave the rectangle, where its pair would have no exit, and passes no entrance of its
+/// direction and no piece that points back: no piece of its axis lies between the two ends of a pair.
 fn add_passing(draft: &mut Draft, rect: Rect, cell: Cell, dir: Dir) -> Result<(), AllocError>
     requires { IsNear cell }
     ensures { OnOk result (draft.new ≡ draft.old ++ parts.passing_rules rect cell dir) }
@@ -89,7 +92,7 @@ fn add_passing(draft: &mut Draft, rect: Rect, cell: Cell, dir: Dir) -> Result<()
     }
 }
 
-/// Adds the rules of a tunnel at the cell in a direction.
+/// Adds the rules of a tunnel on from the cell in a direction.
 fn add_tunnel(
     alloc: Global,
     draft: &mut Draft,
@@ -105,7 +108,8 @@ fn add_tunnel(
     add_passing(draft, rect, cell, dir)
 }
 
-/// Adds the pair of this distance that an entrance on the cell may begin.
+/// Adds the fact of the pair of this distance that an entrance on the cell may begin. Adds nothing where its exit is
+/// outside.
 fn push_pair_from(
     facts: &mut Vec<Fact>,
     rect: Rect,
@@ -121,7 +125,7 @@ fn push_pair_from(
     push_inside(facts, rect, end, &[Fact::Pair(cell, dir, distance)])
 }
 
-/// The pairs of at most this distance that an entrance on the cell may begin.
+/// The facts of the pairs of at most this distance that an entrance on the cell may begin, in this direction.
 fn pairs_from(
     alloc: Global,
     rect: Rect,
@@ -140,7 +144,8 @@ fn pairs_from(
     Ok(facts)
 }
 
-/// Adds the pair of this distance that an exit on the cell may end.
+/// Adds the fact of the pair of this distance that an exit on the cell may end. Adds nothing where its entrance is
+/// outside.
 fn push_pair_into(
     facts: &mut Vec<Fact>,
     rect: Rect,
@@ -161,7 +166,7 @@ fn push_pair_into(
     )
 }
 
-/// The pairs of at most this distance that an exit on the cell may end.
+/// The facts of the pairs of at most this distance that an exit on the cell may end, in this direction.
 fn pairs_into(
     alloc: Global,
     rect: Rect,
@@ -180,7 +185,8 @@ fn pairs_into(
     Ok(facts)
 }
 
-/// Adds that an entrance begins a pair and an exit ends one, and no more than one.
+/// Adds that an entrance so turned begins a pair and an exit ends one, since a piece without its other end leads
+/// nowhere; and that no two pairs of this direction begin on the cell, or end there.
 fn add_paired(
     alloc: Global,
     draft: &mut Draft,
@@ -199,7 +205,7 @@ fn add_paired(
     add_one_where(draft, &[holds(cell, Shape::Exit, dir)], &into)
 }
 
-/// Adds that a pair has its two ends, and that the way between is a tunnel.
+/// Adds that a pair has its two ends, and that the way between is a tunnel: so no piece of its axis lies between them.
 fn add_way(
     alloc: Global,
     draft: &mut Draft,
@@ -219,7 +225,7 @@ fn add_way(
     add_implied(draft, &[Fact::Pair(cell, dir, distance)], &facts)
 }
 
-/// Adds that the two ends of a pair both have this class, or neither.
+/// Adds that the two ends of a pair both have this class, or neither: what goes in comes out.
 fn add_pair_class(
     draft: &mut Draft,
     cell: Cell,
@@ -257,7 +263,7 @@ fn add_pair_classes(
     Ok(())
 }
 
-/// Adds the rules of a pair of this distance.
+/// Adds the rules of a pair of this distance that begins on the cell; nothing where its exit would be outside.
 fn add_pair(
     alloc: Global,
     draft: &mut Draft,
@@ -280,7 +286,7 @@ fn add_pair(
     Ok(())
 }
 
-/// Adds the rules of pairs of at most this distance.
+/// Adds the rules of pairs of each distance from 1 to this one that begin on the cell.
 fn add_pairs(
     alloc: Global,
     draft: &mut Draft,
@@ -302,7 +308,8 @@ fn add_pairs(
     Ok(())
 }
 
-/// The greatest distance between the two ends of an underground pair.
+/// The greatest distance between the two ends of an underground pair: one more than the cells between them, of which
+/// the tier of the request bounds the number.
 fn most_distance(request: &Request) -> usize
     ensures most { result ≡ underground.most_distance request.now }
     ensures few { result < 63 }
@@ -310,7 +317,7 @@ fn most_distance(request: &Request) -> usize
     request.tier().reach() as usize + 1
 }
 
-/// Adds the rules of pieces in a direction.
+/// Adds the rules of tunnels and underground pairs in a direction, at a cell.
 fn add_pieces(
     alloc: Global,
     draft: &mut Draft,

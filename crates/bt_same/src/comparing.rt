@@ -46,7 +46,7 @@ fn flow_of(flows: &[Frac], edge: usize) -> Frac
     }
 }
 
-/// Whether the flow of each output is equal in both states.
+/// Whether the flow of each output's edge is equal in both states.
 fn give_alike(first: &Net, second: &Net, of_first: &State, of_second: &State) -> bool
     requires { first.now.outputs ≡ second.now.outputs }
     ensures { IsTrue result ↔ OutputsAlike first.now second.now of_first.now of_second.now }

@@ -24,7 +24,8 @@ fn add_above(alloc: Global, formula: &mut Formula, a: usize, b: usize) -> Result
     })
 }
 
-/// Adds the rows that the flows of an output differ, and gives the literals that say so.
+/// Adds for each output the rows that its flow in either network is above that in the other, and gives the literals
+/// that say so.
 fn difference_lits(
     alloc: Global,
     first: &Net,
@@ -49,7 +50,7 @@ fn difference_lits(
     Ok(lits)
 }
 
-/// Adds the clause that the flows of some output differ.
+/// Adds the clause that the flow of some output is not the same in both networks.
 pub fn add_difference(
     alloc: Global,
     first: &Net,

@@ -15,7 +15,8 @@ use bt_fenc::encode_steady;
 use bt_net::Net;
 use std::alloc::{AllocError, Global};
 
-/// The formulas of the steady states of two networks, side by side.
+/// The formulas of the steady states of two networks, side by side: with the marks of both first, then the rows of the
+/// first and of the second as variables, and the clauses in the same order.
 fn side_by_side(
     alloc: Global,
     first: &Net,

@@ -9,7 +9,8 @@ use bt_cnf::{Formula, Lit, Var};
 use bt_frac::Row;
 use std::alloc::{AllocError, Global};
 
-/// A row with its columns where they go. One whose columns leave 64 bits, as no network's do, is want of memory.
+/// A row with each of its columns where it goes in the formula of two networks. One whose columns leave 64 bits, as no
+/// network's do, is want of memory.
 fn moved_row(alloc: Global, row: &Row, columns: Shift) -> Result<Row, AllocError>
     ensures { IfOk result (λ moved. moved ≡ same.moved_row columns row.now) }
 {
@@ -20,7 +21,7 @@ fn moved_row(alloc: Global, row: &Row, columns: Shift) -> Result<Row, AllocError
     Row::from_vec(terms, row.relation(), row.bound()).ok_or(AllocError)
 }
 
-/// Adds the rows of a network's formula, each as a variable of its own.
+/// Adds the rows of a network's formula, with their columns where they go, each as a variable of its own.
 pub fn add_rows(
     alloc: Global,
     formula: &mut Formula,
@@ -37,7 +38,7 @@ pub fn add_rows(
     Ok(())
 }
 
-/// The variable at a place. One that isn't there is want of memory.
+/// The variable at a place. Where there is none, which is so of no network's formula, that is want of memory.
 fn var_at(formula: &Formula, place: usize) -> Result<Var, AllocError>
     ensures place { IfOk result (λ var. var ≡ place) }
     ensures below { IfOk result (λ var. var < formula.now.vars) }
@@ -45,7 +46,7 @@ fn var_at(formula: &Formula, place: usize) -> Result<Var, AllocError>
     formula.var_at(place).ok_or(AllocError)
 }
 
-/// The literals of a clause, each of the variable where it goes.
+/// The literals of a clause, each with the variable to which its own goes.
 fn moved_lits(
     alloc: Global,
     formula: &Formula,
@@ -77,7 +78,7 @@ fn clause_at(formula: &Formula, place: usize) -> &[Lit]
     }
 }
 
-/// Adds the clauses of a network's formula.
+/// Adds the clauses of a network's formula, with their variables where they go.
 pub fn add_clauses(
     alloc: Global,
     formula: &mut Formula,

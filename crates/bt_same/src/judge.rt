@@ -10,7 +10,7 @@ use crate::pair::{Pair, PairJudgement, PairWide, Which};
 use bt_flow::{Judgement, Test, WideSum, admissible_steady};
 use bt_net::Net;
 
-/// The judgement of a state of a pair, of which a wide sum says whose it is.
+/// The judgement of one of the two states, which is named where a sum of it leaves 128 bits.
 fn judged(place: Which, answer: Result<Judgement, WideSum>) -> Result<Judgement, PairWide>
     ensures ok { IfOk result (λ judgement. answer ≡ Ok judgement) }
     ensures err { IfErr result (λ wide. (wide.place ≡ place) × (answer ≡ Err wide.sum)) }

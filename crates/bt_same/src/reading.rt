@@ -43,7 +43,7 @@ pub fn read_pair(alloc: Global, first: &Net, second: &Net, bytes: &[u8]) -> Resu
     Ok(pair)
 }
 
-/// What follows the first line of a text, which says that two networks differ.
+/// What follows the first line of a text, which is to be `differ`: else line 1 is at fault.
 fn after_title(text: &[u8]) -> Result<&[u8], StateFault>
     ensures ok { IfOk result (λ rest. IsTitled (codes "differ") text.now rest.now) }
     ensures err { IfErr result (IsLineFault TITLE (StopsAtTitle (codes "differ") text.now)) }
@@ -56,7 +56,7 @@ fn after_title(text: &[u8]) -> Result<&[u8], StateFault>
     }
 }
 
-/// The pair with these flows and marks, of which both states have the loads and rooms.
+/// The pair of states with these flows and marks, of which both have the loads and rooms.
 fn pair_of_parts(ends: Ends, of_first: Edges, of_second: Edges) -> Result<Pair, AllocError>
     ensures { IfOk result (λ pair. pair ≡ pair_from ends.entry.loads.items
         ends.entry.rooms.items of_first.entry.flows.items of_first.entry.backed.items

@@ -18,7 +18,8 @@ pub struct Shift {
 }
 
 impl Shift {
-    /// Where a number goes. One that leaves 64 bits, as no network's does, is want of memory.
+    /// Where a number goes: `near` further where it is of an edge, else `far` further. One that leaves 64 bits, as no
+    /// network's does, is want of memory.
     pub fn put(self, number: usize) -> Result<usize, AllocError>
         ensures { IfOk result (λ put. put ≡ shifted self number) }
     {

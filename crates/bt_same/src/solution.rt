@@ -29,7 +29,7 @@ fn value_of(values: &[Frac], column: usize) -> Frac
     }
 }
 
-/// The values of a network's first columns, from where these go.
+/// The values of the first `count` columns of one network's formula, taken from where these go.
 fn part_values(
     alloc: Global,
     values: &[Frac],
@@ -46,7 +46,7 @@ fn part_values(
     Ok(found)
 }
 
-/// The marks of a network, from where these go.
+/// The marks of the first `count` edges of one network, taken from where these go: true where an edge is backed.
 fn part_marks(
     alloc: Global,
     assignment: &[bool],
@@ -63,7 +63,7 @@ fn part_marks(
     Ok(marks)
 }
 
-/// The state of one of the networks, whose flows and marks go so far, and whose loads and rooms so far.
+/// The state of one of the networks, with its marks, flows, loads and rooms taken from where the shift puts them.
 fn part_state(
     alloc: Global,
     net: &Net,

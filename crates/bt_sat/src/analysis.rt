@@ -27,15 +27,15 @@ pub struct Analysis {
     pub minimizer: Minimizer,
 }
 
-/// The level of a conflict: where it begins on the trail, from where on a learnt clause is to have one literal alone (the
-/// first unique implication point), and where the first level begins.
+/// The level of a conflict, by places of the trail: it begins at `current`, from where on a learnt clause is to have
+/// one literal alone (the first unique implication point), and the first level begins at `root`.
 #[derive(Clone, Copy)]
 pub struct ConflictLevel {
     pub root: usize,
     pub current: usize,
 }
 
-/// Marks the places of a clause's literals as seen, so that they are on the agenda, but for one.
+/// Puts the places of a clause's literals on the agenda, but for one. Each variable has its place in `places`.
 pub fn mark_seen(
     agenda: &mut Agenda,
     places: &[usize],
@@ -54,8 +54,8 @@ pub fn mark_seen(
     Ok(())
 }
 
-/// Whether the literal at a place has to be traced back: it was true before the first choice, or another of
-/// the conflict's level waits.
+/// Whether the literal at a place has to be traced back: it was true before the first choice, or it is of the
+/// conflict's level and another of that level waits on the agenda.
 fn is_traced(agenda: &Agenda, conflict_level: ConflictLevel, place: usize) -> bool
     ensures { IsTrue result ↔ IsTraced conflict_level agenda.now place }
 {
@@ -63,7 +63,7 @@ fn is_traced(agenda: &Agenda, conflict_level: ConflictLevel, place: usize) -> bo
         || (conflict_level.current <= place && agenda.reaches(conflict_level.current))
 }
 
-/// Whether the literal at a place, which is before the conflict's level, can be left out of the clause that is learnt.
+/// Whether the literal at a place, before the conflict's level, can be left out of a clause with `picked` literals.
 fn is_left_out(
     known: &LoggedFormula,
     search: &Search,
@@ -91,8 +91,8 @@ fn is_left_out(
     )
 }
 
-/// The reason of the literal at a place, where it is traced back: because it has to be, or because the clause that is
-/// learnt gets shorter.
+/// The number of the clause to which the literal at a place is traced back, because it has to be, or because the clause
+/// that is learnt gets shorter. None where it isn't.
 fn reason_for(
     known: &LoggedFormula,
     search: &Search,
@@ -146,7 +146,7 @@ fn meet(
     Ok(())
 }
 
-/// Traces the literal at a place back, or picks it.
+/// Traces the literal at a place, which was taken off the agenda, back to its reason, or picks it for the clause.
 fn deal(
     analysis: &mut Analysis,
     known: &LoggedFormula,
@@ -213,7 +213,7 @@ fn conflict_level(search: &Search, agenda: &Agenda) -> ConflictLevel
     }
 }
 
-/// How many levels begin at the greatest place or before it.
+/// How many levels begin at the greatest place of the agenda or before it; 0 where the agenda is empty.
 fn top_level(search: &Search, agenda: &Agenda) -> usize
     requires ordered { AreLevels search.now }
     requires inside { (k : ℕ) → Contains agenda.now k → k < length search.now.assignment.trail.items }
@@ -225,8 +225,8 @@ fn top_level(search: &Search, agenda: &Agenda) -> usize
     }
 }
 
-/// Finds the clause that is learnt from a conflict: where its literals are false, the hints lead in turn
-/// to a false clause.
+/// Finds the clause that is learnt from a conflict, the number of a clause that is false: where the literals of the
+/// learnt one are false, the hints lead in turn to a false clause.
 pub fn analyse(
     analysis: &mut Analysis,
     known: &LoggedFormula,
@@ -247,7 +247,7 @@ pub fn analyse(
     Ok(())
 }
 
-/// Begins with the clause whose literals are all false.
+/// Begins anew with the clause of this number, whose literals are all false. Gives the level of the conflict.
 fn begin(
     analysis: &mut Analysis,
     known: &LoggedFormula,

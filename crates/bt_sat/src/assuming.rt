@@ -45,7 +45,7 @@ fn make_all_false(progress: &mut Progress, lits: &[Lit]) -> Result<Option<usize>
     Ok(progress.conflict)
 }
 
-/// Whether a literal is true.
+/// Whether a literal is true. One of a variable that the formula lacks isn't.
 fn holds(values: &Values, lit: &Lit) -> bool {
     lit.var.place() < values.len() && is_lit_true(values, lit)
 }
@@ -61,7 +61,7 @@ pub fn has_true(values: &Values, lits: &[Lit]) -> bool {
 }
 
 /// Makes literals false in turn, from what is true before the first decision on, and learns from each conflict, until
-/// there is none: then all of them are false, or one is true. Tells where the search comes to its end before.
+/// there is none: then all of them are false, or one is true. Tells how the search ends where it does so before.
 pub fn assume<C: Chooser>(
     progress: &mut Progress,
     choosers: &mut [C],

@@ -22,7 +22,7 @@ pub enum Found {
     Spent,
 }
 
-/// Backjumps to what was true before the first decision. There no clause is known to be false.
+/// Backjumps to before the first decision, where one was made. There no clause is known to be false.
 pub fn restart(progress: &mut Progress)
     requires { IsRunning progress.old }
     ensures { Restarts progress.old progress.new }
@@ -35,7 +35,7 @@ pub fn restart(progress: &mut Progress)
     }
 }
 
-/// Learns from a conflict, and tells the chooser that serves.
+/// Learns from a conflict, tells the chooser, and restarts where that is due. Tells how the search ends where it does.
 pub fn learn_and_tell<C: Chooser>(
     progress: &mut Progress,
     choosers: &mut [C],
@@ -65,7 +65,7 @@ pub fn learn_and_tell<C: Chooser>(
     }
 }
 
-/// Searches until there is a model, or the log refutes, or it has no room.
+/// Searches until there is a model, or the log refutes the formula, or has no room for one more step.
 pub fn find_model<C: Chooser>(
     progress: &mut Progress,
     choosers: &mut [C],

@@ -12,7 +12,7 @@ use bt_cnf::{Chooser, Lit, Values};
 use bt_watch::begin_level;
 use std::alloc::AllocError;
 
-/// A literal of a variable that has no value, where there is one: the plan's, else that of the chooser that serves.
+/// A literal without a value, where there is one: the plan's after so many steps, else the chooser's that serves then.
 fn next<C: Chooser>(
     plan: &mut Plan,
     steps: u64,
@@ -48,7 +48,7 @@ pub fn begin_with(progress: &mut Progress, lit: &Lit) -> Result<(), AllocError>
     Ok(())
 }
 
-/// Chooses a variable and a value, where a variable has none.
+/// Begins a level with a literal of a variable that has no value. Tells false where every variable has one.
 pub fn decide<C: Chooser>(progress: &mut Progress, choosers: &mut [C]) -> Result<bool, AllocError>
     requires running { IsRunning progress.old }
     requires none { progress.old.conflict ≡ None }

@@ -8,7 +8,7 @@ use crate::progress::{Progress, propagate_all};
 use bt_cnf::Chooser;
 use std::alloc::AllocError;
 
-/// Propagates what is true at first, and begins with all variables again.
+/// Lets the plan begin anew, propagates what is true, and lets the order begin anew where there is no conflict.
 pub fn propagate_first(progress: &mut Progress) -> Result<(), AllocError>
     requires { IsRunning progress.old }
     ensures propagates { OnOk result (HasPropagated progress.old progress.new) }
@@ -24,7 +24,7 @@ pub fn propagate_first(progress: &mut Progress) -> Result<(), AllocError>
     Ok(())
 }
 
-/// Propagates a decision.
+/// Propagates a decision, where no conflict is known.
 pub fn propagate_decision(progress: &mut Progress) -> Result<(), AllocError>
     requires running { IsRunning progress.old }
     requires ready { progress.old.conflict ≡ None }
@@ -37,7 +37,7 @@ pub fn propagate_decision(progress: &mut Progress) -> Result<(), AllocError>
 }
 
 /// Decides and propagates until all literals of a clause are false, which is a conflict, or all variables have a value.
-/// Tells such a clause.
+/// Gives the number of such a clause.
 pub fn decide_until_conflict<C: Chooser>(
     progress: &mut Progress,
     choosers: &mut [C],

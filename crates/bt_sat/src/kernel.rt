@@ -72,7 +72,7 @@ fn stage_supposed(assumed: &Assumed) -> Stage
 }
 
 impl Kernel {
-    /// A search by a plan that begins, with an empty log.
+    /// A search by a plan that begins, with an empty log, which may have at most `limit` steps.
     pub fn new(
         alloc: Global,
         formula: Formula,
@@ -87,7 +87,7 @@ impl Kernel {
         })
     }
 
-    /// Searches on for the next model.
+    /// Searches on for the next model. Where memory runs out, the search is lost.
     fn go_on<C: Chooser>(&mut self, choosers: &mut Vec<C>) -> Result<Answer, AllocError>
         requires { MayGoOn self.old.status }
         ensures given { IfOk result (GivesNext self.old (map C.told_clauses choosers.old.items)
@@ -106,7 +106,7 @@ impl Kernel {
         }
     }
 
-    /// Searches for the next model, where the search has not come to its end.
+    /// Searches for the next model. Where the search has come to its end, it answers that again.
     pub fn next_model<C: Chooser>(&mut self, choosers: &mut Vec<C>) -> Result<Answer, AllocError>
         ensures given { IfOk result (GivesNext self.old (map C.told_clauses choosers.old.items)
             self.new (map C.told_clauses choosers.new.items)) }
@@ -121,7 +121,7 @@ impl Kernel {
         }
     }
 
-    /// Makes literals false, where the search may go on.
+    /// Makes literals false in turn, where the search may go on. Where memory runs out, the search is lost.
     fn suppose<C: Chooser>(
         &mut self,
         choosers: &mut Vec<C>,
@@ -144,7 +144,7 @@ impl Kernel {
         }
     }
 
-    /// Makes literals false, where the search has not come to its end.
+    /// Makes literals false in turn. Where the search has come to its end, it answers that again.
     pub fn assume<C: Chooser>(
         &mut self,
         choosers: &mut Vec<C>,
@@ -163,7 +163,7 @@ impl Kernel {
         }
     }
 
-    /// Adds a lemma where the log has room for a step.
+    /// Adds a lemma, with a weight for each literal, where the log has room for a step.
     pub fn add_lemma<C: Chooser>(
         &mut self,
         choosers: &mut Vec<C>,

@@ -22,7 +22,7 @@ pub struct LearntClause {
     pub lits: Vec<Lit>,
 }
 
-/// The literals that are false at places of the trail.
+/// Lists the negations of the literals at places of the trail, which are false, in place of what `lits` held.
 pub fn name_lits(lits: &mut Vec<Lit>, picked: &[usize], trail: &[Lit]) -> Result<(), AllocError>
     requires { All (λ k. k < length trail.now) picked.now }
     ensures { OnOk result (lits.new.items ≡ falses_at trail.now picked.now) }
@@ -34,7 +34,7 @@ pub fn name_lits(lits: &mut Vec<Lit>, picked: &[usize], trail: &[Lit]) -> Result
     Ok(())
 }
 
-/// The number of levels at which all literals of a clause but the first are false.
+/// How many levels there are up to where all literals of a clause but the first are false; 0 for a single literal.
 pub fn assertion_level(starts: &[usize], picked: &[usize]) -> usize
     requires { IsNonDecreasing starts.now }
     ensures { IsAssertionLevel starts.now picked.now result }
@@ -60,18 +60,18 @@ fn count_levels(starts: &[usize], picked: &[usize]) -> u32 {
     count
 }
 
-/// Tells a plan what is going to be unset by a backjump.
+/// Tells a plan what is going to be unset by a backjump to before a level.
 pub fn tell_released(plan: &mut Plan, search: &Search, level: usize) {
     plan.release(&search.assignment.trail, start(search, level));
 }
 
-/// Tells a plan what was learnt.
+/// Tells a plan which variables a conflict met, and at how many levels the literals of the learnt clause became false.
 fn tell_learnt(plan: &mut Plan, search: &Search, analysis: &Analysis) {
     let levels = count_levels(&search.starts, &analysis.picked);
     plan.learn(&analysis.met, levels);
 }
 
-/// Finds the clause that is learnt from a conflict, and backjumps to where it asserts its first literal.
+/// Finds the clause that is learnt from a conflict, tells the plan, and backjumps to where the clause is a unit.
 pub fn prepare(
     learnt_clause: &mut LearntClause,
     known: &LoggedFormula,
@@ -93,7 +93,7 @@ pub fn prepare(
     Ok(())
 }
 
-/// Keeps a clause that comes next, and asserts its first literal, which becomes true.
+/// Keeps a clause that comes next, unless it has one literal alone, and asserts its first literal, which becomes true.
 pub fn adopt(search: &mut Search, known: &LoggedFormula, lits: &[Lit]) -> Result<(), AllocError>
     requires { IsAsserting (clauses_in known.now) search.old lits.now }
     ensures ready { OnOk result (IsReady (clauses_in known.now ++ lits.now ∷ [])

@@ -27,7 +27,7 @@ fn reach_of(plan: &Plan) -> Reach {
     }
 }
 
-/// A learnt_clause over so many variables that is still to be learnt.
+/// The space for a clause over so many variables, which is still to be learnt.
 fn no_lesson(alloc: Global, reach: Reach, vars: usize) -> Result<LearntClause, AllocError> {
     Ok(LearntClause {
         analysis: Analysis {
@@ -51,8 +51,8 @@ fn logged(alloc: Global, formula: Formula) -> Result<LoggedFormula, AllocError>
     Ok(LoggedFormula { formula, log })
 }
 
-/// What a search works with after its clauses are loaded, up to one whose literals are all false, and the number of such
-/// a clause.
+/// What a search works with after its clauses are loaded, up to one that is empty or whose only literal is false, and
+/// the number of that clause.
 fn loaded_work(
     alloc: Global,
     formula: &Formula,
@@ -66,7 +66,7 @@ fn loaded_work(
     Ok((search, learnt_clause, conflict))
 }
 
-/// The search by a plan that begins, whose log may have a limited number of steps.
+/// The search by a plan that begins, whose log may have at most `limit` steps.
 fn started(
     alloc: Global,
     known: LoggedFormula,
@@ -90,7 +90,7 @@ fn started(
     })
 }
 
-/// The search of a formula by a plan that begins, with an empty log that may have a limited number of steps.
+/// The search of a formula by a plan that begins, with an empty log that may have at most `limit` steps.
 pub fn load(alloc: Global, formula: Formula, limit: u64, plan: Plan) -> Result<Progress, AllocError>
     ensures { IfOk result (IsLoaded formula limit) }
 {

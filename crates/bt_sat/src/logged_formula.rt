@@ -26,7 +26,7 @@ pub enum KnownLits<'a> {
 }
 
 impl KnownLits<'_> {
-    /// How many they are.
+    /// How many literals the clause has.
     pub fn len(&self) -> usize
         ensures { result ≡ length (lits_in self.now) }
     {
@@ -36,7 +36,7 @@ impl KnownLits<'_> {
         }
     }
 
-    /// The number of the variable of one of them.
+    /// The number of the variable of the literal at a place.
     pub fn variable(&self, place: usize) -> usize
         requires { place < length (lits_in self.now) }
         ensures { result ≡ (lit_at (lits_in self.now) place).var }
@@ -56,7 +56,7 @@ impl KnownLits<'_> {
 }
 
 impl LoggedFormula {
-    /// The number of the clause that comes next. A number that doesn't fit is want of memory.
+    /// The number of the clause that comes next. Memory counts as run out where it is 2^64 or more.
     pub fn next(&self) -> Result<usize, AllocError>
         ensures { IfOk result (λ number. number ≡ length (clauses_in self.now)) }
     {
@@ -66,7 +66,7 @@ impl LoggedFormula {
         }
     }
 
-    /// The clause with a number, where there is one.
+    /// The clause with a number, from 0, where there is one.
     pub fn find(&self, number: usize) -> Option<KnownLits<'_>> {
         match self.next() {
             Ok(end) if number < end => Some(self.clause(number)),
@@ -74,7 +74,7 @@ impl LoggedFormula {
         }
     }
 
-    /// The clause with a number.
+    /// The clause with a number, from 0: those of the formula come first, then those of the steps.
     pub fn clause(&self, number: usize) -> KnownLits<'_>
         requires { number < length (clauses_in self.now) }
         ensures { lits_in result ≡ clause_at (clauses_in self.now) number }

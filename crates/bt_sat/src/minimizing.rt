@@ -63,7 +63,7 @@ enum Look {
     Ends(bool),
 }
 
-/// What is looked at.
+/// The clauses and the search in which literals are followed back.
 #[derive(Clone, Copy)]
 pub struct Scene<'a> {
     pub known: &'a LoggedFormula,
@@ -92,7 +92,7 @@ pub struct Minimizer {
 }
 
 impl Minimizer {
-    /// For a trail of at most so many literals.
+    /// A minimizer that knows of no literal, for a trail of at most so many.
     pub fn new(alloc: Global, reach: Reach, size: usize) -> Result<Minimizer, AllocError> {
         Ok(Minimizer {
             reach,
@@ -131,7 +131,7 @@ impl Minimizer {
         Ok(())
     }
 
-    /// The first literal of a reason from where the walk goes on of which it isn't known that it follows.
+    /// The first literal of a reason, from where its walk goes on, of which it isn't known that it follows, if any.
     fn next_open(
         &self,
         scene: Scene<'_>,
@@ -159,7 +159,7 @@ impl Minimizer {
         None
     }
 
-    /// Ends with the literals that are walked through, which don't follow as far as is known.
+    /// Ends the walk: the literals whose reasons are walked through don't follow, as far as is known.
     fn give_up(&mut self) -> Result<Look, AllocError> {
         for _ in 0..self.frames.len() {
             if let Some(frame) = self.frames.pop() {
@@ -169,7 +169,7 @@ impl Minimizer {
         Ok(Look::Ends(false))
     }
 
-    /// Goes on to a literal of a reason.
+    /// Goes on to a literal of a reason, or gives up where it is known to be needed, is too far or has no reason.
     fn enter(&mut self, scene: Scene<'_>, frame: Frame, open: Open) -> Result<Look, AllocError> {
         if self.mark_at(open.place) == Mark::Needed
             || !self.reach.goes_on(self.frames.len())
@@ -189,7 +189,7 @@ impl Minimizer {
         Ok(Look::GoesOn)
     }
 
-    /// Ends with the literal of the last reason, which follows.
+    /// Ends the walk through the last reason, whose literal follows; with the first reason, the whole walk ends.
     fn leave(&mut self, frame: Frame) -> Result<Look, AllocError> {
         let _ = self.frames.pop();
         self.mark(frame.place, Mark::Implied)?;
@@ -200,7 +200,7 @@ impl Minimizer {
         }
     }
 
-    /// Looks at the last reason.
+    /// Takes one step of the walk, at the last reason: on to its next literal of which nothing is known, or out of it.
     fn look(&mut self, scene: Scene<'_>, agenda: &Agenda) -> Result<Look, AllocError> {
         let Some(frame) = self.frames.last().copied() else {
             return Ok(Look::Ends(false));

@@ -37,7 +37,7 @@ pub enum Learning {
     Spent,
 }
 
-/// Propagates what is true.
+/// Propagates what is true, where no conflict is known, and notes the number of a clause that becomes false.
 pub fn propagate_all(progress: &mut Progress) -> Result<(), AllocError>
     requires running { IsRunning progress.old }
     requires ready { progress.old.conflict ≡ None }
@@ -51,7 +51,7 @@ pub fn propagate_all(progress: &mut Progress) -> Result<(), AllocError>
     Ok(())
 }
 
-/// Learns from a conflict.
+/// Learns from a conflict: backjumps, logs the learnt clause and asserts its first literal. A full log stays as it is.
 pub fn learn(progress: &mut Progress, conflict: usize) -> Result<Learning, AllocError>
     requires running { IsRunning progress.old }
     requires conflict { progress.old.conflict ≡ Some conflict }

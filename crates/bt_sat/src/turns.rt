@@ -36,7 +36,7 @@ fn list_model(alloc: Global, values: &Values) -> Result<Vec<bool>, AllocError>
     Ok(model)
 }
 
-/// Searches until there is a model, or the log refutes, or it has no room.
+/// Searches until there is a model, or the log refutes the formula, or has no room for one more step.
 pub fn answer<C: Chooser>(progress: &mut Progress, choosers: &mut [C]) -> Result<Answer, AllocError>
     requires { IsRunning progress.old }
     ensures kept { KeepsFormula progress.old progress.new }
@@ -54,7 +54,7 @@ pub fn answer<C: Chooser>(progress: &mut Progress, choosers: &mut [C]) -> Result
     }
 }
 
-/// Makes literals false in turn, and tells what is true then.
+/// Makes literals false in turn, and tells what is true then, or that one of them is true, or how the search ended.
 pub fn supposed<C: Chooser>(
     progress: &mut Progress,
     choosers: &mut [C],
@@ -76,7 +76,7 @@ pub fn supposed<C: Chooser>(
     }
 }
 
-/// Whether one of the literals is true, or which variables are true where none is.
+/// That one of the literals follows, where one is true, or else which variables are true.
 fn judge_assumed(alloc: Global, values: &Values, lits: &[Lit]) -> Result<Assumed, AllocError>
     ensures { IfOk result IsOpen }
 {

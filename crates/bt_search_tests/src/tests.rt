@@ -21,7 +21,7 @@ use bt_frac::{Frac, Relation, Row};
 use bt_sat::{Answer, Solver};
 use std::alloc::{AllocError, Global};
 
-/// The fields of a row; those that it lacks are empty.
+/// The first five fields of a row, between which this mark stands; those that it lacks are empty.
 fn fields(row: &str, mark: char) -> [&str; 5] {
     let mut fields = [""; 5];
     for (place, text) in row.split(mark).enumerate() {
@@ -32,7 +32,7 @@ fn fields(row: &str, mark: char) -> [&str; 5] {
     fields
 }
 
-/// The number that a field spells.
+/// The number that a field spells, and 0 where it spells none.
 fn number_of(field: &str) -> usize {
     field.parse::<usize>().unwrap_or(0)
 }
@@ -48,6 +48,7 @@ fn fractions_of(field: &str) -> [Frac; 3] {
     [fraction_of(first), fraction_of(second), fraction_of(third)]
 }
 
+/// The relation that a sign stands for: `>` or `=`, and any other for at least.
 fn relation_named(name: &str) -> Relation {
     match name {
         ">" => Relation::Above,
@@ -68,14 +69,15 @@ fn terms_of(alloc: Global, words: &[&str]) -> Result<Vec<(usize, Frac)>, AllocEr
     Ok(terms)
 }
 
-/// The row of a relation, a bound and the coefficients of the first columns.
+/// The row of a text: its relation, its bound and the coefficients of the first three columns. None where these make
+/// none.
 fn row_of(alloc: Global, field: &str) -> Result<Option<Row>, AllocError> {
     let [relation, bound, first, second, third] = fields(field, ' ');
     let terms = terms_of(alloc, &[first, second, third])?;
     Ok(Row::from_vec(terms, relation_named(relation), fraction_of(bound)))
 }
 
-/// The rows of fields that are rows.
+/// The rows that these texts are; a text that is none is left out.
 fn rows_of(alloc: Global, fields: &[&str]) -> Result<Vec<Row>, AllocError> {
     let mut rows = Vec::new(alloc);
     for field in fields {
@@ -86,7 +88,7 @@ fn rows_of(alloc: Global, fields: &[&str]) -> Result<Vec<Row>, AllocError> {
     Ok(rows)
 }
 
-/// The literal of a word: its variable's place plus 1, and a sign.
+/// The literal of a word: its variable's place plus 1, and a sign. None where the formula lacks the variable.
 fn literal_of(formula: &Formula, word: &str) -> Option<Lit> {
     let number = word.parse::<i64>().unwrap_or(0);
     let place = (number.unsigned_abs() as usize).wrapping_sub(1);

@@ -1,6 +1,7 @@
-//! Bland's rule: of the positions that fail the least leaves the basis, and of those that can enter the
-//! least does. No run of such pivots comes back to a basis, so each ends; where the greatest leaves or enters, some
-//! go round.
+//! Bland's rule: of the positions that fail the least leaves the basis, and of those that can enter the least does. A
+//! position fails where it is a bound row of the basis that doesn't hold; one that its line names can enter for it
+//! where moving that one brings the row towards its bound. No run of such pivots comes back to a basis, so each ends;
+//! where the greatest leaves or enters, some go round.
 ghost use Rattle.std.specs.Prelude.{◌<◌, ◌-◌, ◌^◌, ◌∷◌, [], ℕ, IfOk, IfErr, IsTrue, ◌↔◌, Some};
 ghost use Rattle.bt_frac.specs.Deltas.{IsOrderOfDeltas};
 ghost use Rattle.bt_frac.specs.Ratio.{Ratio};
@@ -28,7 +29,7 @@ pub enum Least {
     At(usize),
     /// No position has the property.
     Nowhere,
-    /// An operation that the property asks for doesn't fit.
+    /// An operation that the property asks for leaves 128 bits.
     Wide(Cause),
 }
 
@@ -41,11 +42,11 @@ pub enum Next {
     Met,
     /// This position fails, and none can enter for it.
     Stuck(usize),
-    /// An operation that the rule asks for doesn't fit.
+    /// An operation that the rule asks for leaves 128 bits.
     Wide(Cause),
 }
 
-/// Whether a bound row doesn't hold where it stands.
+/// Whether a bound row doesn't hold where its sum stands at this point.
 fn breaks(row: &Row, point: &Delta) -> bool
     ensures { IsTrue result ↔ Breaks row.now point.now }
 {
@@ -56,8 +57,8 @@ fn breaks(row: &Row, point: &Delta) -> bool
     }
 }
 
-/// Whether a position with a number of this sign in a row's line moves the row towards its bound value where
-/// it is raised, by how the bound value stands to where the row stands.
+/// Whether raising a position with a number of this sign in a row's line moves the row towards its bound value. `bound`
+/// is how the bound value compares with where the row stands.
 fn moves_towards(bound: Ordering, sign: Ordering) -> bool
     ensures { (row : RowParts) (point : Delta) (number : Ratio)
         → IsOrderOfDeltas bound (bound_value row) point → IsSign sign number.over
@@ -70,8 +71,9 @@ fn moves_towards(bound: Ordering, sign: Ordering) -> bool
     }
 }
 
-/// Whether a position with a number of this sign in the failing row's line may be moved, by how the bound
-/// value stands to where the row stands.
+/// Whether a position with a number of this sign in the failing row's line may enter. One that is no bound row may move
+/// either way, an equation's row not at all, and another bound row only upwards, which has to move the failing row
+/// towards its bound value. `bound` is how this value compares with where the failing row stands.
 fn may_enter(tableau: &Table, bound: Ordering, position: usize, sign: Ordering) -> bool
     ensures { (row : RowParts) (point : Delta) (number : Ratio)
         → IsOrderOfDeltas bound (bound_value row) point → IsSign sign number.over
@@ -83,7 +85,8 @@ fn may_enter(tableau: &Table, bound: Ordering, position: usize, sign: Ordering) 
     }
 }
 
-/// Whether a position is a bound row of the basis that doesn't hold, by fractions; or why its point doesn't fit.
+/// Whether a position is a bound row of the basis that doesn't hold, by fractions; or the operation for its point whose
+/// result leaves 128 bits.
 fn fails_long(tableau: &Table, basis: &Basis, position: usize) -> Result<bool, Cause>
     ensures told { IfOk result (λ told. IsTrue told ↔ Fails (with_slots tableau.now basis.now) position) }
     ensures unfit { IfErr result (IsCause (with_slots tableau.now basis.now)) }
@@ -98,7 +101,7 @@ fn fails_long(tableau: &Table, basis: &Basis, position: usize) -> Result<bool, C
     Ok(breaks(row, &point))
 }
 
-/// The least position that fails, which is none of the columns.
+/// The least position that fails. None of the columns does, so these are passed over.
 pub fn leaving(tableau: &Table, basis: &Basis, kept: &mut SumCache) -> Least
     requires { AreKept tableau.now basis.now kept.old.sums.items }
     ensures least { Finds (with_slots tableau.now basis.now)
@@ -119,8 +122,8 @@ pub fn leaving(tableau: &Table, basis: &Basis, kept: &mut SumCache) -> Least
     Least::Nowhere
 }
 
-/// The least position that may be moved of a line, or of the line with the other sign where this is told, by
-/// how the bound value of its row stands to where the row stands.
+/// The least position of a line that may enter, where the line's numbers are negated if `negated` is set. `bound` is
+/// how the bound value of the line's row compares with where that row stands. None where no position may.
 fn first_entering(tableau: &Table, bound: Ordering, line: &Line, negated: bool) -> Option<usize>
     ensures { (row : RowParts) (point : Delta) → IsOrderOfDeltas bound (bound_value row) point
         → IsLeastOf (λ e. Names (signed_terms negated line.now) (MayEnter tableau.now row point) e) result }
@@ -135,8 +138,8 @@ fn first_entering(tableau: &Table, bound: Ordering, line: &Line, negated: bool) 
     None
 }
 
-/// How the bound value of a row of the basis stands to where the row stands, by fractions where whole numbers don't
-/// tell it; or why the position's point doesn't fit.
+/// How the bound value of a row of the basis compares with where the row stands, by fractions where whole numbers don't
+/// tell it; or the operation for its point whose result leaves 128 bits.
 fn bound_order(
     tableau: &Table,
     basis: &Basis,
@@ -176,7 +179,8 @@ pub fn entering(tableau: &Table, basis: &Basis, leaves: usize, kept: &mut SumCac
     }
 }
 
-/// The least position that can enter for one that fails, by how its bound value stands to where it stands.
+/// The least position that can enter for one that fails, where `order` is how the bound value of that one compares with
+/// where it stands. None where none can.
 fn entering_by(tableau: &Table, basis: &Basis, leaves: usize, order: Ordering) -> Option<usize>
     requires fails { Fails (with_slots tableau.now basis.now) leaves }
     requires order { IsBoundOrder (with_slots tableau.now basis.now) leaves order }
@@ -189,7 +193,7 @@ fn entering_by(tableau: &Table, basis: &Basis, leaves: usize, order: Ordering) -
     }
 }
 
-/// The sign of 1, or of -1 where this is told.
+/// The sign of 1, or of -1 where `negated` is set.
 fn alone_sign(negated: bool) -> Ordering
     ensures { (position : ℕ)
         → IsSignedTerm (signed_terms negated ((position, one) ∷ [])) 0 (position, result) }
@@ -201,7 +205,8 @@ fn alone_sign(negated: bool) -> Ordering
     }
 }
 
-/// The position, where it may be moved as the only one of a line, with the number 1, or -1 where this is told.
+/// The position, where it may enter as the only one of a line, with the number 1, or -1 where `negated` is set. None
+/// where it may not.
 fn alone_entering(tableau: &Table, bound: Ordering, position: usize, negated: bool) -> Option<usize>
     requires { position < 2 ^ 64 - 1 }
     ensures { (row : RowParts) (point : Delta) → IsOrderOfDeltas bound (bound_value row) point
@@ -216,7 +221,7 @@ fn alone_entering(tableau: &Table, bound: Ordering, position: usize, negated: bo
     }
 }
 
-/// Bland's pivot of a basis, or how the basis is final.
+/// Bland's pivot of a basis, or how the basis is final, or the operation whose result leaves 128 bits.
 pub fn blands_next(tableau: &Table, basis: &Basis, kept: &mut SumCache) -> Next
     requires { AreKept tableau.now basis.now kept.old.sums.items }
     ensures next { IsNext (with_slots tableau.now basis.now) result }

@@ -13,7 +13,8 @@ use crate::traces::{bound_rows, positions};
 use bt_pivot::{Basis, Cause, Pivot, Table, Workspace};
 use std::alloc::{AllocError, Global};
 
-/// Makes Bland's pivots on a copy of a table's basis, at most so many, and answers by where they end.
+/// Makes Bland's pivots on a copy of a table's basis, which `work` holds, at most `pivots`, and answers by where they
+/// end.
 pub fn checked(
     table: &Table,
     alloc: Global,
@@ -29,7 +30,7 @@ pub fn checked(
     answer(table, alloc, steps, &work.basis, end)
 }
 
-/// The answer where these pivots lead to this basis, and end there.
+/// The answer where these pivots from the table's basis on lead to this basis, and end as `end` says.
 fn answer(
     table: &Table,
     alloc: Global,
@@ -67,7 +68,7 @@ fn trace(table: &Table, alloc: Global, steps: Vec<Pivot>) -> Result<PivotTrace, 
     })
 }
 
-/// The cause, after these pivots, which lead to this basis.
+/// The answer that this operation leaves 128 bits, after these pivots, which lead to this basis.
 fn wide(
     table: &Table,
     alloc: Global,

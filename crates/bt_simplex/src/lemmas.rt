@@ -49,8 +49,8 @@ fn difference(alloc: Global, position: usize, terms: &[Term]) -> Result<Line, Al
     }
 }
 
-/// The rows of a line's positions with its numbers as weights, where the failing row is above its bound
-/// value, and else with the other sign.
+/// The rows of a line's positions, which are no columns, each with its number in the line as its weight: as it is where
+/// the failing row is above its bound value, and else negated.
 fn weights_of(
     alloc: Global,
     columns: usize,
@@ -68,8 +68,8 @@ fn weights_of(
     Ok(weights)
 }
 
-/// The weights of the failing row and of the rows of its line, where none of these can enter; or why
-/// where it stands doesn't fit.
+/// The weights of the failing row and of the rows of its line, where none of these can enter; or the operation for
+/// where it stands whose result leaves 128 bits.
 fn stuck_weights(
     tableau: &Table,
     alloc: Global,
@@ -86,6 +86,7 @@ fn stuck_weights(
         unreachable!()
     };
     let terms = found.terms(alloc)?;
+    // This tells a proof that the number of positions fits 64 bits.
     let _ = basis.len();
     let Some(row) = tableau.bound_row(position) else {
         unreachable!()
@@ -132,8 +133,8 @@ fn weighed(
     }
 }
 
-/// Bound rows and weights that `farkas` accepts, where a position fails and none can enter for it; or
-/// why such a number doesn't fit.
+/// Bound rows and weights that `farkas` accepts, where a position fails and none can enter for it; or the operation for
+/// them whose result leaves 128 bits.
 pub fn lemma(
     tableau: &Table,
     alloc: Global,

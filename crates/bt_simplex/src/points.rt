@@ -1,4 +1,5 @@
-//! Where the positions of a tableau stand at a basis.
+//! Where the positions of a tableau stand at a basis. A point is a value and how often the infinitesimal is added to
+//! it.
 ghost use Rattle.std.specs.Prelude.{◌≡◌, IfOk, IfErr, Some};
 ghost use Rattle.bt_frac.specs.Ratio.{IsLowest};
 ghost use Rattle.bt_simplex.specs.Causes.{IsCause};
@@ -12,7 +13,7 @@ use bt_frac::{Delta, Frac, Relation, Row};
 use bt_linear::{Line, Operation, Term, Unfit, is_zero};
 use bt_pivot::{Basis, Cause, Place, Table, WidePlace, short_point};
 
-/// The least that the sum of a row may be, with the infinitesimal where it is strict.
+/// The least that the sum of a row may be: its bound, and the infinitesimal more where the row is strict.
 pub fn bound_value(row: &Row) -> Delta
     ensures { result ≡ bound_value row.now }
 {
@@ -27,7 +28,7 @@ pub fn bound_value(row: &Row) -> Delta
     }
 }
 
-/// Where a position stands while it is outside the basis.
+/// Where a position stands while it is outside the basis: a bound row at its bound value, any other at 0.
 pub fn rest(tableau: &Table, position: usize) -> Delta
     ensures { result ≡ resting tableau.now position }
 {
@@ -40,13 +41,14 @@ pub fn rest(tableau: &Table, position: usize) -> Delta
     }
 }
 
-/// The sum with the product of a number and a part of a point added to it; or the operation whose
-/// result doesn't fit.
+/// The sum with `number` times a part of a point added to it; or the operation whose result leaves 128 bits. A part of
+/// 0 asks for no operation.
 pub fn added_part(sum: &Frac, position: usize, number: &Frac, part: &Frac) -> Result<Frac, Unfit>
     ensures known { IsLowest sum.now × IsLowest number.now × IsLowest part.now }
     ensures sum { IfOk result (AddsPart sum.now number.now part.now) }
     ensures unfit { IfErr result (IsUnfitHere position (Some sum.now) number.now part.now) }
 {
+    // This tells a proof that the fractions are in lowest terms.
     let _ = (sum.denominator(), number.denominator(), part.denominator());
     if is_zero(part) {
         return Ok(*sum);
@@ -70,11 +72,12 @@ pub fn added_part(sum: &Frac, position: usize, number: &Frac, part: &Frac) -> Re
     Ok(next)
 }
 
-/// The sum with a term added to it where its position rests; or the operation whose result doesn't fit.
+/// The sum with a term added to it where its position rests; or the operation whose result leaves 128 bits.
 fn added_term(tableau: &Table, sum: &Delta, term: &Term) -> Result<Delta, Unfit>
     ensures sum { IfOk result (AddsTerm (resting tableau.now term.now.0) sum.now term.now.1) }
     ensures unfit { IfErr result (IsUnfitTerm (resting tableau.now term.now.0) sum.now term.now) }
 {
+    // This tells a proof that the fractions are in lowest terms.
     let _ = (sum.value.denominator(), sum.tiny.denominator());
     let Some(row) = tableau.bound_row(term.0) else {
         return Ok(*sum);
@@ -85,7 +88,7 @@ fn added_term(tableau: &Table, sum: &Delta, term: &Term) -> Result<Delta, Unfit>
     Ok(Delta { value, tiny })
 }
 
-/// What the line of a position adds up to where its positions rest; or why that doesn't fit.
+/// What the line of a position adds up to where its positions rest; or the operation whose result leaves 128 bits.
 pub fn line_point(tableau: &Table, position: usize, line: &Line) -> Result<Delta, Cause>
     ensures known { IsLine line.now }
     ensures point { IfOk result (λ d. IsSamePoint d (standing (resting tableau.now) 0 (Some line.now))) }
@@ -101,7 +104,7 @@ pub fn line_point(tableau: &Table, position: usize, line: &Line) -> Result<Delta
 }
 
 /// What the line of a position adds up to where its positions rest, by fractions; or the first product or sum that
-/// doesn't fit.
+/// leaves 128 bits.
 fn long_point(tableau: &Table, position: usize, line: &Line) -> Result<Delta, Cause>
     ensures point { IfOk result (λ d. IsSamePoint d (standing (resting tableau.now) 0 (Some line.now))) }
     ensures unfit { IfErr result (IsUnfitPoint (resting tableau.now) position line.now) }
@@ -122,7 +125,7 @@ fn long_point(tableau: &Table, position: usize, line: &Line) -> Result<Delta, Ca
     Ok(sum)
 }
 
-/// Why a position's point doesn't fit.
+/// What tells that this operation, for where the position `row` stands, leaves 128 bits.
 fn value_cause(row: usize, unfit: Unfit) -> Cause
     ensures { result ≡ value_cause row unfit }
 {
@@ -136,7 +139,7 @@ fn value_cause(row: usize, unfit: Unfit) -> Cause
     }
 }
 
-/// The point, with the other sign where this is told.
+/// The point, negated where `negated` is set.
 fn signed_point(point: Delta, negated: bool) -> Delta
     ensures { result ≡ signed_point negated point }
 {
@@ -150,7 +153,8 @@ fn signed_point(point: Delta, negated: bool) -> Delta
     }
 }
 
-/// Where a position stands; or why that doesn't fit.
+/// Where a position stands: in the basis by its line, and outside where it rests. Or the operation whose result leaves
+/// 128 bits.
 pub fn point(tableau: &Table, basis: &Basis, position: usize) -> Result<Delta, Cause>
     ensures point { IfOk result (λ d. IsSamePoint d (point_at (with_slots tableau.now basis.now) position)) }
     ensures unfit { IfErr result (IsCause (with_slots tableau.now basis.now)) }

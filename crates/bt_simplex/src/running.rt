@@ -19,11 +19,11 @@ pub enum End {
     Stuck(usize),
     /// After as many pivots as it may make, at a basis that isn't final.
     Pivots,
-    /// At an operation whose result doesn't fit.
+    /// At an operation whose result leaves 128 bits.
     Wide(Cause),
 }
 
-/// Makes Bland's pivot; or tells an operation whose result doesn't fit.
+/// Makes Bland's pivot; or tells an operation whose result leaves 128 bits.
 fn make_pivot(
     tableau: &Table,
     alloc: Global,

@@ -16,7 +16,7 @@ use bt_pivot::{Basis, Cause, Table, WidePlace};
 use std::alloc::{AllocError, Global};
 use std::cmp::Ordering;
 
-/// Why a number asked for at a position doesn't fit.
+/// What tells that this operation, for a number asked for at a position, leaves 128 bits.
 fn settle_cause(position: usize, operation: Operation, left: Frac, right: Frac) -> Cause
     ensures { result ≡ record {
       place = WidePlace.Settle;
@@ -47,7 +47,8 @@ fn half() -> Frac
     }
 }
 
-/// Whether a row stands above its bound, and lower by a multiple of the infinitesimal.
+/// Whether a row stands above its bound, but the lower the greater the infinitesimal is, so that this may not be any
+/// number.
 fn is_falling(row: &Row, point: &Delta) -> bool
     ensures told { IsTrue result ↔ IsFallingFrom row.now point.now }
     ensures known { IsRow row.now }
@@ -56,12 +57,14 @@ fn is_falling(row: &Row, point: &Delta) -> bool
     point.tiny.numerator() < 0 && bound.compare(&point.value) == Ordering::Less
 }
 
-/// Half of what the infinitesimal may be where a row falls; or why that doesn't fit.
+/// Half of the number that takes a falling row down to its bound, where it stands in for the infinitesimal; or the
+/// operation whose result leaves 128 bits.
 fn room(position: usize, row: &Row, point: &Delta) -> Result<Frac, Cause>
     requires { IsFallingFrom row.now point.now }
     ensures room { IfOk result (IsRoom row.now point.now) }
     ensures unfit { IfErr result (IsUnfitRoom position row.now point.now) }
 {
+    // This tells a proof that the fraction is in lowest terms.
     let _ = point.tiny.denominator();
     let (left, right) = (point.value, row.bound().negate());
     let Some(gap) = left.add(&right) else {
@@ -78,8 +81,8 @@ fn room(position: usize, row: &Row, point: &Delta) -> Result<Frac, Cause>
     Ok(room)
 }
 
-/// Half of what the infinitesimal may be by a position, where that is a bound row that falls; or why
-/// that doesn't fit.
+/// Half of the number that takes the row of a position down to its bound, where it stands in for the infinitesimal.
+/// None where the position is no bound row that falls. Or the operation whose result leaves 128 bits.
 fn room_at(tableau: &Table, basis: &Basis, position: usize) -> Result<Option<Frac>, Cause>
     requires { IsMet (with_slots tableau.now basis.now) }
     ensures room { IfOk result (IsRoomAt (with_slots tableau.now basis.now) position) }
@@ -96,8 +99,8 @@ fn room_at(tableau: &Table, basis: &Basis, position: usize) -> Result<Option<Fra
     Ok(Some(room))
 }
 
-/// The number that takes the place of the infinitesimal: the least of 1 and of half of what each bound
-/// row lets it be. Or why such a number doesn't fit.
+/// The number that takes the place of the infinitesimal: the least of 1 and of half of what each bound row lets it be.
+/// Or the operation whose result leaves 128 bits.
 fn epsilon(tableau: &Table, basis: &Basis) -> Result<Frac, Cause>
     requires tableau { IsTableau (with_slots tableau.now basis.now) }
     requires met { IsMet (with_slots tableau.now basis.now) }
@@ -124,7 +127,7 @@ fn lesser(first: Frac, second: Frac) -> Frac
     }
 }
 
-/// The value of a column; or why it doesn't fit.
+/// The value of a column, with `epsilon` in place of the infinitesimal; or the operation whose result leaves 128 bits.
 fn column_value(
     tableau: &Table,
     basis: &Basis,
@@ -147,8 +150,8 @@ fn column_value(
     Ok(value)
 }
 
-/// Values of the columns that meet every bound row, where nothing fails; or why such a number doesn't
-/// fit.
+/// Values of the columns that meet every bound row, where nothing fails; or the operation for them whose result leaves
+/// 128 bits.
 pub fn settled(
     tableau: &Table,
     alloc: Global,

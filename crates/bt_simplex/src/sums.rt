@@ -1,4 +1,4 @@
-//! The operation at which a sum of weighted rows leaves 128 bits.
+//! The operation at which a sum of weighted rows leaves 128 bits: the sum is wide there.
 ghost use Rattle.std.specs.Prelude.{◌≡◌, ◌<◌, length};
 ghost use Rattle.std.specs.List.{All};
 ghost use Rattle.bt_lin.specs.Farkas.{IsWidePlace, IsFirstWide};
@@ -27,7 +27,7 @@ fn wide_place(rows: &[Row], weights: &[Term], at: WideAt) -> Place
     }
 }
 
-/// Why the sum at a place is wide at a row: the first product or sum that doesn't fit.
+/// The first product or sum that leaves 128 bits, where the sum at a place is wide at a row.
 fn cause_at(rows: &[Row], weights: &[Term], at: WideAt, place: Place) -> Cause
     requires rows { All (λ w. w.0 < length rows.now) weights.now }
     requires wide { IsWidePlace (weighted_rows rows.now weights.now) at.row place }
@@ -45,7 +45,7 @@ fn cause_at(rows: &[Row], weights: &[Term], at: WideAt, place: Place) -> Cause
     unreachable!()
 }
 
-/// Why a sum of weighted rows doesn't fit.
+/// What tells that this operation, for the sum of weighted rows at the row's place, leaves 128 bits.
 fn lemma_cause(row: usize, unfit: Unfit) -> Cause
     ensures { result ≡ lemma_cause row unfit }
 {
@@ -59,7 +59,7 @@ fn lemma_cause(row: usize, unfit: Unfit) -> Cause
     }
 }
 
-/// Why the sum of weighted rows doesn't fit, where it is first wide at this row and column.
+/// The product or sum that leaves 128 bits, where the sum of weighted rows is first wide at this row and column.
 pub fn sum_cause(rows: &[Row], weights: &[Term], at: WideAt) -> Cause
     requires rows { All (λ w. w.0 < length rows.now) weights.now }
     requires first { IsFirstWide (weighted_rows rows.now weights.now) at }

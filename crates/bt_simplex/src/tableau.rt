@@ -86,7 +86,7 @@ impl Tableau {
         spare.copy_of(alloc, self.table.basis())
     }
 
-    /// The check on a copy of the basis, to which the pivots are made.
+    /// The check on a copy of the basis, which `work` holds and on which the pivots are made.
     fn check_in(
         &self,
         alloc: Global,
@@ -99,8 +99,8 @@ impl Tableau {
         checked(&self.table, alloc, pivots, work)
     }
 
-    /// Takes in the basis that the pivots of a check lead to, where that is final, and keeps the other one's memory
-    /// for the next check. So after all else the tableau is as before.
+    /// Takes in the basis that the pivots of a check lead to, where that is final, and keeps the other one's memory for
+    /// the next check. After any other answer the tableau is as before.
     fn keep(&mut self, work: Workspace, check: &Check)
         requires { IsTableau (with_slots self.old (slots_after self.old.slots work.basis check.now)) }
         ensures { self.new ≡ with_slots self.old (slots_after self.old.slots work.basis check.now) }

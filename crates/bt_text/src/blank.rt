@@ -14,6 +14,7 @@ pub fn skip_blanks(text: &[u8]) -> &[u8]
     &text[text.len()..]
 }
 
+/// Whether the byte is a space, a tab, a line feed or a carriage return.
 fn is_blank(byte: u8) -> bool
     ensures { IsTrue result ↔ IsBlank byte }
 {

@@ -4,7 +4,7 @@ ghost use Rattle.bt_text.specs.Lines.{Lacks, SplitsAt, IsFirstLine, line_feeds};
 
 use memchr::memchr;
 
-/// What stands before the first such byte of a text, and what stands after it.
+/// What stands before the first such byte of a text, and what stands after it. None where the text lacks the byte.
 pub fn split_once(text: &[u8], byte: u8) -> Option<(&[u8], &[u8])>
     ensures some { IfSome result (λ parts. SplitsAt byte text.now parts.0.now parts.1.now) }
     ensures none { IfNone result (Lacks byte text.now) }

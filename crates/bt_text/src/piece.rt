@@ -5,7 +5,8 @@ ghost use Rattle.bt_text.specs.Pieces.{CutsAt, LeadsTo};
 
 use crate::line::split_once;
 
-/// What stands before the first such byte, and the rest, which begins with that byte or is empty.
+/// What stands before the first such byte of a text, and the rest, which begins with that byte, or is empty where the
+/// text lacks it.
 pub fn cut(text: &[u8], byte: u8) -> (&[u8], &[u8])
     ensures { CutsAt byte text.now result.0.now result.1.now }
 {

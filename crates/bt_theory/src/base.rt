@@ -44,7 +44,7 @@ pub fn atoms_of(alloc: Global, formula: &Formula) -> Result<Vec<Var>, AllocError
     Ok(atoms)
 }
 
-/// That is all of a formula, before it is extended.
+/// The base that is all of a formula, before definitions extend it.
 pub fn base_of(alloc: Global, formula: &Formula) -> Result<Base, AllocError>
     ensures { IfOk result (IsWhole formula.now) }
 {

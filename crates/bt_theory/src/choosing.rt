@@ -27,8 +27,8 @@ fn is_settled(lit: Lit, chosen: &[bool]) -> bool
     !lit.positive || is_true(chosen, lit.var.place())
 }
 
-/// The variable to choose for a clause: that of the last literal which is true in the model. None where a
-/// literal is settled already.
+/// The variable to choose for a clause: that of the last literal which is true in the model. None where a literal is
+/// settled already, or none is true in the model.
 fn choice(lits: &[Lit], model: &[bool], chosen: &[bool]) -> Option<usize>
     requires { MeetsClause (truth_in model.now) lits.now }
     ensures { Settles model.now chosen.now lits.now result }
@@ -68,7 +68,7 @@ fn without_atoms(alloc: Global, atoms: &[Var], model: &[bool]) -> Result<Vec<boo
     Ok(chosen)
 }
 
-/// Chooses what a clause needs.
+/// Chooses an atom of the model for a clause, where no literal of the clause is settled yet.
 fn settle(lits: &[Lit], model: &[bool], chosen: &mut [bool])
     requires met { MeetsClause (truth_in model.now) lits.now }
     requires size { length chosen.old ≡ length model.now }

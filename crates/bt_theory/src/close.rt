@@ -32,7 +32,7 @@ fn numbers_of(alloc: Global, rows: &[Row]) -> Result<BTreeMap<usize, usize>, All
     Ok(numbers)
 }
 
-/// The row with these numbers of its columns.
+/// The row with these numbers of its columns. None where that is no row.
 fn renumbered(
     alloc: Global,
     row: &Row,

@@ -25,7 +25,7 @@ pub enum Tried {
     Ends(End),
 }
 
-/// Tries goals in turn. Tells where the search comes to its end.
+/// Tries goals in turn, each scope with at most `pivots` pivots. Tells how the search ends where it does.
 pub fn try_goals<C: Chooser>(
     alloc: Global,
     solver: &mut Solver<C>,
@@ -48,7 +48,7 @@ pub fn try_goals<C: Chooser>(
     Ok(None)
 }
 
-/// Tries a goal until it is done with.
+/// Tries a goal until it is done with. Tells how the search ends where it does.
 fn try_goal<C: Chooser>(
     alloc: Global,
     solver: &mut Solver<C>,
@@ -71,7 +71,7 @@ fn try_goal<C: Chooser>(
     }
 }
 
-/// Makes the goal's literals false, and asks its scopes.
+/// Makes the goal's literals false, and asks its scopes for a conflict with what is true then.
 fn attempt<C: Chooser>(
     alloc: Global,
     solver: &mut Solver<C>,
@@ -93,7 +93,7 @@ fn attempt<C: Chooser>(
     }
 }
 
-/// The literals of a formula that have these names.
+/// The literals of a formula that have these names. A name of no variable is passed over.
 fn lits_in(alloc: Global, formula: &Formula, names: &[NamedLit]) -> Result<Vec<Lit>, AllocError> {
     let mut lits = Vec::new(alloc);
     for name in names {
@@ -107,7 +107,7 @@ fn lits_in(alloc: Global, formula: &Formula, names: &[NamedLit]) -> Result<Vec<L
     Ok(lits)
 }
 
-/// Asks the goal's scopes with what is true.
+/// Asks the goal's scopes for a conflict with what is true, and adds its lemma. Without one, the goal is done with.
 fn ask<C: Chooser>(
     alloc: Global,
     solver: &mut Solver<C>,
@@ -128,7 +128,8 @@ fn ask<C: Chooser>(
     }
 }
 
-/// Looks for a model from here on, and adds the lemma of a conflict whose atoms are true in it.
+/// Looks for a model from here on, and adds the lemma of a conflict whose atoms are true in it. Where they aren't, the
+/// goal is worth another try if the log has grown.
 fn complete<C: Chooser>(solver: &mut Solver<C>, conflict: &Conflict) -> Result<Tried, AllocError>
     requires fits { AllFit solver.old.kernel }
     requires conflict { IsPossible solver.old.kernel.formula conflict.now }
@@ -148,7 +149,7 @@ fn complete<C: Chooser>(solver: &mut Solver<C>, conflict: &Conflict) -> Result<T
     }
 }
 
-/// Whether a goal is worth another try: where the log has grown.
+/// What a try comes to without a lemma: the goal is worth another one where the log has more steps `now` than `before`.
 fn once_more(before: usize, now: usize) -> Tried
     ensures { IsGrown before now result }
 {
@@ -176,7 +177,7 @@ fn add<C: Chooser>(
     }
 }
 
-/// Whether literals negate atoms that are true in a model.
+/// Whether literals all negate atoms that are true in a model.
 fn are_negated(lits: &[Lit], model: &[bool]) -> bool
     ensures { IsTrue result → AreNegated model.now lits.now }
 {

@@ -33,7 +33,7 @@ pub fn first_solution(
     first_of(alloc, formula, &base, guesses, pivots)
 }
 
-/// The same of what stands before the definitions.
+/// The first solution that a guess gives of what stands in a formula before its definitions.
 fn first_of(
     alloc: Global,
     formula: &Formula,
@@ -85,7 +85,7 @@ fn assignment_of(alloc: Global, guess: &[bool], vars: usize) -> Result<Vec<bool>
     Ok(assignment)
 }
 
-/// The assignment with values for the rows of its atoms, where they are found.
+/// The assignment with values for the rows of the atoms that it makes true, where they are found.
 fn valued(
     alloc: Global,
     formula: &Formula,

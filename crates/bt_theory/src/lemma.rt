@@ -17,7 +17,7 @@ pub struct Conflict {
     pub weights: Vec<Frac>,
 }
 
-/// The conflict of the weighed rows, which are those of these atoms.
+/// The conflict of weighed rows, each named by its place among these atoms, and with its weight.
 pub fn conflict_of(
     alloc: Global,
     atoms: &[Var],
@@ -31,7 +31,7 @@ pub fn conflict_of(
     Ok(Conflict { lits, weights })
 }
 
-/// The negations of the atoms that have the weighed rows.
+/// The negations of the atoms that have the weighed rows, which are named by their places among these atoms.
 fn negations(
     alloc: Global,
     atoms: &[Var],
@@ -50,7 +50,7 @@ fn negations(
     Ok(lits)
 }
 
-/// The weights.
+/// The weights of weighed rows, in their order.
 fn weights_of(alloc: Global, weighed: &[(usize, Frac)]) -> Result<Vec<Frac>, AllocError>
     ensures { IfOk result (λ weights. weights.items ≡ weights_of weighed.now) }
 {

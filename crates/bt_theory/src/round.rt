@@ -63,7 +63,8 @@ fn front_of(model: &[bool], count: usize) -> &[bool]
     &model[..count]
 }
 
-/// Checks the rows of the atoms that are chosen within a model.
+/// Checks the rows of the atoms that are chosen within a model, those of each scope first, and adds the lemma of a
+/// conflict. None where the search goes on.
 fn try_model<C: Chooser>(
     alloc: Global,
     solver: &mut Solver<C>,
@@ -87,7 +88,7 @@ fn try_model<C: Chooser>(
     }
 }
 
-/// Checks all rows whose atoms are chosen.
+/// Checks all rows whose atoms are chosen, and adds the lemma of a conflict. None where the search goes on.
 fn try_all<C: Chooser>(
     alloc: Global,
     solver: &mut Solver<C>,
@@ -113,7 +114,7 @@ fn try_all<C: Chooser>(
     }
 }
 
-/// Adds the lemma of a conflict.
+/// Adds the lemma of a conflict. None where the search goes on, and its end where the log has no room.
 pub fn learn<C: Chooser>(
     solver: &mut Solver<C>,
     conflict: &Conflict,

@@ -65,6 +65,7 @@ fn rows_of(alloc: Global, formula: &Formula, list: &[usize]) -> Result<Vec<usize
     Ok(rows)
 }
 
+/// The scope of the rows at these places among the formula's rows. `atoms` are the variables of the formula's rows.
 fn scope_of(
     alloc: Global,
     formula: &Formula,
@@ -86,7 +87,7 @@ fn scope_of(
     })
 }
 
-/// The rows of a list, with their variables.
+/// The rows of a list of places, with their variables.
 fn rows_at(
     alloc: Global,
     formula: &Formula,
@@ -132,7 +133,8 @@ pub fn first_conflict(
     Ok(None)
 }
 
-/// The same of the scopes at these places alone. A place of no scope is passed over.
+/// The conflict of the first scope at these places that has one with an assignment, where one is found within so many
+/// pivots. A place of no scope is passed over.
 pub fn conflict_among(
     alloc: Global,
     scopes: &mut [Scope],
@@ -209,7 +211,8 @@ impl Scope {
     }
 }
 
-/// The conflict of weighed rows, of these with their variables, where they add up to one that no values meet.
+/// The conflict of weighed rows, of these with their variables, where they add up to one that no values meet. None too
+/// where the sum leaves 128 bits.
 fn shown(
     alloc: Global,
     atoms: &[Var],
@@ -229,7 +232,7 @@ fn shown(
     }
 }
 
-/// The rows that are weighed.
+/// The places of the rows that are weighed.
 fn picks_of(alloc: Global, weighed: &[(usize, Frac)]) -> Result<Vec<usize>, AllocError>
     ensures { IfOk result (λ picks. picks.items ≡ map (λ w. w.0) weighed.now) }
 {
@@ -240,7 +243,7 @@ fn picks_of(alloc: Global, weighed: &[(usize, Frac)]) -> Result<Vec<usize>, Allo
     Ok(picks)
 }
 
-/// Notes which atoms are true.
+/// Notes for each row whether it is bound, as where its atom is true.
 fn note(passed: &mut [bool], atoms: &[Var], assignment: &[bool]) {
     for (row, var) in atoms.iter().enumerate() {
         if row < passed.len() {

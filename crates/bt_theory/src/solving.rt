@@ -97,7 +97,7 @@ fn search<C: Chooser>(
     search_by(alloc, formula, base, &mut tables, goals, choosers, limits)
 }
 
-/// The same search by these tables.
+/// Searches by these tables, first by goals, for what comes of a formula within limits.
 fn search_by<C: Chooser>(
     alloc: Global,
     formula: Formula,

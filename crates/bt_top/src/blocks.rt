@@ -59,7 +59,7 @@ pub fn claim_answer<S: Source>(
     }
 }
 
-/// What is told of the answer to an input of which this is held.
+/// What is told of the answer to an input of which this is held; none where more has to be read.
 fn front_of<'a>(
     alloc: Global,
     claim: CertificateClaim,

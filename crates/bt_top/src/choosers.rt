@@ -14,7 +14,7 @@ pub struct Choosers {
 }
 
 impl Choosers {
-    /// Takes those that steer decisions, and leaves none.
+    /// Takes the choosers that steer decisions, and leaves none.
     pub(crate) fn take_decisions(&mut self, alloc: Global) -> Vec<Box<dyn Chooser>>
         ensures taken { result ≡ self.old.decisions }
         ensures left { self.new.decisions.items ≡ [] }
@@ -23,7 +23,7 @@ impl Choosers {
         replace(&mut self.decisions, Vec::new(alloc))
     }
 
-    /// Takes those that steer the search for a layout, and leaves none.
+    /// Takes the choosers that steer the search for a layout, and leaves none.
     pub(crate) fn take_layouts(&mut self, alloc: Global) -> Vec<Box<dyn Chooser>>
         ensures taken { result ≡ self.old.layouts }
         ensures left { self.new.layouts.items ≡ [] }

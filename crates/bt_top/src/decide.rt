@@ -27,7 +27,7 @@ pub fn decide(
     }
 }
 
-/// The answer to a network.
+/// The answer of `decide` to a network.
 fn decide_of(
     alloc: Global,
     property: Property,

@@ -24,7 +24,7 @@ pub fn flow_check(alloc: Global, property: Property, bytes: &[u8]) -> Result<Ans
     }
 }
 
-/// The answer to what follows a design.
+/// The answer of `flow-check` to what follows a design, which is to be the text of a state.
 fn check_state(
     alloc: Global,
     property: Property,
@@ -37,7 +37,7 @@ fn check_state(
     judge_text(alloc, property, net, text, Brief::Breaks(property))
 }
 
-/// The answer to the text of a state, which is this one where the state breaks the property.
+/// The answer to the text of a state: `broken` where the state breaks the property.
 pub fn judge_text(
     alloc: Global,
     property: Property,
@@ -53,7 +53,7 @@ pub fn judge_text(
     }
 }
 
-/// The answer to a written state, which is this one where the state breaks the property.
+/// The answer to a written state: `broken` where the state breaks the property.
 fn judge(property: Property, net: &Net, state: &State, broken: Brief) -> Brief
     requires { Fits net.now state.now }
     ensures { IsJudged net.now property broken state.now (Ok (Answer.Brief result)) }

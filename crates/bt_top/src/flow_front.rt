@@ -15,7 +15,7 @@ use bt_print::{Brief, says_no, says_yes};
 use bt_text::skip_blanks;
 use std::alloc::{AllocError, Global};
 
-/// What is told of the answer to an input of which this is held.
+/// What is told of the answer of `check` to an input of which this is held; none where more has to be read.
 pub fn flow_front<'a>(
     alloc: Global,
     property: Property,
@@ -34,7 +34,7 @@ pub fn flow_front<'a>(
     }
 }
 
-/// What is told of the answer, where this follows a design with this network.
+/// What `rest`, behind a design with this network, tells of the answer; none before a line stands there.
 fn behind_design<'a>(
     alloc: Global,
     property: Property,
@@ -59,7 +59,8 @@ fn behind_design<'a>(
     }
 }
 
-/// What is told of the answer, where a certificate or a written state begins with this line, and this follows it.
+/// What `title`, the first line of a certificate or of a written state, tells of the answer; `lines` follow it. Where
+/// it begins neither, line 1 is refused.
 fn behind_title<'a>(
     alloc: Global,
     written: WrittenState<'a>,

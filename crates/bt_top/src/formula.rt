@@ -42,7 +42,7 @@ pub fn place_formula(
     }
 }
 
-/// The answer to a network.
+/// The answer of `formula` to a network.
 fn flow_formula_of(alloc: Global, property: Property, net: &Net) -> Result<Answer, AllocError>
     ensures { UnlessMemory alloc_error (λ reply. reply ≡ Ok (flow_formula_told property net.now)) result }
 {
@@ -63,7 +63,7 @@ fn flow_columns(net: &Net) -> Columns
     }
 }
 
-/// The answer to a request, where it has a formula.
+/// The answer of `formula` to a request; a refusal where it has no formula.
 fn place_formula_unless_large(alloc: Global, request: &Request) -> Result<Answer, AllocError>
     ensures { UnlessMemory alloc_error
         (UnlessLarge (λ r reply. reply ≡ Ok (place_formula_told r)) request.now) result }
@@ -76,7 +76,7 @@ fn place_formula_unless_large(alloc: Global, request: &Request) -> Result<Answer
     }
 }
 
-/// The answer to a request.
+/// The answer of `formula` to a request that has a formula.
 fn place_formula_of(alloc: Global, request: &Request) -> Result<Answer, AllocError>
     ensures { UnlessMemory alloc_error (λ reply. reply ≡ Ok (place_formula_told request.now)) result }
 {

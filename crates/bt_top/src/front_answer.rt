@@ -16,7 +16,7 @@ use bt_io::{ReadAll, SliceSource, Source, drain, read_all};
 use bt_print::{Answer, Brief, steps_told};
 use std::alloc::{AllocError, Global};
 
-/// The answer that a front tells, where the input goes on in the source, or has ended.
+/// The answer that a front tells, where the input goes on in the source with at most `limit` bytes, or has ended.
 pub fn answer_behind<S: Source>(
     alloc: Global,
     front: Front<'_>,
@@ -85,7 +85,7 @@ fn steps_at_hand(alloc: Global, steps: WrittenSteps<'_>) -> Result<Answer, ReadA
     steps_answer(steps.accepted, judged)
 }
 
-/// The answer to steps that were judged so, of which the accepted are answered with this.
+/// The answer to steps that were judged so: `accepted`, or why they are no certificate.
 fn steps_answer(accepted: Brief, judged: Result<(), CertFault>) -> Result<Answer, ReadAll>
     ensures { result ≡ judged_answer accepted judged }
 {
@@ -161,7 +161,7 @@ fn joined(alloc: Global, front: &[u8], back: &[u8]) -> Result<Vec<u8>, AllocErro
     Ok(text)
 }
 
-/// What may follow in the source.
+/// All that follows in the source; nothing where the input has ended.
 fn read_rest<S: Source>(
     alloc: Global,
     ended: bool,

@@ -35,7 +35,7 @@ pub fn layout(
     }
 }
 
-/// The answer to a request.
+/// The answer of `layout` to a request.
 fn layout_of(
     alloc: Global,
     learnt: u64,
@@ -52,7 +52,7 @@ fn layout_of(
     }
 }
 
-/// What is answered to what a search for a layout comes to.
+/// The answer where a search for a layout comes to this.
 fn layout_told(alloc: Global, request: &Request, found: Layout) -> Result<Answer, AllocError>
     requires request { IsRequest request.now }
     requires found { (learnt : ℕ) × IsLayout request.now learnt found }

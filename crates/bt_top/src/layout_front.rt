@@ -18,7 +18,7 @@ use bt_print::{Brief, says_none};
 use bt_text::skip_blanks;
 use std::alloc::{AllocError, Global};
 
-/// What is told of the answer to an input of which this is held.
+/// What is told of the answer of `check-layout` to an input of which this is held; none where more has to be read.
 pub fn layout_front<'a>(
     alloc: Global,
     rect: Rect,
@@ -39,7 +39,7 @@ pub fn layout_front<'a>(
     }
 }
 
-/// What is told of the answer, where this design was read and this follows it.
+/// What this design and `rest`, behind it, tell of the answer; none where more has to be read.
 fn behind_design<'a>(
     alloc: Global,
     rect: Rect,
@@ -57,7 +57,7 @@ fn behind_design<'a>(
     }
 }
 
-/// What is told of the answer, where this follows a request: that it is refused, where the request has no formula.
+/// What `rest`, behind a request, tells of the answer: that it is refused, where the request has no formula.
 fn behind_large<'a>(
     alloc: Global,
     request: &Request,
@@ -76,7 +76,7 @@ fn behind_large<'a>(
     }
 }
 
-/// What is told of the answer, where this follows a request that has a formula: nothing before a line stands there.
+/// What `rest`, behind a request that has a formula, tells of the answer: nothing before a line stands there.
 fn behind_request<'a>(
     alloc: Global,
     request: &Request,
@@ -93,7 +93,7 @@ fn behind_request<'a>(
     }
 }
 
-/// What is told of the answer, where a certificate begins with this line, and this follows it.
+/// What `title`, the first line of a certificate, tells of the answer; `lines` follow it. Any but `none` is refused.
 fn behind_title<'a>(
     alloc: Global,
     request: &Request,

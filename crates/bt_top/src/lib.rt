@@ -1,10 +1,10 @@
 //! All that the program does, over words, a source of bytes and a sink of bytes.
 //!
 //! `program` reads the words and the source and writes the answer; `flow_check`, `recover`, `decide`, `make`, `build`,
-//! `layout`, `smallest`, `smallest_found`, `formula` and `same` find the answer to an input that is read whole. `blocks` finds that of
-//! `check`, `check-layout` and `check-same` as the input is gathered: by what is told of a design at its front,
-//! `flow_front`, `layout_front` and `same_front` give a `front`, and `front_answer` the answer that it tells, with
-//! `pair_check` of a pair of states. `bt_print` has the answers, and writes them.
+//! `layout`, `smallest`, `smallest_found`, `formula` and `same` find the answer to an input that is read whole.
+//! `blocks` finds that of `check`, `check-layout` and `check-same` as the input is gathered: by what is told of a
+//! design at its front, `flow_front`, `layout_front` and `same_front` give a `front`, and `front_answer` the answer
+//! that it tells, with `pair_check` of a pair of states. `bt_print` has the answers, and writes them.
 #![tactic(auto)]
 
 mod blocks;

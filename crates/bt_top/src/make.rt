@@ -33,7 +33,7 @@ pub fn make(
     }
 }
 
-/// The answer to a butterfly.
+/// The answer of `make` to a butterfly of this order; a refusal where there is none.
 fn butterfly_made(alloc: Global, order: u32) -> Result<Answer, AllocError>
     ensures { UnlessMemory alloc_error
         (InTurn (IsGenerated MOST_STAGES butterfly_net order) gen_told (IsSaidBalanced order)) result }
@@ -44,7 +44,7 @@ fn butterfly_made(alloc: Global, order: u32) -> Result<Answer, AllocError>
     }
 }
 
-/// The answer to a chain.
+/// The answer of `make` to a chain of this order; a refusal where there is none.
 fn chain_made(
     alloc: Global,
     order: u32,
@@ -60,7 +60,7 @@ fn chain_made(
     }
 }
 
-/// The answer to a chain that was made.
+/// The answer of `make` to a chain that was made, whose balance is decided.
 fn balance_of(
     alloc: Global,
     order: u32,

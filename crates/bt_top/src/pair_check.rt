@@ -10,7 +10,7 @@ use bt_print::{Answer, Brief, no_state};
 use bt_same::{Pair, PairJudgement, PairWide, differs, read_pair};
 use std::alloc::{AllocError, Global};
 
-/// The answer to the text of a pair of states.
+/// The answer to the text of a pair of states that is to show that these networks differ.
 pub fn judge_pair_text(
     alloc: Global,
     first: &Net,
@@ -26,7 +26,7 @@ pub fn judge_pair_text(
     }
 }
 
-/// The answer to a written pair of states.
+/// The answer to a written pair of states that is to show that these networks differ.
 fn judge_pair(first: &Net, second: &Net, pair: &Pair) -> Answer
     requires ends { HaveEqualEnds first.now second.now }
     requires first { Fits first.now pair.now.first }

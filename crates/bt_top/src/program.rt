@@ -62,7 +62,7 @@ pub fn run<S: Source, K: Sink>(
     }
 }
 
-/// The answer to the words and the source.
+/// The answer to the words and the source; where the words are no command, the source isn't read.
 fn answer_to<S: Source>(
     alloc: Global,
     words: &[String],

@@ -26,7 +26,7 @@ pub fn same(
     }
 }
 
-/// The answer to two networks.
+/// The answer of `same` to two networks that may be compared.
 fn same_of(
     alloc: Global,
     limits: Limits,

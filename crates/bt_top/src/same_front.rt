@@ -15,7 +15,7 @@ use bt_same::encode_same;
 use bt_text::skip_blanks;
 use std::alloc::{AllocError, Global};
 
-/// What is told of the answer to an input of which this is held.
+/// What is told of the answer of `check-same` to an input of which this is held; none where more has to be read.
 pub fn same_front<'a>(alloc: Global, held: Held<'a>) -> Result<Option<Front<'a>>, AllocError>
     requires { held.skipped + length held.bytes.now ≤ MOST_CHECKED }
     ensures { GivesHeldFront IsSameCertified held.entry result }
@@ -30,7 +30,7 @@ pub fn same_front<'a>(alloc: Global, held: Held<'a>) -> Result<Option<Front<'a>>
     }
 }
 
-/// What is told of the answer, where this follows a first design with this network.
+/// What `rest`, behind a first design with this network, tells of the answer; none where more has to be read.
 fn behind_first<'a>(
     alloc: Global,
     first: Net,
@@ -56,7 +56,7 @@ fn behind_first<'a>(
     }
 }
 
-/// What is told of the answer, where this follows two designs with these networks.
+/// What `rest`, behind two designs with these networks, tells of the answer: that they can't be compared, or more.
 fn behind_second<'a>(
     alloc: Global,
     first: Net,
@@ -72,7 +72,7 @@ fn behind_second<'a>(
     }
 }
 
-/// What is told of the answer, where this follows two designs that may be compared.
+/// What `rest`, behind two designs that may be compared, tells of the answer; none before a line stands there.
 fn behind_both<'a>(
     alloc: Global,
     first: Net,
@@ -101,7 +101,7 @@ fn behind_both<'a>(
     }
 }
 
-/// What is told of the answer, where a certificate or a written pair begins with this line, and this follows it.
+/// What `title`, the first line of a certificate or a pair, tells of the answer; `lines` follow it. Others are refused.
 fn behind_title<'a>(
     alloc: Global,
     written: WrittenPair<'a>,

@@ -38,7 +38,7 @@ pub fn smallest(
     }
 }
 
-/// The answer to a request on the greatest grid, where it has a formula there.
+/// The answer to a request on the greatest grid; a refusal where it has no formula there.
 fn smallest_unless_large(
     alloc: Global,
     first: Option<Rect>,

@@ -126,8 +126,8 @@ fn found_of(alloc: Global, learnt: u64, asked: &Asked) -> Result<Answer, AllocEr
     }
 }
 
-/// The answer to a request on the greatest grid, where the number of cells of a design that is laid out is given, and its
-/// own parts.
+/// What looking for small grids answers to a request whose rectangle is the greatest grid. `cells` is the number of
+/// cells that the design spans, where it is laid out, and `own` are its parts.
 fn small_of(
     alloc: Global,
     learnt: u64,
@@ -146,7 +146,7 @@ fn small_of(
     }
 }
 
-/// What is answered to what looking for small grids comes to.
+/// The answer where looking for small grids comes to this.
 fn small_told(alloc: Global, request: &Request, small: Small) -> Result<Answer, AllocError>
     requires request { IsRequest request.now }
     requires cells { NamesNoCells request.now }

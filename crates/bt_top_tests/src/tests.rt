@@ -34,6 +34,7 @@ fn is_status(status: u8, field: &str) -> bool {
     usize::from(status) == number_of(field)
 }
 
+/// The words of a text, between which spaces stand.
 fn words_of(alloc: Global, words: &str) -> Result<Vec<String>, AllocError> {
     let mut all = Vec::new(alloc);
     for word in words.split(' ') {
@@ -42,7 +43,8 @@ fn words_of(alloc: Global, words: &str) -> Result<Vec<String>, AllocError> {
     Ok(all)
 }
 
-/// A sink with room for so many bytes, which takes at most so many at a call, and fails at one, or at none for 0.
+/// A sink with room for so many bytes, which takes at most `most` at a call, and fails at the call with the number
+/// `fails`, from 1, or at none for 0.
 fn sink_of(alloc: Global, room: usize, most: usize, fails: u64) -> Result<MemSink, AllocError> {
     let fails = vec![in alloc; fails]?;
     MemSink::new(alloc, room, fails, most.max(1))
@@ -60,7 +62,7 @@ fn asked<R: Source, W: Sink>(
     Ok(run(alloc, &words, source, sink, choosers))
 }
 
-/// The same where nobody steers.
+/// The status with which words are answered where nobody steers.
 fn asked_alone<R: Source, W: Sink>(
     alloc: Global,
     words: &str,

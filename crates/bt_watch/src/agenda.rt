@@ -27,7 +27,7 @@ impl Model for Agenda {
 }
 
 impl Agenda {
-    /// An agenda without places, for so many.
+    /// An agenda without places. There is room for the places below `size`; more is made as they are added.
     pub fn new(alloc: Global, size: usize) -> Result<Agenda, AllocError>
         ensures { IfOk result (λ a. a ≡ []) }
     {
@@ -59,14 +59,14 @@ impl Agenda {
         is_marked(&self.marks, place)
     }
 
-    /// The greatest place, where there is one.
+    /// The greatest place on the agenda. None where it is empty.
     pub fn greatest(&self) -> Option<usize>
         ensures { IsGreatest self.now result }
     {
         last_marked(&self.marks, self.end)
     }
 
-    /// Whether a place is on the agenda that isn't before this one.
+    /// Whether some place on the agenda is `least` or greater.
     pub fn reaches(&self, least: usize) -> bool
         ensures { IsTrue result ↔ Reaches self.now least }
     {
@@ -76,7 +76,7 @@ impl Agenda {
         }
     }
 
-    /// Takes the greatest place off the agenda.
+    /// Takes the greatest place off the agenda, and gives it. None where the agenda is empty.
     pub fn take_greatest(&mut self) -> Option<usize>
         ensures { Takes self.old result self.new }
     {
@@ -84,7 +84,7 @@ impl Agenda {
     }
 }
 
-/// Marks a place, which the end moves behind.
+/// Marks a place, and moves the end behind it where it lies beyond. The marks grow where they lack the place.
 fn mark(marks: &mut Vec<bool>, end: &mut usize, place: usize) -> Result<(), AllocError>
     requires { AreBefore marks.old.items end.old }
     ensures adds { OnOk result (Adds (places_of marks.old.items) place (places_of marks.new.items)) }
@@ -100,7 +100,7 @@ fn mark(marks: &mut Vec<bool>, end: &mut usize, place: usize) -> Result<(), Allo
     Ok(())
 }
 
-/// Takes the mark of the last place that has one away, which the end moves to.
+/// Takes the last mark away, gives its place, and moves the end there. None where there is no mark.
 fn take_last(marks: &mut [bool], end: &mut usize) -> Option<usize>
     requires { AreBefore marks.old end.old }
     ensures takes { Takes (places_of marks.old) result (places_of marks.new) }
@@ -131,7 +131,7 @@ fn unmark_all(marks: &mut [bool])
     marks.fill(false);
 }
 
-/// The last place that is marked.
+/// The last place that is marked, all of which are before the end. None where there is none.
 fn last_marked(marks: &[bool], end: usize) -> Option<usize>
     requires { AreBefore marks.now end }
     ensures { IsGreatest (places_of marks.now) result }

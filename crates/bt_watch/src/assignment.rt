@@ -16,7 +16,8 @@ pub struct Assignment {
     pub places: Vec<usize>,
 }
 
-/// Makes a literal true, as the last one of the trail, by the clause with this number or by choice.
+/// Makes a literal true, as the last one of the trail, by the clause with this number, or by choice where none is
+/// named.
 pub fn assign(
     assignment: &mut Assignment,
     lit: &Lit,
@@ -32,7 +33,7 @@ pub fn assign(
     Ok(())
 }
 
-/// Tells the place of a variable's literal.
+/// Notes at which place of the trail a variable's literal stands. Nothing is noted of a variable beyond the list.
 fn set_place(places: &mut [usize], var: Var, place: usize)
     ensures { places.new ≡ slice_set places.old var place }
 {

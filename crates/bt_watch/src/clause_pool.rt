@@ -9,7 +9,7 @@ use std::marker::Model;
 /// The kind of the clauses of two or more literals, whose first two are watched.
 pub struct Watched;
 
-/// These clauses.
+/// The clauses of two or more literals, whose first two are watched.
 pub type ClausePool = Pool<Packed, Watched>;
 
 /// The id of a kept clause, in four bytes.
@@ -29,7 +29,7 @@ impl Model for PackedId {
 }
 
 impl PackedId {
-    /// The same id, packed. One that doesn't fit is want of memory.
+    /// The same id, packed. Memory counts as run out where it is 2^32 or more.
     pub fn pack(id: Id<Watched>) -> Result<PackedId, AllocError>
         ensures { IfOk result (λ packed. packed ≡ id) }
     {
@@ -39,7 +39,7 @@ impl PackedId {
         }
     }
 
-    /// The same id.
+    /// The same id, that of one of these clauses.
     pub fn unpack(self, clauses: &ClausePool) -> Id<Watched>
         requires { self < length clauses.now }
         ensures { result ≡ self }

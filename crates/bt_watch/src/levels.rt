@@ -33,7 +33,8 @@ fn unassign(assignment: &mut Assignment, size: usize)
     assignment.reasons.truncate(size);
 }
 
-/// The place where a level begins, or the end of the trail where there is no such level.
+/// The place on the trail where a level begins, or the end of the trail where there is no such level. Levels are
+/// numbered from 0.
 pub fn start(search: &Search, level: usize) -> usize
     ensures { result ≡ start_of search.now level }
 {
@@ -54,7 +55,7 @@ pub fn backjump(search: &mut Search, level: usize)
     search.starts.truncate(level);
 }
 
-/// How many levels begin at a place or before it.
+/// How many levels begin at a place of the trail or before it. The places where levels begin ascend.
 pub fn level_of(starts: &[usize], place: usize) -> usize
     requires { IsNonDecreasing starts.now }
     ensures { IsLevelOf starts.now place result }

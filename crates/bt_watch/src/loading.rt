@@ -35,7 +35,8 @@ fn unassigned(alloc: Global, vars: usize) -> Result<Assignment, AllocError>
     })
 }
 
-/// Counts a clause where its first two different literals are going to be watched.
+/// Counts a clause for the two literals that it is going to watch. A clause without two different literals counts for
+/// none.
 fn count_watches(counts: &mut Counts, lits: &[Lit]) {
     if let Some(place) = other_place(lits) {
         counts.add(&lits[0]);
@@ -69,7 +70,7 @@ fn empty_search(alloc: Global, formula: &Formula) -> Result<Search, AllocError>
     })
 }
 
-/// The place of a literal that isn't the first one, where there is another.
+/// The place of the first literal that differs from that at place 0. None where none does.
 fn other_place(lits: &[Lit]) -> Option<usize>
     ensures { IsOther lits.now result }
 {
@@ -81,7 +82,8 @@ fn other_place(lits: &[Lit]) -> Option<usize>
     None
 }
 
-/// Copies a clause, and puts the literal at a place, which isn't the first one, in the second place.
+/// Copies a clause to `paired`, where the literal at a place, which isn't the first one, changes places with the
+/// second.
 fn pair(paired: &mut Vec<Lit>, lits: &[Lit], place: usize) -> Result<(), AllocError>
     requires { IsOther lits.now (Some place) }
     ensures { OnOk result (ArePaired lits.now paired.new.items) }
@@ -92,7 +94,8 @@ fn pair(paired: &mut Vec<Lit>, lits: &[Lit], place: usize) -> Result<(), AllocEr
     Ok(())
 }
 
-/// Makes the literal true of a clause that has no other one. Tells whether it isn't false.
+/// Makes the literal true of a clause that has no other one. Tells whether that can be: where it is false, nothing
+/// changes.
 fn load_lit(
     search: &mut Search,
     formula: &Formula,
@@ -116,7 +119,8 @@ fn load_lit(
     Ok(true)
 }
 
-/// Loads the clause that comes next. Tells whether it has a literal that isn't false.
+/// Loads the clause that comes next: it is watched where two of its literals differ, else its literal is made true.
+/// Tells false where it is empty or its only literal is false. `paired` is space to work in.
 fn load_clause(
     search: &mut Search,
     formula: &Formula,
@@ -143,8 +147,8 @@ fn load_clause(
     }
 }
 
-/// Loads the clauses of a formula in turn, up to one whose literals are all false. Tells the number of such
-/// a clause.
+/// Loads the clauses of a formula in turn, up to one that is empty or whose only literal is false. Gives the number of
+/// that clause, or None where all are loaded. `paired` is space to work in.
 fn load_clauses(
     search: &mut Search,
     formula: &Formula,
@@ -164,9 +168,9 @@ fn load_clauses(
     Ok(None)
 }
 
-/// A search whose clauses are those of a formula, up to one whose literals are all false, and the number of such a
-/// clause. Nothing is propagated yet: clauses are watched even where their literals are false already, and the first
-/// propagation goes through the whole trail.
+/// A search whose clauses are those of a formula, up to one that is empty or whose only literal is false, and the
+/// number of that clause. Nothing is propagated yet: clauses are watched even where their literals are false already,
+/// and the first propagation goes through the whole trail.
 pub fn load_search(alloc: Global, formula: &Formula) -> Result<(Search, Option<usize>), AllocError>
     ensures stands { IfOk result (λ work. Stands formula.now.clauses 0 work.0 work.1) }
     ensures same { IfOk result (λ work. length work.0.assignment.values ≡ formula.now.vars) }

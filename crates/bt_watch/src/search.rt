@@ -53,7 +53,7 @@ pub enum Next {
     Open(usize),
 }
 
-/// Visits a clause where a literal has become false.
+/// Visits the clause with an id, where a literal has become false.
 fn visit_by_id(clauses: &mut ClausePool, id: PackedId, false_lit: &Packed, values: &Values) -> Visit
     requires id { id < length clauses.old }
     requires watchable { IsWatchable (length values.now) (kept_at clauses.old id) }
@@ -64,14 +64,14 @@ fn visit_by_id(clauses: &mut ClausePool, id: PackedId, false_lit: &Packed, value
     visit_clause(clauses.slice_mut(id), false_lit, values)
 }
 
-/// The number of a kept clause.
+/// The number of a kept clause among those of the formula and of the log. None where no such clause is kept.
 pub fn number_of(numbers: &[usize], id: PackedId) -> Option<usize>
     ensures { result ≡ slice_get numbers.now id }
 {
     numbers.get(id.place()).copied()
 }
 
-/// Where the first level begins, or beyond all places where there is none.
+/// The place on the trail where the first level begins, or one beyond all places where there is none.
 fn root_bound(starts: &[usize]) -> usize
     ensures { result ≡ bound_of starts.now }
 {
@@ -81,8 +81,8 @@ fn root_bound(starts: &[usize]) -> usize
     }
 }
 
-/// Whether a literal, whose variable's place is among these, is known to have been true before the first
-/// choice, or while nothing was chosen.
+/// Whether a literal is known to have been true before the first choice, or while nothing was chosen. `places` are
+/// those of the variables on the trail; what stands before `root` follows from no choice.
 fn is_rooted(search: &Search, places: &[usize], root: usize, lit: &Packed) -> bool
     requires { root ≡ bound_of search.now.starts.items }
     ensures { IsTrue result → Contains (root_of search.now) lit.now }
@@ -125,7 +125,8 @@ fn find_next(search: &Search, root: usize, list: &[Watch], from: usize) -> Next
     Next::Nothing
 }
 
-/// Visits the clause at a place of the list of a literal that is false, which was taken out of the lists.
+/// Visits the clause at a place of the list of a literal that is false, which was taken out of the lists, and tells
+/// what becomes of it. Where one literal is left that isn't false, that is made true.
 pub fn visit_at(
     search: &mut Search,
     false_lit: &Packed,
@@ -246,7 +247,7 @@ pub fn propagate(search: &mut Search, propagated: usize) -> Result<Option<Packed
     Ok(None)
 }
 
-/// Keeps the clause with a number, whose literals are packed.
+/// Keeps a clause with this number, whose literals are packed, and lets it watch the first two.
 fn keep_packed(search: &mut Search, lits: &[Packed], number: usize) -> Result<(), AllocError>
     requires watched { AreWatched (root_of search.old) (length search.old.assignment.values)
         search.old.clauses search.old.watchers }
@@ -268,7 +269,7 @@ fn keep_packed(search: &mut Search, lits: &[Packed], number: usize) -> Result<()
     Ok(())
 }
 
-/// Keeps the clause with a number, of two or more literals, the first two of which it watches.
+/// Keeps a clause with this number, of two or more literals, the first two of which it watches.
 pub fn keep(search: &mut Search, lits: &[Lit], number: usize) -> Result<(), AllocError>
     requires watched { AreWatched (root_of search.old) (length search.old.assignment.values)
         search.old.clauses search.old.watchers }

@@ -24,7 +24,8 @@ pub enum Visit {
     Conflict,
 }
 
-/// What the clause does where a literal has become false. Where it watches it still, it stands second then.
+/// What a clause does where a literal has become false. Where the clause still watches that one, it is moved to the
+/// second place.
 pub fn visit_clause(lits: &mut [Packed], false_lit: &Packed, values: &Values) -> Visit
     requires two { 2 ≤ length lits.old }
     requires variables { LitsBelow (length values.now) lits.old }
@@ -48,7 +49,7 @@ fn bring_second(lits: &mut [Packed], false_lit: &Packed)
     }
 }
 
-/// What the clause does, whose second literal is false.
+/// What a clause does whose second literal, one of the two that it watches, is false.
 fn visit_second(lits: &mut [Packed], values: &Values) -> Visit
     requires two { 2 ≤ length lits.old }
     requires variables { LitsBelow (length values.now) lits.old }
@@ -67,9 +68,9 @@ fn visit_second(lits: &mut [Packed], values: &Values) -> Visit
     Visit::UnitLit(other)
 }
 
-/// Puts a literal that isn't false and isn't the first in the second place, in exchange, where one stands
-/// behind the first two. It looks from the third place on each time: a place remembered for each clause reads fewer
-/// literals, but is read itself at each visit, and searches took no less time.
+/// Puts a literal that isn't false and isn't the first in the second place, in exchange, and gives it. None where no
+/// such one stands behind the first two. It looks from the third place on each time: a place remembered for each clause
+/// reads fewer literals, but is read itself at each visit, and searches took no less time.
 fn replace_second(lits: &mut [Packed], first: &Packed, values: &Values) -> Option<Packed>
     requires two { 2 ≤ length lits.old }
     requires variables { LitsBelow (length values.now) lits.old }

@@ -20,7 +20,7 @@ pub struct Counts {
 }
 
 impl Counts {
-    /// Counts of the literals of so many variables, which are zero.
+    /// Counts of zero for the literals of so many variables.
     pub fn new(alloc: Global, vars: usize) -> Result<Counts, AllocError> {
         Ok(Counts {
             positives: vec![in alloc; 0; vars]?,
@@ -38,7 +38,7 @@ impl Counts {
     }
 }
 
-/// Counts one more for a variable.
+/// Counts one more for a variable. One beyond the counts is passed over.
 fn add_one(counts: &mut [usize], var: Var) {
     let place = var.place();
     if place < counts.len() {
@@ -75,7 +75,7 @@ fn empty_lists(alloc: Global, vars: usize, counts: &Counts) -> Result<Vec<Vec<Wa
     Ok(lists)
 }
 
-/// The count at a place.
+/// The count at a place, or 0 where there is none.
 fn count_at(counts: &[usize], place: usize) -> usize {
     counts.get(place).copied().unwrap_or(0)
 }
@@ -90,7 +90,7 @@ impl Watchers {
         })
     }
 
-    /// Lets a clause watch a literal.
+    /// Lets a clause watch a literal: it is appended to the literal's list.
     pub fn watch(&mut self, lit: &Packed, watch: Watch) -> Result<(), AllocError>
         requires { code_of lit.now < length self.old.lists }
         ensures { OnOk result (Watches self.old self.new lit.now watch) }

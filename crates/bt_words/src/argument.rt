@@ -48,7 +48,7 @@ pub enum Argument {
     Request,
 }
 
-/// The argument at the front of the words, and the words behind it.
+/// The argument at the front of the words, and the words behind it. None where no argument stands there.
 pub fn next_argument(words: &[String]) -> Option<(Argument, &[String])>
     ensures { MatchOption result
         ((a : AnArgument) (rest : List (List ℕ)) → BeginsWith (map string_bytes words.now) a rest → ⊥)
@@ -66,7 +66,7 @@ pub fn next_argument(words: &[String]) -> Option<(Argument, &[String])>
     Some((valued(option, value.as_bytes())?, rest))
 }
 
-/// The argument that a word is for itself.
+/// The argument that a single word is, without a value behind it. None where it is none.
 fn plain(word: &str) -> Option<Argument>
     ensures { MatchOption result ((a : AnArgument) → IsPlain a word.now → ⊥) (λ a. IsPlain a word.now) }
 {
@@ -76,7 +76,7 @@ fn plain(word: &str) -> Option<Argument>
     }
 }
 
-/// The option without a value that a word is.
+/// The option without a value that a word is. None where it is none.
 fn mark(word: &str) -> Option<Argument>
     ensures { MatchOption result ((a : AnArgument) → IsMark a word.now → ⊥) (λ a. IsMark a word.now) }
 {
@@ -95,7 +95,7 @@ fn mark(word: &str) -> Option<Argument>
     None
 }
 
-/// The properties or the number that a word is.
+/// The properties or the number that a word is. None where it is neither.
 fn placed(word: &[u8]) -> Option<Argument>
     ensures { MatchOption result ((a : AnArgument) → IsPlaced a word.now → ⊥) (λ a. IsPlaced a word.now) }
 {
@@ -106,7 +106,7 @@ fn placed(word: &[u8]) -> Option<Argument>
     Some(Argument::Number(number as u32))
 }
 
-/// The option of this name with this value.
+/// The option of this name with this value. None where there is no such option, or it can't have the value.
 fn valued(name: &[u8], value: &[u8]) -> Option<Argument>
     ensures { MatchOption result ((a : AnArgument) → IsValued a name.now value.now → ⊥)
         (λ a. IsValued a name.now value.now) }

@@ -59,8 +59,8 @@ pub enum Command {
     Layout(Rect, Option<Tier>, u64),
     /// `check-layout`: does the certificate show that no parts of this tier, or of the request's own, on this grid do?
     CheckLayout(Rect, Option<Tier>),
-    /// `smallest`: what is the least grid, from the first on where one is named, and of at most so many cells each
-    /// way, on which parts of this tier, or of basic ones, show the network, found in at most so many steps of a log for
+    /// `smallest`: what is the least grid, from the first on where one is named, and of at most so many cells each way,
+    /// on which parts of this tier, or of basic ones, show the network, found in at most so many steps of a log for
     /// each grid?
     Smallest(Option<Rect>, Rect, Option<Tier>, u64),
     /// `smallest --found`: on which small grids, of at most so many cells each way where that is said, and within the

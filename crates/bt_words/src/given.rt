@@ -70,7 +70,8 @@ pub const NOTHING: Given = Given {
     request: false,
 };
 
-/// What the words behind a command's word give.
+/// What the words behind a command's word give. None where a word is no argument, or an argument stands twice or where
+/// it may not.
 pub fn read_given(words: &[String]) -> Option<Given>
     ensures { MatchOption result ((g : AGiven) → IsGiven g (map string_bytes words.now) → ⊥)
         (λ g. IsGiven g (map string_bytes words.now)) }
@@ -86,7 +87,8 @@ pub fn read_given(words: &[String]) -> Option<Given>
 }
 
 impl Given {
-    /// With one argument more, where it isn't given yet.
+    /// What is given, with one more argument. None where the argument is given already, or properties or a number may
+    /// not stand there.
     fn with(self, argument: Argument) -> Option<Given>
         ensures { MatchOption result
             ((g : AGiven) (more : List AnArgument) → Adds self (argument ∷ more) g → ⊥)
@@ -141,7 +143,7 @@ impl Given {
 }
 
 impl Given {
-    /// With other properties and numbers, where there are such.
+    /// What is given, with these properties and numbers in place of its own. None where there are none such.
     fn with_places(self, places: Option<Places>) -> Option<Given>
         ensures { MatchOption result (places ≡ None) (λ g. (p : APlaces) × (places ≡ Some p)
             × (g ≡ record self { places = p })) }
@@ -154,7 +156,7 @@ impl Given {
 }
 
 impl Places {
-    /// With properties behind what is given, where they may stand there.
+    /// The properties and the numbers, with these properties behind them. None where there are some already.
     fn with_wish(self, wish: Wish) -> Option<Places>
         ensures { MatchOption result
             ((more : List AnArgument) (p : APlaces) → IsFollowed self (Wished wish ∷ more) p → ⊥)
@@ -166,7 +168,8 @@ impl Places {
         }
     }
 
-    /// With a number behind what is given, where it may stand there.
+    /// The properties and the numbers, with one more number behind them. None where they are a number alone, or have
+    /// two numbers already.
     fn with_number(self, number: u32) -> Option<Places>
         ensures { MatchOption result
             ((more : List AnArgument) (p : APlaces) → IsFollowed self (Number number ∷ more) p → ⊥)
@@ -181,7 +184,7 @@ impl Places {
     }
 }
 
-/// Whether a network that is built may have so many inputs, or outputs.
+/// Whether a network that is built may have so many inputs, or outputs: from 1 to `MOST_LINES`.
 fn is_count(number: u32) -> bool
     ensures { IsTrue result ↔ IsCount number }
 {
@@ -211,7 +214,7 @@ impl Given {
         }
     }
 
-    /// Whether nothing is given but limits.
+    /// Whether nothing is given but limits, the most steps of a log and the most turns of a call.
     pub fn is_limits(self) -> bool
         ensures { IsTrue result ↔ IsToCompare self }
     {
@@ -232,7 +235,7 @@ impl Given {
         }
     }
 
-    /// The property, where it alone is given.
+    /// The property, where it alone is given. None where anything else is, or several properties are.
     pub fn only_property(self) -> Option<Property>
         ensures { MatchOption result ((p : AProperty) → self ≡ record nothing { places = one_property p } → ⊥)
             (λ p. self ≡ record nothing { places = one_property p }) }
@@ -255,7 +258,7 @@ impl Given {
         }
     }
 
-    /// The property, where no other is given but limits.
+    /// The property, where nothing else is given but limits. None where anything else is, or several properties are.
     pub fn property_and_limits(self) -> Option<Property>
         ensures { MatchOption result ((p : AProperty) → IsToDecide p self → ⊥) (λ p. IsToDecide p self) }
     {
@@ -276,7 +279,8 @@ impl Given {
         }
     }
 
-    /// The order, where nothing else is given but limits and which kind of network it is.
+    /// The order of a network that is made. None where no number is given, or anything else is but limits and which
+    /// kind of network it is.
     pub fn order_and_limits(self) -> Option<u32>
         ensures { MatchOption result ((k : ℕ) → IsToMake k self → ⊥) (λ k. IsToMake k self) }
     {
@@ -296,7 +300,7 @@ impl Given {
         }
     }
 
-    /// The kind of network that is made.
+    /// The kind of network that is made: a chain where `--chain` is given, and else a butterfly.
     pub fn family(self) -> NetworkFamily
         ensures { is_chain result ≡ self.chain }
     {
@@ -307,7 +311,8 @@ impl Given {
         }
     }
 
-    /// The grid, where no other is given but the tier and the most steps of a log.
+    /// The grid, where nothing else is given but the tier and the most steps of a log. None where anything else is, or
+    /// no grid is.
     pub fn grid_to_lay(self) -> Option<Rect>
         ensures { MatchOption result ((r : ARect) → IsToLay r self → ⊥) (λ r. IsToLay r self) }
     {
@@ -328,7 +333,7 @@ impl Given {
         }
     }
 
-    /// The grid, where no other is given but the tier.
+    /// The grid, where nothing else is given but the tier. None where anything else is, or no grid is.
     pub fn grid_to_check(self) -> Option<Rect>
         ensures { MatchOption result ((r : ARect) → IsToCheckLayout r self → ⊥)
             (λ r. IsToCheckLayout r self) }
@@ -351,9 +356,9 @@ impl Given {
         }
     }
 
-    /// The greatest grid that is searched, where nothing is given but it, the grid with which a search begins, which is
-    /// one of those up to it, the tier and the most steps of a log: the one that is given, which has at most `MOST_CELLS`
-    /// cells, or else the usual one.
+    /// The greatest grid that is searched: the one of `--most`, or else the usual one. None where anything is given but
+    /// this, the grid with which a search begins, the tier and the most steps of a log; where it has more than
+    /// `MOST_CELLS` cells; or where the grid with which a search begins isn't one of those up to it.
     pub fn most_to_search(self) -> Option<Rect>
         ensures { MatchOption result ((r : ARect) → IsToSearch r self → ⊥) (λ r. IsToSearch r self) }
     {
@@ -374,7 +379,8 @@ impl Given {
         }
     }
 
-    /// The greatest grid, where one is given, where `--found` is, and no grid with which a search begins.
+    /// Where small layouts are looked for, the greatest grid, or none where `--most` isn't given. None where `--found`
+    /// isn't given, or anything is but these, the tier, the sides and the most steps of a log.
     pub fn most_to_find(self) -> Option<Option<Rect>>
         ensures { MatchOption result ((most : Option ARect) → IsToFind most self → ⊥)
             (λ most. IsToFind most self) }
@@ -406,8 +412,8 @@ impl Given {
         }
     }
 
-    /// The properties and the numbers of inputs and outputs, where nothing else is given but limits and as what the network
-    /// is written.
+    /// The properties and the numbers of inputs and outputs. None where one of these is lacking or a number isn't from
+    /// 1 to `MOST_LINES`, or where anything else is given but limits and as what the network is written.
     pub fn wish_and_counts(self) -> Option<(Wish, u32, u32)>
         ensures { MatchOption result
             ((w : AWish) (i o : ℕ) → IsToBuild w i o self → ⊥) (λ r. IsToBuild r.0 r.1 r.2 self) }
@@ -450,8 +456,8 @@ impl Given {
     }
 }
 
-/// The greatest grid, where it has at most `MOST_CELLS` cells and the one with which a search begins is among those up to
-/// it.
+/// The greatest grid. None where it has more than `MOST_CELLS` cells, or the grid with which a search begins isn't one
+/// of those up to it.
 fn most_from(most: Rect, from: Option<Rect>) -> Option<Rect>
     ensures { MatchOption result (HasFewCells most → IfSome from (IsAmong most) → ⊥)
         (λ r. (r ≡ most) × HasFewCells most × IfSome from (IsAmong most)) }

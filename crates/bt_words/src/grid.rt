@@ -10,7 +10,7 @@ use bt_model::MOST_ACROSS;
 use bt_parts::{Rect, Tier};
 use bt_text::split_once;
 
-/// The grid that a word is: its width, `x` and its height.
+/// The grid that a word is: its width, `x` and its height. None where the word is none.
 pub fn grid_of(word: &[u8]) -> Option<Rect>
     ensures { MatchOption result ((grid : ARect) → IsGridWord grid word.now → ⊥)
         (λ grid. IsGridWord grid word.now) }
@@ -21,7 +21,7 @@ pub fn grid_of(word: &[u8]) -> Option<Rect>
     Some(Rect { width, height })
 }
 
-/// The number of cells, from 1 to `MOST_ACROSS`, that a word is.
+/// The number of cells, from 1 to `MOST_ACROSS`, that a word is. None where the word is none such.
 fn across(word: &[u8]) -> Option<u32>
     ensures { MatchOption result ((n : ℕ) → 1 ≤ n → n ≤ MOST_ACROSS → word.now ≡ decimal n → ⊥)
         (λ n. (1 ≤ n) × (n ≤ MOST_ACROSS) × (word.now ≡ decimal n)) }

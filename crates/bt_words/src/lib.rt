@@ -1,8 +1,8 @@
 //! The words of the command line: which command they are, and what is given with it.
 //!
-//! The first word is the command. Behind it stand its arguments in any order: a word for itself, or an
-//! option, whose value follows it as the next word or behind `=`. Each argument stands once at most; `build` has properties
-//! and two numbers, in this order among themselves.
+//! The first word is the command. Behind it stand its arguments in any order: a word for itself, or an option, whose
+//! value follows it as the next word or behind `=`. Each argument stands once at most; `build` has properties and two
+//! numbers, in this order among themselves.
 #![tactic(auto)]
 
 mod argument;

@@ -9,7 +9,7 @@ use crate::command::Command;
 use crate::given::{Given, read_given};
 use crate::verb::Verb;
 
-/// The command that the words are.
+/// The command that the words are. None where they are no command.
 pub fn command_of(words: &[String]) -> Option<Command>
     ensures { MatchOption result (IsUsage (map string_bytes words.now))
         (λ command. IsCommand command (map string_bytes words.now)) }
@@ -24,7 +24,7 @@ pub fn one_command()
     ensures { (c d : ACommand) (words : List (List ℕ)) → IsCommand c words → IsCommand d words → c ≡ d }
 {}
 
-/// The command of this word, where what is given suits it.
+/// The command of this word. None where what is given doesn't suit it.
 fn with_given(verb: Verb, given: Given) -> Option<Command>
     ensures { MatchOption result ((c : ACommand) → verb ≡ verb_of c → Suits c given → ⊥)
         (λ c. (verb ≡ verb_of c) × Suits c given) }
@@ -52,7 +52,7 @@ fn with_given(verb: Verb, given: Given) -> Option<Command>
     }
 }
 
-/// `build`, where what is given suits it.
+/// `build` with what is given. None where that doesn't suit it.
 fn built(given: Given) -> Option<Command>
     ensures { MatchOption result ((c : ACommand) → Build ≡ verb_of c → Suits c given → ⊥)
         (λ c. (Build ≡ verb_of c) × Suits c given) }
@@ -62,7 +62,7 @@ fn built(given: Given) -> Option<Command>
     Some(Command::Build(wish, inputs, outputs, given.limits(), given.built_text()))
 }
 
-/// `layout`, where what is given suits it.
+/// `layout` with what is given. None where that doesn't suit it.
 fn laid(given: Given) -> Option<Command>
     ensures { MatchOption result ((c : ACommand) → Layout ≡ verb_of c → Suits c given → ⊥)
         (λ c. (Layout ≡ verb_of c) × Suits c given) }
@@ -71,7 +71,7 @@ fn laid(given: Given) -> Option<Command>
     Some(Command::Layout(grid, given.tier, given.limits().learnt))
 }
 
-/// `check-layout`, where what is given suits it.
+/// `check-layout` with what is given. None where that doesn't suit it.
 fn layout_checked(given: Given) -> Option<Command>
     ensures { MatchOption result ((c : ACommand) → CheckLayout ≡ verb_of c → Suits c given → ⊥)
         (λ c. (CheckLayout ≡ verb_of c) × Suits c given) }
@@ -80,7 +80,7 @@ fn layout_checked(given: Given) -> Option<Command>
     Some(Command::CheckLayout(grid, given.tier))
 }
 
-/// `smallest`, where what is given suits it, with `--found` or without.
+/// `smallest` with what is given, with `--found` or without. None where that doesn't suit it.
 fn smallest(given: Given) -> Option<Command>
     ensures { MatchOption result ((c : ACommand) → Smallest ≡ verb_of c → Suits c given → ⊥)
         (λ c. (Smallest ≡ verb_of c) × Suits c given) }
@@ -93,7 +93,7 @@ fn smallest(given: Given) -> Option<Command>
     Some(Command::Smallest(given.from, most, given.tier, learnt))
 }
 
-/// `formula`, where what is given suits it: a property, or a grid.
+/// `formula` with what is given, a property or a grid. None where that doesn't suit it.
 fn formula_of(given: Given) -> Option<Command>
     ensures { MatchOption result ((c : ACommand) → Formula ≡ verb_of c → Suits c given → ⊥)
         (λ c. (Formula ≡ verb_of c) × Suits c given) }

@@ -1,9 +1,9 @@
-//! Makes a certificate's steps of a formula in DIMACS and the proof of another solver behind it (DRAT, a step a line), which
-//! stand on standard input. Ends with status 3 where the proof isn't taken, and says why; with 7 where nothing can be
-//! written, and with 8 where memory is wanting.
+//! Makes a certificate's steps of a formula in DIMACS and the proof of another solver behind it (DRAT, a step a line),
+//! which stand on standard input. Ends with status 3 where the proof isn't taken, and says why; with 6 where the input
+//! can't be read, with 7 where nothing can be written, and with 8 where memory is wanting.
 #![tactic(auto)]
 
-use bt_io::{Sink, StdSink, StdSource, read_all, write_all_of};
+use bt_io::{ReadAll, Sink, StdSink, StdSource, read_all, write_all_of};
 use hint_certify::{Refusal, print, refutation};
 use std::alloc::Global;
 use std::io::BufWriter;
@@ -21,7 +21,7 @@ const UNWRITTEN: u8 = 7;
 
 const NO_MEMORY: u8 = 8;
 
-/// Writes why a proof isn't taken.
+/// Writes a line that says why a proof isn't taken, and gives the status.
 fn refuse<K: Sink>(alloc: Global, refusal: Refusal, sink: &mut K) -> u8 {
     let line = match refusal {
         Refusal::Formula => format!(in alloc; "no formula\n"),
@@ -37,7 +37,7 @@ fn refuse<K: Sink>(alloc: Global, refusal: Refusal, sink: &mut K) -> u8 {
     }
 }
 
-/// Writes the steps of a refutation.
+/// Writes the steps of the refutation that the text holds, or why there is none, and gives the status.
 fn certify<K: Sink>(alloc: Global, text: &[u8], sink: &mut K) -> u8 {
     match refutation(alloc, text) {
         Ok(steps) => match print(alloc, &steps, sink) {
@@ -49,11 +49,14 @@ fn certify<K: Sink>(alloc: Global, text: &[u8], sink: &mut K) -> u8 {
     }
 }
 
+/// Reads standard input, writes to standard output, and ends with the status.
 fn main(rt: HostRuntime) -> ExitCode {
     let alloc = rt.alloc();
     let mut source = StdSource::new(rt.stdin());
-    let Ok(text) = read_all(alloc, &mut source, INPUT_LIMIT) else {
-        return ExitCode::from(UNREAD);
+    let text = match read_all(alloc, &mut source, INPUT_LIMIT) {
+        Ok(text) => text,
+        Err(ReadAll::Memory) => return ExitCode::from(NO_MEMORY),
+        Err(ReadAll::ReadFault | ReadAll::TooLong) => return ExitCode::from(UNREAD),
     };
     let Ok(output) = BufWriter::new(alloc, rt.stdout()) else {
         return ExitCode::from(NO_MEMORY);

@@ -38,7 +38,7 @@ pub fn argument_of(
     argument_from(alloc, line)
 }
 
-/// Adds to a line what needs definitions.
+/// Adds to a line the argument for a property that needs definitions.
 fn extend(
     alloc: Global,
     net: &Net,
@@ -58,7 +58,7 @@ fn extend(
     }
 }
 
-/// Adds to a line what follows of how splitters divide, from the outputs back or from the inputs on.
+/// Adds to a line what follows of how splitters divide, from the inputs on or with `backward` from the outputs back.
 fn add_divided(
     alloc: Global,
     net: &Net,
@@ -136,6 +136,7 @@ fn argument_from(alloc: Global, line: Line) -> Result<Argument, AllocError> {
     })
 }
 
+/// For each aim the goal of its literals by its one scope.
 fn goals_from(alloc: Global, aims: Vec<Aim>) -> Result<Vec<Goal>, AllocError> {
     let mut goals = Vec::with_capacity(alloc, aims.len())?;
     for aim in aims {

@@ -43,7 +43,8 @@ pub fn aims_of(
     }
 }
 
-/// The aims, from the outputs or from the inputs.
+/// The aims, from the outputs back or from the inputs on. There are none where the network has loops, no splitters,
+/// preferred edges or different caps.
 fn even_aims(
     alloc: Global,
     net: &Net,
@@ -62,6 +63,7 @@ fn even_aims(
     Ok(sources.aims)
 }
 
+/// What the aims are made of, with none made yet.
 fn sources_of<'a>(
     alloc: Global,
     net: &Net,
@@ -87,7 +89,7 @@ fn sources_of<'a>(
 }
 
 impl<'a> Sources<'a> {
-    /// Adds the aims of the splitters in this order, and those of the ends.
+    /// Adds the aims of the splitters in this order: that edges are full, and then that edges carry the same.
     fn add_all(&mut self, alloc: Global, order: &[usize]) -> Result<(), AllocError> {
         for splitter in order {
             self.add_full(alloc, *splitter)?;
@@ -98,13 +100,15 @@ impl<'a> Sources<'a> {
         Ok(())
     }
 
-    /// Adds that nothing breaks the property, by all rows that compare flows.
+    /// Adds that the literals of the last clause are false, so that nothing breaks the property, by all rows that
+    /// compare flows.
     fn add_last(&mut self, alloc: Global) -> Result<(), AllocError> {
         let comparisons = self.scopes.len();
         add_opposites(alloc, self.formula, &mut self.aims, comparisons)
     }
 
-    /// Adds that each edge behind a splitter with the mark is full.
+    /// Adds that where an edge behind a splitter has the mark, each edge before the splitter is full, and so is the
+    /// edge itself.
     fn add_full(&mut self, alloc: Global, splitter: usize) -> Result<(), AllocError> {
         let place = self.scopes.get(splitter).copied().unwrap_or(0);
         for edge in list_at(&self.behind, splitter) {

@@ -13,10 +13,10 @@ use std::alloc::{AllocError, Global};
 /// Of fewer splitters than this nothing is defined: the logs are shorter so.
 const LEAST_SPLITTERS: u32 = 96;
 
-/// The prime by which numbers are taken that stand for flows.
+/// The prime modulo which numbers are taken that stand for flows.
 const PRIME: u64 = 2_147_483_647;
 
-/// What is twice as much as one, by the prime.
+/// What is half of one modulo the prime: twice this number is 1.
 const HALF: u64 = 1_073_741_824;
 
 /// By what the numbers of what begins are multiplied, one after another, so that they look like chance.
@@ -65,7 +65,7 @@ pub fn is_plain(net: &Net) -> bool {
     }
 }
 
-/// Whether the argument is one for a network: it has many splitters, and no loops, and no splitter prefers an edge.
+/// Whether the argument is one for a network: it has many splitters, no loops, no preferred edges and one cap.
 pub fn is_equalled(alloc: Global, net: &Net) -> Result<bool, AllocError> {
     if net.splitters() < LEAST_SPLITTERS || !is_plain(net) {
         return Ok(false);
@@ -74,7 +74,7 @@ pub fn is_equalled(alloc: Global, net: &Net) -> Result<bool, AllocError> {
     Ok(order.len() == net.splitters() as usize)
 }
 
-/// Adds the argument, and that what still breaks the property doesn't by all rows that compare flows.
+/// Adds the argument for flows that are followed from the inputs on, or with `backward` from the outputs back.
 pub fn add_equal(
     alloc: Global,
     net: &Net,
@@ -93,6 +93,7 @@ pub fn add_equal(
 }
 
 impl<'a> Equalling<'a> {
+    /// The argument that has given no flow a number yet.
     fn of(
         alloc: Global,
         graph: &'a Graph<'a>,
@@ -110,7 +111,7 @@ impl<'a> Equalling<'a> {
         })
     }
 
-    /// The edges of a splitter that carry the same.
+    /// The edges of a splitter that carry the same: those out of it, or followed backward those into it.
     fn even(&self, splitter: usize) -> &'a [usize] {
         if self.backward {
             self.graph.ins(splitter)
@@ -119,7 +120,7 @@ impl<'a> Equalling<'a> {
         }
     }
 
-    /// The other edges of a splitter.
+    /// The other edges of a splitter, whose flows are known before.
     fn known(&self, splitter: usize) -> &'a [usize] {
         if self.backward {
             self.graph.outs(splitter)
@@ -128,7 +129,7 @@ impl<'a> Equalling<'a> {
         }
     }
 
-    /// The splitter that divides what an edge carries.
+    /// The splitter that divides what an edge carries; none where a flow begins with the edge.
     fn maker(&self, edge: usize) -> Option<usize> {
         if self.backward {
             self.graph.target(edge)
@@ -137,17 +138,19 @@ impl<'a> Equalling<'a> {
         }
     }
 
+    /// The number that stands for an edge's flow, 0 where there is no such edge.
     fn value(&self, edge: usize) -> u64 {
         self.values.get(edge).copied().unwrap_or(0)
     }
 
+    /// Gives an edge's flow a number, where there is such an edge.
     fn put(&mut self, edge: usize, value: u64) {
         if edge < self.values.len() {
             self.values[edge] = value;
         }
     }
 
-    /// Gives numbers to what begins.
+    /// Gives numbers to the flows that begin at ends, which look like chance.
     fn begin(&mut self) {
         let mut chance: u64 = 1;
         for edge in 0..self.graph.edges() {
@@ -158,7 +161,7 @@ impl<'a> Equalling<'a> {
         }
     }
 
-    /// Gives numbers to what splitters divide.
+    /// Gives numbers to the flows that splitters divide, in the order of these.
     fn follow(&mut self) {
         for step in 0..self.order.len() {
             let splitter = self.splitter_at(step);
@@ -169,11 +172,12 @@ impl<'a> Equalling<'a> {
         }
     }
 
+    /// The splitter after `step` others in the order, `usize::MAX` where there is none.
     fn splitter_at(&self, step: usize) -> usize {
         self.order.get(step).copied().unwrap_or(usize::MAX)
     }
 
-    /// The number that stands for what each of the edges of a splitter carries.
+    /// The number that stands for what each of a splitter's edges carries that carry the same.
     fn share(&self, splitter: usize) -> u64 {
         let mut sum: u64 = 0;
         for edge in self.known(splitter) {
@@ -186,7 +190,7 @@ impl<'a> Equalling<'a> {
         }
     }
 
-    /// Finds the first edge of each kind, in the order in which they are known.
+    /// Finds for each edge the first of its kind, in the order in which their flows are known.
     fn find_firsts(&mut self, alloc: Global) -> Result<(), AllocError> {
         let mut kinds = Vec::new(alloc);
         for edge in 0..self.graph.edges() {
@@ -202,7 +206,8 @@ impl<'a> Equalling<'a> {
         Ok(())
     }
 
-    /// Finds the first edge of the kind of one, among the first ones so far.
+    /// Finds the first edge of an edge's kind, among the first ones of all kinds so far. Where its kind is new it is
+    /// added to these.
     fn find_first(&mut self, kinds: &mut Vec<usize>, edge: usize) -> Result<(), AllocError> {
         let known = self.first_among(kinds, self.value(edge));
         if known.is_none() {
@@ -214,7 +219,7 @@ impl<'a> Equalling<'a> {
         Ok(())
     }
 
-    /// The edge of some that has this number.
+    /// The first of some edges whose flow has this number; none where none has.
     fn first_among(&self, edges: &[usize], value: u64) -> Option<usize> {
         for edge in edges {
             if self.value(*edge) == value {
@@ -224,6 +229,7 @@ impl<'a> Equalling<'a> {
         None
     }
 
+    /// The first edge of an edge's kind.
     fn first(&self, edge: usize) -> usize {
         self.firsts.get(edge).copied().unwrap_or(edge)
     }
@@ -279,7 +285,8 @@ impl<'a> Equalling<'a> {
         Ok(())
     }
 
-    /// Adds that of the edges of a splitter.
+    /// Adds that each edge by which a splitter divides carries what the first of its kind does, by the rows of both
+    /// splitters.
     fn argue_at(&self, alloc: Global, line: &mut Line, splitter: usize) -> Result<(), AllocError> {
         let mut rows = Vec::new(alloc);
         self.add_splitter(line, splitter, &mut rows)?;
@@ -296,7 +303,7 @@ impl<'a> Equalling<'a> {
         Ok(())
     }
 
-    /// Adds that of one edge, where it is compared.
+    /// Adds that an edge carries what the first of its kind does, by the scope at a place, where the two are compared.
     fn argue_edge(
         &self,
         alloc: Global,

@@ -82,7 +82,8 @@ fn caps(graph: &Graph, edges: &[usize]) -> u64 {
     sum
 }
 
-/// Whether the ins have the smaller caps at every splitter. None where neither have.
+/// Whether what lacks counts where edges are backed: false where at every splitter the caps of the ins are together no
+/// less than those of the outs, or else true where they are no more at each. None where neither is so.
 fn is_mirrored(graph: &Graph) -> Option<bool> {
     let mut ins_suffice = true;
     let mut outs_suffice = true;
@@ -108,7 +109,7 @@ fn rest_of(alloc: Global, number: usize, edge: &Edge) -> Result<Option<Form>, Al
     Ok(Form::new(Frac::whole(i64::from(edge.cap)), terms))
 }
 
-/// An edge lacks nothing, or all that its flow leaves of its cap.
+/// The literal that says that an edge lacks nothing or, with `rest`, at least what its flow leaves of its cap.
 fn lacks_at_end(lack: Counted, rest: bool) -> NamedLit {
     if rest { lack.is_all() } else { lack.is_none() }
 }
@@ -240,7 +241,8 @@ impl<'a> Lacking<'a> {
         add_aim(alloc, &mut line.aims, &[compared], place)
     }
 
-    /// Adds that behind an edge with the mark nothing lacks.
+    /// Adds that either `unmarked` holds, which says that an edge before the splitter lacks the mark, or no edge behind
+    /// it lacks anything of its cap.
     fn argue_behind(
         &self,
         alloc: Global,
@@ -257,7 +259,7 @@ impl<'a> Lacking<'a> {
         Ok(())
     }
 
-    /// The edges of a splitter with whose marks an argument begins.
+    /// The edges of a splitter with whose marks an argument begins: those into it, or in the mirror those out of it.
     fn before(&self, splitter: usize) -> &[usize] {
         if self.mirrored {
             self.graph.outs(splitter)
@@ -266,7 +268,7 @@ impl<'a> Lacking<'a> {
         }
     }
 
-    /// The edges of a splitter behind these.
+    /// The edges at the other side of a splitter than those before it.
     fn behind(&self, splitter: usize) -> &[usize] {
         if self.mirrored {
             self.graph.ins(splitter)
@@ -331,7 +333,7 @@ impl<'a> Lacking<'a> {
         Ok(rows)
     }
 
-    /// The formula's own rows of these.
+    /// The formula's own rows that speak of ends alone, and in the mirror all that say that sums are equal.
     fn own_rows_of_ends(&self, alloc: Global, formula: &Formula) -> Result<Vec<usize>, AllocError> {
         let columns = edges_of_columns(alloc, self.graph.net)?;
         let mut rows = Vec::new(alloc);
@@ -343,7 +345,7 @@ impl<'a> Lacking<'a> {
         Ok(rows)
     }
 
-    /// Whether all terms of a row are of edges at ends, or it says that a sum is equal and is asked for too.
+    /// Whether all terms of a row are of edges at ends, or the row says in the mirror that a sum is equal to its bound.
     fn is_of_ends(&self, columns: &[usize], row: &Row) -> bool {
         (self.mirrored && row.relation() == Relation::Equal)
             || is_of_ends(self.graph.net, columns, row)

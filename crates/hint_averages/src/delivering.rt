@@ -31,7 +31,7 @@ struct Sources<'a> {
     at_ends: usize,
 }
 
-/// Adds all aims.
+/// Adds the aims of the argument, by what is compared on both sides of the centres and of all that flows.
 pub fn argue(
     alloc: Global,
     formula: &Formula,
@@ -53,7 +53,8 @@ pub fn argue(
     sources.add_all(alloc, formula, line)
 }
 
-/// Adds the scope of the rows that speak of ends alone.
+/// Adds the scope of the rows that speak of ends alone, and of those that compare what begins with what ends. Tells its
+/// place.
 fn add_ends_scope(
     alloc: Global,
     formula: &Formula,
@@ -72,7 +73,7 @@ fn add_ends_scope(
     add_scope(line, rows)
 }
 
-/// Adds a scope of the rows that say that sums are equal, with comparisons.
+/// Adds the scope of the rows that say that sums are equal, and of those that compare all that flows. Tells its place.
 fn add_sums_scope(
     alloc: Global,
     formula: &Formula,
@@ -85,7 +86,7 @@ fn add_sums_scope(
     add_scope(line, rows)
 }
 
-/// Adds the aim of some literals and another.
+/// Adds the aim of some literals and a last one, with the scope at a place.
 fn add_with(
     alloc: Global,
     line: &mut Line,
@@ -98,7 +99,7 @@ fn add_with(
     add_aim(alloc, &mut line.aims, &all, place)
 }
 
-/// Adds the aim of a literal, where there is one.
+/// Adds the aim of a literal, where there is one, with the scope at a place.
 fn add_one(
     alloc: Global,
     line: &mut Line,
@@ -112,6 +113,7 @@ fn add_one(
 }
 
 impl<'a> Sources<'a> {
+    /// Adds all aims, in the order in which they follow.
     fn add_all(&self, alloc: Global, formula: &Formula, line: &mut Line) -> Result<(), AllocError> {
         self.add_below(alloc, line)?;
         self.add_above(alloc, line)?;
@@ -135,7 +137,8 @@ impl<'a> Sources<'a> {
         Ok(())
     }
 
-    /// Adds that a backed edge to a splitter carries at least the mean of both, where both are cut.
+    /// For each splitter to which both edges are cut, adds that one of these that is full or backed carries at least
+    /// the mean of both.
     fn add_joints(&self, alloc: Global, line: &mut Line) -> Result<(), AllocError> {
         let flow = self.flow;
         for splitter in 0..flow.graph.splitters() {
@@ -148,7 +151,8 @@ impl<'a> Sources<'a> {
         Ok(())
     }
 
-    /// Adds that of one edge to a splitter: where it is full, and where it is backed.
+    /// Adds that an edge to a splitter with two cut in edges carries at least the mean of both, where it is full and
+    /// where it is backed.
     fn add_joint(
         &self,
         alloc: Global,
@@ -167,7 +171,8 @@ impl<'a> Sources<'a> {
         Ok(())
     }
 
-    /// Adds that of the edges out of a splitter: of those that are full, and where one into it is backed.
+    /// Adds that an edge out of a splitter carries at least the mean of the outputs that it reaches, where it is full
+    /// and where an edge into the splitter is backed.
     fn add_below_outs(
         &self,
         alloc: Global,
@@ -188,7 +193,8 @@ impl<'a> Sources<'a> {
         Ok(())
     }
 
-    /// Adds that of the edges into a splitter, and of both together where it is a centre.
+    /// Adds that a backed edge into a splitter carries at least the mean of the outputs that it reaches, and that all
+    /// edges into a centre together carry at least what they reach where one of them is backed.
     fn add_below_ins(
         &self,
         alloc: Global,
@@ -209,7 +215,7 @@ impl<'a> Sources<'a> {
         Ok(())
     }
 
-    /// Adds that an edge of a splitter carries at least the mean where it is full.
+    /// Adds that an edge of a splitter, where it is full, carries at least the mean of the ends that it reaches.
     fn add_full(
         &self,
         alloc: Global,
@@ -241,7 +247,8 @@ impl<'a> Sources<'a> {
         Ok(())
     }
 
-    /// Adds that of the edges into a splitter that are full, and of both together where it is a centre and both are free.
+    /// Adds that the edges into a centre, where all are free, carry together at least the sum of the means of the
+    /// inputs that reach them. Adds nothing at another splitter.
     fn add_above_ins(
         &self,
         alloc: Global,
@@ -265,7 +272,8 @@ impl<'a> Sources<'a> {
         Ok(())
     }
 
-    /// Adds that of the edges out of a splitter.
+    /// Adds that an edge out of a splitter to another one carries at least the mean of the inputs that reach it, where
+    /// it is full and where it is free.
     fn add_above_outs(
         &self,
         alloc: Global,
@@ -287,7 +295,7 @@ impl<'a> Sources<'a> {
         Ok(())
     }
 
-    /// Adds that as much begins as ends and as goes through the centres.
+    /// Adds that as much begins as ends, and at least as much as goes through the centres.
     fn add_totals(
         &self,
         alloc: Global,
@@ -305,7 +313,8 @@ impl<'a> Sources<'a> {
         Ok(())
     }
 
-    /// Adds that each centre carries its share, and one no more.
+    /// Adds that each centre carries at least its share of all that flows, and the one at which the argument ends no
+    /// more.
     fn add_centres(&self, alloc: Global, line: &mut Line) -> Result<(), AllocError> {
         let places = self.add_centre_scopes(alloc, line)?;
         self.add_shares(alloc, line, &places)?;
@@ -341,7 +350,8 @@ impl<'a> Sources<'a> {
         Ok(())
     }
 
-    /// Adds the scope of a centre.
+    /// Adds the scope of a centre, of the rows that compare what goes through it with the ends and these with each
+    /// other. Tells its place.
     fn add_centre_scope(
         &self,
         alloc: Global,
@@ -355,7 +365,8 @@ impl<'a> Sources<'a> {
         add_scope(line, rows)
     }
 
-    /// Adds the scope of all centres.
+    /// Adds the scope of all centres, of the rows that compare all that flows and what goes through each centre with
+    /// the outputs. Tells its place.
     fn add_centres_scope(&self, alloc: Global, line: &mut Line) -> Result<usize, AllocError> {
         let flow = self.flow;
         let mut rows = Vec::new(alloc);
@@ -382,7 +393,8 @@ impl<'a> Sources<'a> {
         Ok(())
     }
 
-    /// Adds that an output gets all that it has room for, or the edge is free.
+    /// Adds that the output at which the edge `end` ends gets all that it has room for, or `free` holds: that an edge
+    /// into the centre is free. There is nothing to add where no literal says so.
     fn add_output(
         &self,
         alloc: Global,
@@ -404,7 +416,8 @@ impl<'a> Sources<'a> {
         add_aim(alloc, &mut line.aims, &[free, meets], self.at_ends)
     }
 
-    /// Adds what holds of the edges out of a splitter on the way to an output.
+    /// Adds for each edge out of a splitter that leads on the way to an output, at the edge `end`, that one of the
+    /// literals holds, or it carries at most the mean, isn't full and is backed.
     fn add_forth(
         &self,
         alloc: Global,
@@ -424,7 +437,8 @@ impl<'a> Sources<'a> {
         Ok(())
     }
 
-    /// Adds that an edge of a splitter carries at most the mean, and isn't full.
+    /// Adds that one of the literals holds, or an edge of a splitter carries at most the mean of the ends that it
+    /// reaches, and that one holds or the edge isn't full.
     fn add_least(
         &self,
         alloc: Global,
@@ -459,7 +473,8 @@ impl<'a> Sources<'a> {
         add_aim(alloc, &mut line.aims, &[], self.at_ends)
     }
 
-    /// Adds that an input gives all that it has.
+    /// Adds that the input at which the edge `end` begins gives all that it has. There is nothing to add where no
+    /// literal says so.
     fn add_input(&self, alloc: Global, line: &mut Line, end: usize) -> Result<(), AllocError> {
         let flow = self.flow;
         let Some(meets) = self.literals.meets(end) else {
@@ -475,7 +490,8 @@ impl<'a> Sources<'a> {
         add_aim(alloc, &mut line.aims, &[meets], self.at_ends)
     }
 
-    /// Adds what holds of the edges into a splitter on the way to an input.
+    /// Adds for the edges into a splitter on the way to an input, at the edge `end`, that `meets` holds or they are
+    /// free, and that it holds or those that lead on carry at most the mean and aren't full.
     fn add_back(
         &self,
         alloc: Global,
@@ -510,7 +526,8 @@ fn at_most(compared: Option<Compared>) -> Option<NamedLit> {
     compared?.at_most()
 }
 
-/// The splitters between the centre and an end: those that lie to a side of it and lead to the end.
+/// For each splitter whether it is on the way from the centre to an end: it lies to a side of the centre and leads to
+/// the edge at the end.
 fn way_to(alloc: Global, flow: &Flow, side: &Side, end: usize) -> Result<Vec<bool>, AllocError> {
     let from = from_centre(alloc, flow, side)?;
     let mut way = vec![in alloc; false; flow.graph.splitters()]?;
@@ -522,7 +539,7 @@ fn way_to(alloc: Global, flow: &Flow, side: &Side, end: usize) -> Result<Vec<boo
     Ok(way)
 }
 
-/// The splitters that lie to a side of the centre.
+/// For each splitter whether it is the centre or lies to a side of it.
 fn from_centre(alloc: Global, flow: &Flow, side: &Side) -> Result<Vec<bool>, AllocError> {
     let mut from = vec![in alloc; false; flow.graph.splitters()]?;
     mark(&mut from, flow.centre(), true);
@@ -544,7 +561,7 @@ fn go_on(flow: &Flow, side: &Side, marks: &mut [bool], splitter: usize) {
     }
 }
 
-/// Whether an edge of a splitter is the one at an end, or leads to a splitter on the way.
+/// Whether an edge of a splitter is that at an end, or leads to a splitter on the way there.
 fn some_leads_on(flow: &Flow, side: &Side, way: &[bool], end: usize, splitter: usize) -> bool {
     for edge in side.near(flow, splitter) {
         if leads_on(flow, side, way, end, *edge) {
@@ -554,7 +571,7 @@ fn some_leads_on(flow: &Flow, side: &Side, way: &[bool], end: usize, splitter: u
     false
 }
 
-/// Whether an edge is the one at an end, or leads to a splitter on the way.
+/// Whether an edge is that at an end, or leads to a splitter on the way there.
 fn leads_on(flow: &Flow, side: &Side, way: &[bool], end: usize, edge: usize) -> bool {
     if edge == end {
         return true;

@@ -46,6 +46,7 @@ impl Side {
         Ok(side)
     }
 
+    /// The side with no splitter reached and no mean made yet.
     fn empty(alloc: Global, flow: &Flow, is_below: bool) -> Result<Side, AllocError> {
         let splitters = flow.graph.splitters();
         let edges = flow.graph.edges();
@@ -114,7 +115,8 @@ impl Side {
         }
     }
 
-    /// Makes the mean at a splitter that was reached.
+    /// Makes the mean at a splitter that was reached: what one edge of the other side has of all that the splitter's
+    /// edges of this side reach.
     fn weigh(&mut self, alloc: Global, flow: &Flow, splitter: usize) -> Result<(), AllocError> {
         if self.has(splitter) && splitter < self.means.len() {
             let sum = self.sum_at(alloc, flow, splitter)?;
@@ -141,7 +143,8 @@ impl Side {
         merged(alloc, &mut terms)
     }
 
-    /// The mean of the ends that an edge reaches, where it isn't one of them or shares what ends with another one.
+    /// The mean of the ends that an edge reaches. None where it is such an end itself, unless on the side of the
+    /// outputs it is one of two cut edges to a splitter: then the mean of both.
     pub fn mean_beyond(
         &self,
         alloc: Global,
@@ -157,7 +160,7 @@ impl Side {
         }
     }
 
-    /// The mean of the ends that an edge reaches by a splitter.
+    /// The mean of the ends that an edge reaches by a splitter; no term where the splitter wasn't reached.
     pub fn mean(&self, splitter: usize) -> &[Term] {
         match self.means.get(splitter) {
             Some(mean) => mean,
@@ -188,17 +191,17 @@ impl Side {
         }
     }
 
-    /// The comparison of an edge.
+    /// The comparison of an edge's flow with the mean of the ends that it reaches, where there is one.
     pub fn compared(&self, edge: usize) -> Option<Compared> {
         *self.compared.get(edge)?
     }
 
-    /// The comparison at a centre.
+    /// The comparison of what goes through a centre with the ends that it reaches, where there is one.
     pub fn sum(&self, splitter: usize) -> Option<Compared> {
         *self.sums.get(splitter)?
     }
 
-    /// Takes in the scopes of a splitter and of its edges.
+    /// Takes in the places of the scopes of a splitter and of its edges.
     pub fn place(&mut self, splitter: usize, at_splitter: usize, at_edges: usize) {
         if splitter < self.at_splitters.len() && splitter < self.at_edges.len() {
             self.at_splitters[splitter] = at_splitter;
@@ -206,19 +209,19 @@ impl Side {
         }
     }
 
-    /// Takes in the scope of what ends with the edges to a splitter.
+    /// Takes in the place of the scope of what ends with the edges to a splitter.
     pub fn place_joint(&mut self, splitter: usize, at_joint: usize) {
         if splitter < self.at_joints.len() {
             self.at_joints[splitter] = at_joint;
         }
     }
 
-    /// The place of the scope of what ends with the edges to a splitter.
+    /// The place of the scope of what ends with the edges to a splitter, `usize::MAX` where it has none.
     pub fn at_joint(&self, splitter: usize) -> usize {
         self.at_joints.get(splitter).copied().unwrap_or(usize::MAX)
     }
 
-    /// The place of the scope of a splitter.
+    /// The place of the scope of a splitter, `usize::MAX` where it has none.
     pub fn at_splitter(&self, splitter: usize) -> usize {
         self.at_splitters
             .get(splitter)
@@ -226,7 +229,7 @@ impl Side {
             .unwrap_or(usize::MAX)
     }
 
-    /// The place of the scope of the edges of a splitter.
+    /// The place of the scope of the edges of a splitter, `usize::MAX` where it has none.
     pub fn at_edges(&self, splitter: usize) -> usize {
         self.at_edges.get(splitter).copied().unwrap_or(usize::MAX)
     }
@@ -243,6 +246,7 @@ fn mean_into(alloc: Global, flow: &Flow, splitter: usize) -> Result<Vec<Term>, A
     shared(alloc, &sum, ins.len())
 }
 
+/// So many empty lists: no splitter has a mean yet.
 fn no_means(alloc: Global, count: usize) -> Result<Vec<Vec<Term>>, AllocError> {
     let mut means = Vec::new(alloc);
     for _ in 0..count {

@@ -48,7 +48,7 @@ pub fn add_unlimited(
     add_sides(alloc, formula, line, &flow)
 }
 
-/// Adds the argument by what lies to both sides of the centres.
+/// Adds the argument by what lies to both sides of the centres, unless the means there have too many terms.
 fn add_sides(
     alloc: Global,
     formula: &Formula,
@@ -79,7 +79,7 @@ fn add_between(
     argue(alloc, formula, line, flow, below, above, totals)
 }
 
-/// Defines all comparisons.
+/// Defines the comparisons of the edges of both sides, of what goes through each centre, and of all that flows.
 fn define(
     alloc: Global,
     formula: &Formula,
@@ -116,7 +116,8 @@ fn define_edges(
     Ok(())
 }
 
-/// Defines the comparison of an edge of a splitter with the mean of the ends that it reaches, where it isn't one of them.
+/// Defines the comparison of an edge of a splitter with the mean of the ends that it reaches, where it isn't one of
+/// them: both ways on the side of the centre at which the argument ends, or else that it is at least that.
 fn define_edge(
     alloc: Global,
     line: &mut Line,
@@ -134,7 +135,8 @@ fn define_edge(
     Ok(())
 }
 
-/// Defines the comparison at a centre.
+/// Defines the comparison of what flows into a centre with the ends that it reaches: both ways where the argument ends
+/// there, or else that it is at least that.
 fn define_sum(
     alloc: Global,
     line: &mut Line,
@@ -154,7 +156,7 @@ fn define_sum(
     Ok(())
 }
 
-/// Defines the comparisons of all that flows.
+/// Defines the comparisons of what begins with what ends, and with what goes through the centres.
 fn define_totals(
     alloc: Global,
     line: &mut Line,
@@ -170,7 +172,7 @@ fn define_totals(
     })
 }
 
-/// The flows that begin.
+/// The flows that begin: of the edges at inputs and of those that are cut.
 fn begin_terms(alloc: Global, flow: &Flow) -> Result<Vec<Term>, AllocError> {
     let mut terms = Vec::new(alloc);
     for edge in 0..flow.graph.edges() {
@@ -181,7 +183,7 @@ fn begin_terms(alloc: Global, flow: &Flow) -> Result<Vec<Term>, AllocError> {
     Ok(terms)
 }
 
-/// The flows that end.
+/// The flows that end: of the edges at outputs and of those that are cut.
 fn end_terms(alloc: Global, flow: &Flow) -> Result<Vec<Term>, AllocError> {
     let mut terms = Vec::new(alloc);
     for edge in 0..flow.graph.edges() {
@@ -338,7 +340,7 @@ fn upper_of(
     Ok(upper)
 }
 
-/// The rows of a list whose first coefficient is negative.
+/// The rows of a list whose first coefficient is negative, which say what it is at most.
 fn upper_among(alloc: Global, formula: &Formula, list: &[usize]) -> Result<Vec<usize>, AllocError> {
     let mut rows = Vec::new(alloc);
     for row in list {
@@ -349,7 +351,7 @@ fn upper_among(alloc: Global, formula: &Formula, list: &[usize]) -> Result<Vec<u
     Ok(rows)
 }
 
-/// Whether the first coefficient of a row is negative.
+/// Whether the first coefficient of a row is negative: it says what a column is at most.
 fn is_upper(formula: &Formula, row: usize) -> bool {
     match formula.rows().get(row) {
         Some(row) => match row.terms().first() {

@@ -23,7 +23,7 @@ impl Block {
         }
     }
 
-    /// Adds an edge.
+    /// Adds an edge with a cap of 1.
     pub fn lead(&mut self, start: Start, target: Target) -> Result<(), AllocError> {
         self.edges.push(Edge {
             start,
@@ -72,7 +72,7 @@ impl Block {
         Ok(ends)
     }
 
-    /// Leads these lines to outputs.
+    /// Leads these lines to new outputs, behind those that there are.
     pub fn end(&mut self, lines: &[Start]) -> Result<(), AllocError> {
         for line in lines {
             self.lead(*line, Target::Output(self.outputs))?;
@@ -91,14 +91,14 @@ pub fn inputs_of(alloc: Global, count: u32) -> Result<Vec<Start>, AllocError> {
     Ok(lines)
 }
 
-/// Puts a line in the place of another one.
+/// Puts a line in the place of another one, where there is one.
 pub fn put(lines: &mut [Start], place: usize, line: Start) {
     if let Some(there) = lines.get_mut(place) {
         *there = line;
     }
 }
 
-/// Where an edge of a block starts that is added to another one with so many splitters.
+/// Where an edge of a block starts that is added to another one of `before` splitters, whose lines lead to its inputs.
 fn start_behind(start: Start, before: u32, lines: &[Start]) -> Start {
     match start {
         Start::Split(splitter) => Start::Split(before.saturating_add(splitter)),

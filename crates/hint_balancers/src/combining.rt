@@ -4,8 +4,8 @@ use crate::block::{Block, inputs_of};
 use bt_net::{Edge, Start, Target};
 use std::alloc::{AllocError, Global};
 
-/// The block in which the last outputs, so many, are led back to as many inputs, the last ones. Of an unlimited block
-/// it is unlimited, and keeps what is equal at its ends where the one of before is unlimited.
+/// The block whose last `count` outputs are led back to its last inputs. Of an unlimited block it is unlimited, too,
+/// and what is equal at the ends of such a one stays so.
 pub fn led_back(alloc: Global, block: &Block, count: u32) -> Result<Block, AllocError> {
     let inputs = block.inputs.saturating_sub(count);
     let outputs = block.outputs.saturating_sub(count);
@@ -30,7 +30,8 @@ fn has_target(edge: &Edge, outputs: u32) -> bool {
     }
 }
 
-/// Where an edge starts in a block of which so many inputs and outputs are left.
+/// Where an edge of a block starts whose last outputs are led back to its last inputs, and `inputs` and `outputs` are
+/// left.
 fn start_led_back(block: &Block, start: Start, inputs: u32, outputs: u32) -> Start {
     match start {
         Start::Input(input) if input >= inputs => {
@@ -40,7 +41,7 @@ fn start_led_back(block: &Block, start: Start, inputs: u32, outputs: u32) -> Sta
     }
 }
 
-/// Where the edge of an output starts.
+/// Where the edge of an output starts; at input 0 where there is no such edge.
 pub fn source_of(block: &Block, output: u32) -> Start {
     for edge in &block.edges {
         if edge.target == Target::Output(output) {
@@ -97,7 +98,7 @@ fn target_of(start: Start) -> Target {
     }
 }
 
-/// Two blocks in a row.
+/// Two blocks in a row: the outputs of the first lead to the inputs of the second.
 pub fn in_row(alloc: Global, first: &Block, second: &Block) -> Result<Block, AllocError> {
     let mut row = Block::new(alloc, first.inputs, 0);
     let inputs = inputs_of(alloc, first.inputs)?;

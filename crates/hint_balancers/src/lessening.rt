@@ -4,8 +4,8 @@ use crate::block::{Block, inputs_of};
 use bt_net::Start;
 use std::alloc::{AllocError, Global};
 
-/// So many lines from as many inputs as there are: the first two are merged, or the first one is divided, again and
-/// again. Where all inputs are full and all outputs open, the outputs carry what they can.
+/// A block from `inputs` to `outputs` lines: the first two are merged while there are too many, the first is divided
+/// while there are too few. Where all inputs are full and all outputs open, the outputs carry what they can.
 pub fn brought_to(alloc: Global, inputs: u32, outputs: u32) -> Result<Block, AllocError> {
     let mut block = Block::new(alloc, inputs, 0);
     let mut lines = inputs_of(alloc, inputs)?;
@@ -15,7 +15,7 @@ pub fn brought_to(alloc: Global, inputs: u32, outputs: u32) -> Result<Block, All
     Ok(block)
 }
 
-/// Merges the first two lines, so often.
+/// Merges the first two lines into one, which is put behind the others, `count` times.
 fn merge(block: &mut Block, lines: &mut Vec<Start>, count: u32) -> Result<(), AllocError> {
     for _ in 0..count {
         if lines.len() >= 2 {
@@ -27,7 +27,7 @@ fn merge(block: &mut Block, lines: &mut Vec<Start>, count: u32) -> Result<(), Al
     Ok(())
 }
 
-/// Divides the first line, so often.
+/// Divides the first line into two, which are put behind the others, `count` times.
 fn divide(block: &mut Block, lines: &mut Vec<Start>, count: u32) -> Result<(), AllocError> {
     for _ in 0..count {
         if !lines.is_empty() {

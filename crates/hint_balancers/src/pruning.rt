@@ -63,7 +63,7 @@ fn prune_once(alloc: Global, block: &mut Block, doubled: Doubled) -> Result<bool
     Ok(changed)
 }
 
-/// What is seen of a splitter's edges.
+/// How many edges come to a splitter and leave it, and whether all that leave have one target.
 fn sight_of(edges: &[Edge], splitter: u32) -> Sight {
     let mut sight = Sight {
         enter: 0,
@@ -96,7 +96,8 @@ fn with_target(sight: Sight, target: Target) -> Sight {
     }
 }
 
-/// What becomes of a splitter of which this is seen. One that has no edges any more stays as it is.
+/// What becomes of a splitter of which this is seen: it goes where edges only come or only leave, and is passed over
+/// where it has one each way, or is doubled and such ones go. One without edges, or that leads to itself, stays.
 fn fate_of(splitter: u32, sight: Sight, doubled: Doubled) -> Fate {
     match sight.target {
         None if sight.enter == 0 => Fate::Stays,
@@ -125,7 +126,7 @@ fn without(alloc: Global, edges: &[Edge], splitter: u32) -> Result<Vec<Edge>, Al
     Ok(left)
 }
 
-/// The edges without those that leave a splitter, of which those that came to it come elsewhere.
+/// The edges without those that leave a splitter, where those that came to it lead to `target`.
 fn passed(
     alloc: Global,
     edges: &[Edge],
@@ -192,7 +193,7 @@ fn numbered(edge: Edge, numbers: &[Option<u32>]) -> Edge {
     }
 }
 
-/// The new number of a splitter.
+/// The new number of a splitter; its old one where it has none.
 fn number_of(splitter: u32, numbers: &[Option<u32>]) -> u32 {
     match numbers.get(splitter as usize) {
         Some(Some(number)) => *number,

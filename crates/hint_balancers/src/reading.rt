@@ -38,7 +38,7 @@ pub fn net_preferring_ends(alloc: Global, block: &Block) -> Result<Option<Net>, 
     read_net(alloc, &text)
 }
 
-/// Adds the line of what a splitter prefers.
+/// Adds the line that begins with a word and says which edge a splitter prefers.
 fn push_preference(
     text: &mut Vec<u8>,
     word: &[u8],

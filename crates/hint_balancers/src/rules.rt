@@ -93,7 +93,8 @@ fn push_universal(
     }
 }
 
-/// The wish for what a network has whose edges, turned round, make one of this wish.
+/// What a network of this wish has once all edges are turned round: what outputs had inputs have, and the other way
+/// round.
 fn turned(wish: Wish) -> Wish {
     Wish {
         balanced: wish.drawn_evenly,
@@ -115,7 +116,7 @@ fn push_block(nets: &mut Vec<Net>, alloc: Global, block: Block) -> Result<(), Al
     }
 }
 
-/// Adds what the table has with all edges turned round.
+/// Adds the first block of the table that, with all edges turned round, has these ends and each wished property.
 fn push_turned(
     nets: &mut Vec<Net>,
     alloc: Global,
@@ -129,7 +130,8 @@ fn push_turned(
     }
 }
 
-/// Adds what the rules make.
+/// Adds the networks of these ends that rules make: an unlimited one, and where none is wished for, those that divide
+/// evenly, too.
 fn push_made(
     nets: &mut Vec<Net>,
     alloc: Global,
@@ -159,7 +161,8 @@ enum Kind {
     Unlimited,
 }
 
-/// A network of a kind with these ends, for what is equal by the wish.
+/// A network of a kind with these ends. Where the inputs alone are to be drawn evenly, or there are more of them and
+/// both ends are treated alike, it is made from the other side and turned round.
 fn rectangle(
     alloc: Global,
     wish: Wish,
@@ -175,8 +178,8 @@ fn rectangle(
     narrow(alloc, wish, kind, inputs, outputs)
 }
 
-/// The balancer of these ends, where what is equal at the outputs alone, or at the inputs too where they are fewer, is
-/// wished for.
+/// A network of a kind with these ends, whose outputs are equal, and whose inputs are, too, where that is wished for
+/// and they are fewer.
 fn narrow(
     alloc: Global,
     wish: Wish,
@@ -201,7 +204,7 @@ fn narrow(
     in_row(alloc, &first, &spread)
 }
 
-/// Fewer lines than inputs, on which comes what can.
+/// A block to fewer outputs than inputs, on which comes what can.
 fn gathered(alloc: Global, kind: Kind, inputs: u32, outputs: u32) -> Result<Block, AllocError> {
     match kind {
         Kind::Even => brought_to(alloc, inputs, outputs),
@@ -281,7 +284,8 @@ fn even_square(alloc: Global, lines: u32) -> Result<Block, AllocError> {
     best_square(alloc, lines, &squares)
 }
 
-/// The best one of so many lines, where the best of their divisors are these.
+/// The network of fewest splitters of so many lines that divides evenly both ways, where `squares` are those of the
+/// divisors.
 fn best_square(alloc: Global, lines: u32, squares: &[Block]) -> Result<Block, AllocError> {
     let mut best = tabled_or_staged(alloc, Kind::Even, lines)?;
     for first in squares {
@@ -302,7 +306,7 @@ fn product_size(first: &Block, second: &Block) -> u32 {
     of_first.saturating_add(second.splitters.saturating_mul(first.outputs))
 }
 
-/// Adds the product of fewest splitters of two networks of the table that divide evenly both ways.
+/// Adds all products of two networks of the table that divide evenly both ways, which have these ends.
 fn push_product(
     nets: &mut Vec<Net>,
     alloc: Global,
@@ -317,7 +321,8 @@ fn push_product(
     Ok(())
 }
 
-/// Adds the product that begins with the network of the table with these ends, where there is one.
+/// Adds the product with the ends `ends` of two networks of the table, of which the first has the ends `first`. Adds
+/// none where these don't divide those, or the table lacks one of the two.
 fn push_product_of(
     nets: &mut Vec<Net>,
     alloc: Global,
@@ -335,7 +340,7 @@ fn push_product_of(
     }
 }
 
-/// How many parts of this size there are, where they are no more than the table has.
+/// How many parts of this size make up the whole; none where they don't, or are more than ends in the table.
 fn parted(whole: u32, part: u32) -> Option<u32> {
     if whole.checked_rem(part) != Some(0) {
         return None;

@@ -20,7 +20,8 @@ pub fn butterfly(alloc: Global, lines: u32) -> Result<Block, AllocError> {
     Ok(block)
 }
 
-/// The butterfly that goes on backward, with one stage in the middle.
+/// The Benes network of this many lines, which are a power of two, 128 at most: a butterfly that goes on backward, with
+/// one stage in the middle.
 pub fn benes(alloc: Global, lines: u32) -> Result<Block, AllocError> {
     let mut block = Block::new(alloc, lines, 0);
     let mut ends = inputs_of(alloc, lines)?;
@@ -44,7 +45,7 @@ fn push_stages(block: &mut Block, ends: &mut [Start]) -> Result<(), AllocError> 
     Ok(())
 }
 
-/// Adds a stage, in which each line is joined with the one that lies so far apart.
+/// Adds a stage, in which each line is joined with the one that lies `apart` places behind it.
 fn push_stage(block: &mut Block, ends: &mut [Start], apart: usize) -> Result<(), AllocError> {
     for lesser in 0..ends.len() {
         if lesser & apart == 0 {
@@ -54,7 +55,7 @@ fn push_stage(block: &mut Block, ends: &mut [Start], apart: usize) -> Result<(),
     Ok(())
 }
 
-/// Joins two lines.
+/// Joins the lines at two places in a splitter, whose line stands in both then.
 fn push_pair(
     block: &mut Block,
     ends: &mut [Start],
@@ -69,7 +70,7 @@ fn push_pair(
     Ok(())
 }
 
-/// The lines in the order in which the splitters of the last stage have them, two each.
+/// The lines in the order in which the splitters of the last stage have them, two each; a single line stays as it is.
 fn in_pairs(alloc: Global, ends: &[Start]) -> Result<Vec<Start>, AllocError> {
     let mut paired = Vec::new(alloc);
     let half = ends.len() / 2;

@@ -43,7 +43,7 @@ pub fn push_tabled(
     Ok(())
 }
 
-/// Whether a line names each wished property, and the text behind it begins so.
+/// Whether a line names each wished property, and the text behind it begins with `front`.
 fn is_wanted(wish: Wish, line: &[u8], front: &[u8], text: &[u8]) -> bool {
     match Wish::named(line) {
         Some(held) => covers(held, wish) && after_word(text, front).is_some(),
@@ -61,7 +61,7 @@ fn covers(held: Wish, wish: Wish) -> bool {
     true
 }
 
-/// Adds the network at the front of a text.
+/// Adds the network at the front of a text, where there is one.
 fn push_read(nets: &mut Vec<Net>, alloc: Global, text: &[u8]) -> Result<(), AllocError> {
     match read_net(alloc, text)? {
         Some(net) => {

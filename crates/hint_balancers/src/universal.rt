@@ -21,7 +21,7 @@ pub fn universal(alloc: Global, lines: u32) -> Result<Block, AllocError> {
     Ok(block)
 }
 
-/// Where an edge ends, but for those that are led back.
+/// Where an edge of the butterfly ends in the universal network; none where it is led back, as at each odd output.
 fn target_left(target: Target) -> Option<Target> {
     match target {
         Target::Split(_) => Some(target),
@@ -30,7 +30,8 @@ fn target_left(target: Target) -> Option<Target> {
     }
 }
 
-/// Where an edge starts when outputs are led back.
+/// Where an edge of the butterfly starts in the universal network: at an odd input there, what leads to the output of
+/// that number.
 fn start_left(whole: &Block, start: Start) -> Start {
     match start {
         Start::Split(_) => start,

@@ -30,7 +30,7 @@ pub struct Board {
     pub tier: Tier,
 }
 
-/// With a chain more.
+/// Two chains, with one more in the first place that is free. A third one takes the second's place.
 fn with(chains: (Option<Chain>, Option<Chain>), chain: Chain) -> (Option<Chain>, Option<Chain>) {
     match chains.0 {
         None => (Some(chain), None),
@@ -94,7 +94,8 @@ impl Board {
         }
     }
 
-    /// Puts down a piece.
+    /// Puts a piece on a cell, with the number of its splitter where it is half of one. Does nothing where the cell
+    /// lies outside.
     fn put_piece(&mut self, cell: Cell, piece: Piece, splitter: Option<usize>) {
         if let Some(place) = self.place_of(cell) {
             if let Some(tile) = self.tiles.get_mut(place) {
@@ -104,7 +105,7 @@ impl Board {
         }
     }
 
-    /// The tile at a place.
+    /// The tile at a place; a bare one where there is none.
     pub fn tile(&self, place: usize) -> Tile {
         self.tiles.get(place).copied().unwrap_or(BARE)
     }
@@ -120,7 +121,7 @@ impl Board {
         y.saturating_mul(self.width).saturating_add(x)
     }
 
-    /// The place of the neighbour in a direction.
+    /// The place of the neighbour in a direction; none where that lies outside.
     pub fn ahead(&self, place: usize, dir: Dir) -> Option<usize> {
         let (x, y) = self.spot(place);
         match dir {
@@ -134,7 +135,7 @@ impl Board {
         }
     }
 
-    /// The greatest distance of pairs.
+    /// The greatest distance from an entrance to its exit.
     pub fn most_apart(&self) -> usize {
         (self.tier.reach() as usize).saturating_add(1)
     }
@@ -150,7 +151,7 @@ impl Board {
         filled
     }
 
-    /// Notes from where each cell is fed.
+    /// Notes for each cell the direction in which its piece takes what a neighbour hands on.
     fn feed(&mut self) {
         for place in 0..self.tiles.len() {
             if let Some(dir) = self.tile(place).piece.hands() {
@@ -165,7 +166,8 @@ impl Board {
         }
     }
 
-    /// Whether a chain begins at a place.
+    /// Whether a chain begins at a place: at a belt or an entrance that nothing feeds, or at a half of a splitter in
+    /// front of which something takes.
     fn begins(&self, place: usize) -> bool {
         let tile = self.tile(place);
         match tile.piece {
@@ -221,7 +223,8 @@ impl Board {
         }
     }
 
-    /// Notes that a chain passes on to the neighbour in a direction. The place where it leaves next.
+    /// Notes that a chain passes on to the neighbour in a direction, or ends here where that doesn't take it. The place
+    /// where it leaves next; none where it ends or comes to a splitter.
     fn pass(&mut self, place: usize, dir: Dir, chain: Chain) -> Option<usize> {
         let Some(next) = self.taker(place, dir) else {
             if let Some(tile) = self.tiles.get_mut(place) {
@@ -251,7 +254,8 @@ impl Board {
         }
     }
 
-    /// Has belts lead on from an end to the border, where the way is free.
+    /// Has belts that look in `dir` go on from an end in the direction `way`, to the border or the first cell that
+    /// isn't empty.
     fn lead(&mut self, place: usize, way: Dir, dir: Dir) {
         let mut at = place;
         for _ in 0..self.tiles.len() {
@@ -266,7 +270,7 @@ impl Board {
         }
     }
 
-    /// Has belts lead on from all ends to the border.
+    /// Has belts lead on from all ends to the border, as far as cells are empty.
     pub fn lead_out(&mut self) {
         for place in 0..self.tiles.len() {
             let tile = self.tile(place);
@@ -284,7 +288,7 @@ impl Board {
         }
     }
 
-    /// Notes that a chain goes down at a place. The place of its exit.
+    /// Notes that a chain goes down at a place. The place of its exit; none where none is in reach.
     fn dive(&mut self, place: usize, dir: Dir, chain: Chain) -> Option<usize> {
         let mut at = place;
         for _ in 0..self.most_apart() {
@@ -298,7 +302,8 @@ impl Board {
         None
     }
 
-    /// Whether what leaves a place in a direction isn't what comes to its neighbour there.
+    /// Whether what leaves a place in a direction, above or below the ground, isn't what comes to its neighbour there.
+    /// Over the border only an end may leave, and nothing comes.
     pub fn is_apart(&self, place: usize, dir: Dir) -> bool {
         let tile = self.tile(place);
         match self.ahead(place, dir) {
@@ -336,7 +341,8 @@ impl Board {
         }
     }
 
-    /// Which cells don't fit their neighbours.
+    /// For each place whether its cell doesn't fit its neighbours: what leads from one to the other breaks off, or a
+    /// splitter lacks a half.
     pub fn damage(&self, alloc: Global) -> Result<Vec<bool>, AllocError> {
         let mut damaged = vec![in alloc; false; self.tiles.len()]?;
         for place in 0..self.tiles.len() {
@@ -390,7 +396,7 @@ impl Board {
     }
 }
 
-/// Marks a place.
+/// Marks a place, where one is named.
 pub fn mark(marks: &mut [bool], place: Option<usize>) {
     if let Some(place) = place {
         if let Some(mark) = marks.get_mut(place) {

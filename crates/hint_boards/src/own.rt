@@ -11,7 +11,7 @@ pub struct Own {
     pub plan: Plan,
 }
 
-/// From which cell to which other parts reach.
+/// From which column and row to which others parts reach.
 #[derive(Clone, Copy)]
 struct Reach {
     least: Cell,
@@ -19,7 +19,7 @@ struct Reach {
 }
 
 impl Reach {
-    /// With a cell more.
+    /// The reach with a cell more.
     fn with(self, cell: Cell) -> Reach {
         Reach {
             least: Cell {
@@ -33,7 +33,7 @@ impl Reach {
         }
     }
 
-    /// The rectangle.
+    /// The least rectangle that holds all that is reached.
     fn rect(self) -> Rect {
         Rect {
             width: self.least.x.abs_diff(self.greatest.x).saturating_add(1),
@@ -41,7 +41,7 @@ impl Reach {
         }
     }
 
-    /// A part whose cell is told from the least one.
+    /// A part whose cell is told from the least column and row.
     fn moved(self, part: Part) -> Part {
         let cell = Cell {
             x: part.cell.x.wrapping_sub(self.least.x),
@@ -77,7 +77,8 @@ fn are_of(parts: &[Part], tier: Tier) -> bool {
     true
 }
 
-/// The parts in their least rectangle, where they are of a tier and this has no more than so many cells.
+/// The parts in their least rectangle; none where there are no parts, one isn't of this tier, or the rectangle has more
+/// than `most` cells.
 pub fn own_of(
     alloc: Global,
     parts: &[Part],

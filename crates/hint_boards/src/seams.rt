@@ -5,9 +5,10 @@ use bt_parts::{DIRS, Dir};
 use bt_random::Random;
 use std::alloc::{AllocError, Global};
 
-/// What cutting out a cell or going past a neighbour costs that is to be laid anew; what chance may add to a cell.
+/// What cutting out a cell or going past a neighbour costs that is to be laid anew.
 const DAMAGE: u64 = 8;
 
+/// Chance adds less than this to what a cell costs, so that seams differ.
 const CHANCE: usize = 5;
 
 /// What can't be cut out costs so much.
@@ -16,7 +17,7 @@ const NEVER: u64 = 1 << 32;
 /// How much higher or lower the seam may lie in the next column.
 const STEEPEST: usize = 2;
 
-/// What cutting out a cell costs.
+/// What cutting out a cell costs: the more, the more is to be laid anew, and `NEVER` for ends and halves of splitters.
 fn cost(board: &Board, place: usize) -> u64 {
     let tile = board.tile(place);
     if tile.is_end || tile.piece.is_half() {
@@ -30,7 +31,8 @@ fn cost(board: &Board, place: usize) -> u64 {
     }
 }
 
-/// How much is cut where a seam passes between a cell and its neighbour to the east.
+/// What it costs that a seam passes between a cell and its neighbour to the east, by the chains that lead across and a
+/// splitter that stands on both.
 fn link(board: &Board, x: usize, y: usize) -> u64 {
     let place = board.place(x, y);
     let Some(next) = board.ahead(place, Dir::East) else {
@@ -58,7 +60,7 @@ fn link(board: &Board, x: usize, y: usize) -> u64 {
     links
 }
 
-/// What it costs to go on from a height to another in the next column.
+/// What it costs to go on from a height in column `x` to another in the next column.
 fn step(board: &Board, x: usize, one: usize, other: usize) -> u64 {
     if one == other {
         return 0;
@@ -79,7 +81,8 @@ struct Front {
 }
 
 impl Front {
-    /// The cheapest way from the last column to a height in this one.
+    /// What the cheapest seam costs that comes to a height in column `x`, without its cell, and its height in the
+    /// column before.
     fn best(&self, board: &Board, x: usize, y: usize) -> (u64, usize) {
         let mut best = (u64::MAX, y);
         let last = y
@@ -96,7 +99,7 @@ impl Front {
         best
     }
 
-    /// Goes on to the next column.
+    /// Goes on to column `x`.
     fn advance(
         &mut self,
         alloc: Global,
@@ -158,7 +161,7 @@ pub fn seam(
     Ok(Some(heights))
 }
 
-/// The board without a seam.
+/// The board without a seam: in each column the cells below it move up by one.
 pub fn without(alloc: Global, board: &Board, heights: &[usize]) -> Result<Board, AllocError> {
     let height = board.height.saturating_sub(1);
     let mut left = Board::bare(alloc, board.width, height, board.tier)?;

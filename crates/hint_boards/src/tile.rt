@@ -54,7 +54,7 @@ impl Below {
         }
     }
 
-    /// With a chain in a direction.
+    /// Notes the chain, or none, that moves in a direction.
     pub fn put(&mut self, dir: Dir, chain: Option<Chain>) {
         match dir {
             Dir::North => self.north = chain,
@@ -82,7 +82,7 @@ pub const BARE: Tile = Tile {
 };
 
 impl Piece {
-    /// What the cell of a part holds.
+    /// What the own cell of a part holds: of a splitter the lesser half.
     pub fn of(part: &Part) -> Piece {
         match part.kind {
             Kind::Belt => Piece::Belt(part.dir),
@@ -92,7 +92,7 @@ impl Piece {
         }
     }
 
-    /// The direction in which it hands on above the ground.
+    /// The direction in which the piece hands on above the ground; none for an entrance and an empty cell.
     pub fn hands(self) -> Option<Dir> {
         match self {
             Piece::Belt(dir) | Piece::Exit(dir) | Piece::Lesser(dir) | Piece::Greater(dir) => Some(
@@ -102,7 +102,7 @@ impl Piece {
         }
     }
 
-    /// Whether it takes what comes in a direction.
+    /// Whether the piece takes what comes above the ground and moves in a direction.
     pub fn takes(self, coming: Dir) -> bool {
         match self {
             Piece::Belt(dir) => dir != coming.opposite(),
@@ -111,7 +111,7 @@ impl Piece {
         }
     }
 
-    /// Whether it is a half of a splitter.
+    /// Whether the piece is a half of a splitter.
     pub fn is_half(self) -> bool {
         match self {
             Piece::Lesser(_) | Piece::Greater(_) => true,
@@ -119,7 +119,8 @@ impl Piece {
         }
     }
 
-    /// The part of which this is the cell, but for the greater halves of splitters.
+    /// The kind and the direction of the part whose own cell this is; none for an empty cell and the greater half of a
+    /// splitter.
     pub fn kind(self) -> Option<(Kind, Dir)> {
         match self {
             Piece::Belt(dir) => Some((Kind::Belt, dir)),

@@ -6,7 +6,7 @@ use bt_cnf::Lbool;
 use hint_clauses::{Literal, Visit};
 use std::alloc::{AllocError, Global};
 
-/// Of which clauses a propagation is.
+/// The clauses by which is propagated: the core, which the empty clause needs as far as is known, or the others.
 #[derive(Clone, Copy, PartialEq, Eq)]
 enum Part {
     Core,
@@ -49,7 +49,8 @@ impl Checker {
         })
     }
 
-    /// Adds a clause that wasn't there before; tells it where all its literals are false.
+    /// Adds a clause that wasn't there before, and makes true what follows of it alone. Its number, and whether all its
+    /// literals are false.
     pub fn add(&mut self, literals: &[Literal]) -> Result<(Number, bool), AllocError> {
         let number = self.database.add(literals)?;
         let fails = self.attach(number)?;
@@ -106,14 +107,14 @@ impl Checker {
         )
     }
 
-    /// Brings back a clause that was there before.
+    /// Brings back a clause that was there before, and makes true what follows of it alone.
     pub fn bring_back(&mut self, number: Number) -> Result<(), AllocError> {
         self.database.set_there(number, true);
         let _ = self.attach(number)?;
         Ok(())
     }
 
-    /// Says that the empty clause needs a clause.
+    /// Says that the empty clause needs a clause, which from then on is watched among those of the core.
     pub fn need(&mut self, number: Number) -> Result<(), AllocError> {
         if self.database.set_core(number) {
             self.watch(number)?;
@@ -121,7 +122,7 @@ impl Checker {
         Ok(())
     }
 
-    /// Takes back all but so many literals, all that follows of which was true.
+    /// Takes back all but the first so many true literals, of which all that follows was true before the others came.
     pub fn cut(&mut self, count: usize) {
         self.trail.cut(count);
         self.core_done = self.core_done.min(count);
@@ -134,7 +135,7 @@ impl Checker {
         self.others_done = 0;
     }
 
-    /// The list of a literal, which is put in the place of this one.
+    /// Puts a list in the place of a literal's among the watches of a part, and gives that one.
     fn exchange(&mut self, part: Part, literal: Literal, list: Vec<Watch>) -> Vec<Watch> {
         match part {
             Part::Core => self.core.exchange(literal, list),
@@ -142,7 +143,8 @@ impl Checker {
         }
     }
 
-    /// Visits a clause that watches a literal which is false.
+    /// Visits a clause that watches a literal which is false. Its watch leaves where it is out of date, or another
+    /// literal is watched instead.
     fn visit(
         &mut self,
         part: Part,
@@ -212,7 +214,7 @@ impl Checker {
         Ok(None)
     }
 
-    /// Makes true what follows of a literal by clauses of a part.
+    /// Makes true what follows of a literal by clauses of a part; tells a clause whose literals are all false.
     fn follow(
         &mut self,
         alloc: Global,

@@ -27,7 +27,7 @@ impl Database {
         }
     }
 
-    /// How many clauses there were.
+    /// How many clauses were added, whether they are there or not.
     pub fn len(&self) -> usize {
         self.entries.len()
     }
@@ -51,7 +51,7 @@ impl Database {
         self.entries.get(number as usize).copied()
     }
 
-    /// The literals of a clause.
+    /// The literals of a clause; none where no clause has the number.
     pub fn get(&self, number: Number) -> &[Literal] {
         match self.entries.get(number as usize) {
             Some(entry) => self.literals.literals(entry.span),

@@ -10,15 +10,16 @@ pub struct Tracer {
     /// For each variable, whether its value is to be traced back, and whether it is assumed.
     open: Vec<bool>,
     assumed: Vec<bool>,
+    /// How many values are to be traced back.
     count: usize,
 }
 
-/// The mark at a variable.
+/// Whether the mark at a literal's variable is set.
 fn is_set(marks: &[bool], literal: Literal) -> bool {
     marks.get(literal.variable()) == Some(&true)
 }
 
-/// Sets the mark at a variable, and tells what it was.
+/// Sets the mark at a literal's variable, and tells what it was.
 fn set(marks: &mut [bool], literal: Literal, mark: bool) -> bool {
     match marks.get_mut(literal.variable()) {
         Some(old) => {
@@ -47,7 +48,7 @@ impl Tracer {
         }
     }
 
-    /// Opens the values that make a clause's literals false.
+    /// Opens the values that make a clause's literals false, but for those that are assumed.
     fn open_all(&mut self, literals: &[Literal]) {
         for literal in literals {
             if !is_set(&self.assumed, *literal) && !set(&mut self.open, *literal, true) {

@@ -18,7 +18,7 @@ pub struct Index {
     wanted: Vec<bool>,
 }
 
-/// The list of a clause.
+/// The number of the list for clauses with these literals, whatever their order.
 fn list_of(literals: &[Literal]) -> usize {
     let mut mixed = literals.len() as u64;
     for literal in literals {
@@ -66,7 +66,7 @@ impl Index {
                 .all(|literal| self.wanted.get(literal.place()) == Some(&true))
     }
 
-    /// Takes out a clause with these literals that is there.
+    /// Takes a clause with these literals out of the lists; none where none has them.
     pub fn take(&mut self, database: &Database, literals: &[Literal]) -> Option<Number> {
         let list = list_of(literals);
         self.want(literals, true);

@@ -19,7 +19,7 @@ fn is_blank(byte: u8) -> bool {
     byte == b' ' || byte == b'\n' || byte == b'\r' || byte == b'\t'
 }
 
-/// How many bytes at the front of a text are so, of blanks or of what is none.
+/// How many blanks stand at the front of a text, where `blank`; else how many bytes that are none.
 fn front(text: &[u8], blank: bool) -> usize {
     for (place, byte) in text.iter().enumerate() {
         if is_blank(*byte) != blank {
@@ -37,7 +37,7 @@ fn behind(text: &[u8], place: usize) -> &[u8] {
     }
 }
 
-/// The number that these digits spell, where it is one of at most eighteen digits.
+/// The number that a word of one to eighteen digits spells; none where it has more, or anything else.
 fn digits(word: &[u8]) -> Option<i64> {
     if word.is_empty() || word.len() > 18 {
         return None;
@@ -54,7 +54,7 @@ fn digits(word: &[u8]) -> Option<i64> {
     Some(number)
 }
 
-/// The token that a word is.
+/// The token that a word is; none where it has no bytes.
 fn told_by(word: &[u8]) -> Option<Token> {
     let first = *word.first()?;
     let number = if first == b'-' {
@@ -79,7 +79,7 @@ impl<'a> Tokens<'a> {
         self.text.len()
     }
 
-    /// The next token.
+    /// The next token; none at the end of the text.
     pub fn next(&mut self) -> Option<Token> {
         let word = behind(self.text, front(self.text, true));
         let end = front(word, false);

@@ -65,7 +65,8 @@ struct Reading {
     events: Vec<Event>,
 }
 
-/// The literal that a number is.
+/// The literal that a number is: a variable from 1 on, negative where it is denied. None where it isn't of so many
+/// variables.
 fn literal_of(number: i64, variables: usize) -> Option<Literal> {
     let variable = (number.unsigned_abs() as usize).checked_sub(1)?;
     if variable < variables {
@@ -75,7 +76,7 @@ fn literal_of(number: i64, variables: usize) -> Option<Literal> {
     }
 }
 
-/// Reads literals up to a 0; whether they are such.
+/// Reads literals up to a 0. Whether it came, and all before it were literals of so many variables.
 fn read_literals(
     tokens: &mut Tokens,
     variables: usize,
@@ -164,7 +165,7 @@ impl Reading {
         }
     }
 
-    /// Takes a clause away, where it is there and nothing that is true follows of it alone.
+    /// Takes the clause that was read away, where it is there, has two literals or more, and none became true by it.
     fn take_away(&mut self, step: usize) -> Result<(), AllocError> {
         if self.literals.len() < 2 {
             return Ok(());
@@ -217,7 +218,8 @@ impl Reading {
     }
 }
 
-/// Takes a step's clause away again, and all that followed of it.
+/// Takes a step's clause away again, and all that followed of it; what follows of others all the same is made true
+/// anew.
 fn undo(
     alloc: Global,
     checker: &mut Checker,
@@ -244,7 +246,8 @@ fn undo(
     Ok(())
 }
 
-/// A clause that is false where all literals of a step's are, after propagation.
+/// Makes the literals of a step's clause false, and all that follows true. A clause that is false then, or by which one
+/// of the literals was true before; none where there is none, and the step isn't shown.
 fn refuted(
     alloc: Global,
     checker: &mut Checker,
@@ -331,7 +334,7 @@ fn add_step(steps: &mut Vec<Step>, clause: Number, end: usize) -> Result<(), All
     Ok(())
 }
 
-/// Shows a step, and puts its hints behind a list.
+/// Shows a step by propagation, and puts its hints behind a list. Refuses one that isn't shown so.
 fn show(
     alloc: Global,
     checker: &mut Checker,

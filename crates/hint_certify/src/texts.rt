@@ -13,7 +13,8 @@ fn print_number<K: Sink>(sink: &mut K, number: usize, is_negative: bool) -> Resu
     write_all_of(sink, buffer.format(number).as_bytes())
 }
 
-/// The numbers of clauses in the text: those of the formula as they are, and of the steps by their turn.
+/// The numbers of clauses in the text, from 1 on: those of the formula as they are, and behind them the steps that are
+/// needed by their turn. Other steps have 0.
 fn numbers_of(alloc: Global, steps: &Steps) -> Result<Vec<usize>, AllocError> {
     let mut numbers = Vec::new(alloc);
     for number in 1..=steps.formula {
@@ -51,7 +52,7 @@ fn print_step<K: Sink>(
     write_all_of(sink, b" 0\n")
 }
 
-/// The hints of a step, which follow those of the step that is needed by it.
+/// The hints from one place up to another one, which isn't included.
 fn hints_of(steps: &Steps, start: usize, end: usize) -> &[Number] {
     match steps.hints.get(start..end) {
         Some(hints) => hints,
@@ -59,13 +60,14 @@ fn hints_of(steps: &Steps, start: usize, end: usize) -> &[Number] {
     }
 }
 
-/// Writes the steps, the first first, and the line that ends them.
+/// Writes the steps, the first first, and the line that ends them. Whether all could be written.
 pub fn print<K: Sink>(alloc: Global, steps: &Steps, sink: &mut K) -> Result<bool, AllocError> {
     let numbers = numbers_of(alloc, steps)?;
     Ok(print_all(steps, &numbers, sink).is_ok())
 }
 
-/// Where the hints of the step before one begin: those of the empty clause come first.
+/// Where the hints of the step at a place begin: behind those of the step before it in the list, or of the empty
+/// clause.
 fn start_of(steps: &[Step], place: usize, empty: usize) -> usize {
     match place.checked_sub(1) {
         Some(before) => match steps.get(before) {

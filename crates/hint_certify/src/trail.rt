@@ -45,12 +45,12 @@ impl Trail {
         self.literals.len()
     }
 
-    /// The literal that became true as this one.
+    /// The literal at a place, from 0 on, in the order in which they became true; none where there aren't so many.
     pub fn at(&self, place: usize) -> Option<Literal> {
         self.literals.get(place).copied()
     }
 
-    /// The clause of which a literal's variable got its value.
+    /// The clause of which a literal's variable got its value; none where it has none, or for a trial.
     pub fn reason(&self, literal: Literal) -> Option<Number> {
         match self.reasons.get(literal.variable()) {
             Some(reason) => *reason,

@@ -35,7 +35,7 @@ impl Watches {
         Ok(())
     }
 
-    /// Puts a list in the place of a literal's, and gives that one.
+    /// Puts a list in the place of a literal's, and gives that one; where there is no such literal, the list itself.
     pub fn exchange(&mut self, literal: Literal, list: Vec<Watch>) -> Vec<Watch> {
         match self.lists.get_mut(literal.place()) {
             Some(old) => replace(old, list),

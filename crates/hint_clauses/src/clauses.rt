@@ -16,7 +16,7 @@ impl Span {
         self.start as usize
     }
 
-    /// Whether the clause stands behind so many literals of clauses.
+    /// Whether the clause stands behind the first `length` literals of all clauses.
     pub fn is_behind(self, length: usize) -> bool {
         self.start as usize >= length
     }
@@ -41,7 +41,7 @@ pub struct Clauses {
     literals: Vec<Literal>,
 }
 
-/// A place in four bytes. One that doesn't fit is want of memory.
+/// A place in four bytes. Memory counts as run out where it is 2^32 or more.
 fn packed(place: usize) -> Result<u32, AllocError> {
     match u32::try_from(place) {
         Ok(place) => Ok(place),
@@ -49,7 +49,8 @@ fn packed(place: usize) -> Result<u32, AllocError> {
     }
 }
 
-/// Visits a clause whose first two literals are watched, one of which is false.
+/// Visits a clause whose first two literals are watched, one of which is false: it is moved to the second place. A
+/// clause of fewer literals counts as a conflict.
 fn visited(clause: &mut [Literal], false_literal: Literal, values: &Values) -> Visit {
     if clause.len() < 2 {
         return Visit::Conflict;
@@ -94,7 +95,7 @@ impl Clauses {
         }
     }
 
-    /// How many literals all clauses have.
+    /// How many literals all clauses have together.
     pub fn len(&self) -> usize {
         self.literals.len()
     }
@@ -107,7 +108,7 @@ impl Clauses {
         Ok(Span { start, end })
     }
 
-    /// The literals of a clause.
+    /// The literals of a clause; none where its span leads beyond all literals.
     pub fn literals(&self, span: Span) -> &[Literal] {
         let (start, end) = (span.start as usize, span.end as usize);
         if start <= end && end <= self.literals.len() {
@@ -125,7 +126,8 @@ impl Clauses {
         }
     }
 
-    /// Visits a clause one of whose watched literals is false.
+    /// Visits a clause one of whose watched literals is false. A span that leads beyond all literals counts as a
+    /// conflict.
     pub fn visit(&mut self, span: Span, false_literal: Literal, values: &Values) -> Visit {
         let (start, end) = (span.start as usize, span.end as usize);
         if start <= end && end <= self.literals.len() {
@@ -135,7 +137,7 @@ impl Clauses {
         }
     }
 
-    /// Drops all clauses behind so many literals.
+    /// Drops all clauses behind the first `length` literals.
     pub fn truncate(&mut self, length: usize) {
         self.literals.truncate(length);
     }

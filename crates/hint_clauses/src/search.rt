@@ -29,7 +29,7 @@ enum Visited {
     Conflict,
 }
 
-/// Makes true what follows of a literal by clauses of two.
+/// Makes true what follows of a literal by clauses of two; or tells such a clause whose literals are both false.
 fn follow(
     trail: &mut Trail,
     followers: &[Literal],
@@ -56,7 +56,7 @@ impl Search {
         })
     }
 
-    /// Adds a clause of more than two literals, the first two of which it watches.
+    /// Adds a clause of more than two literals, the first two of which it watches. None where it has fewer than two.
     pub fn attach(&mut self, literals: &[Literal]) -> Result<Option<Span>, AllocError> {
         let [one, other, ..] = literals else {
             return Ok(None);
@@ -92,7 +92,7 @@ impl Search {
         }
     }
 
-    /// Visits the clauses of a list that watch a literal that is false.
+    /// Visits the clauses of a list that watch a literal that is false; or tells one whose literals are all false.
     fn visit_list(
         &mut self,
         false_literal: Literal,
@@ -119,7 +119,7 @@ impl Search {
         Ok(None)
     }
 
-    /// Makes true what follows of a literal by longer clauses.
+    /// Makes true what follows of a literal by longer clauses; or tells such a clause whose literals are all false.
     fn propagate_literal(
         &mut self,
         alloc: Global,

@@ -65,7 +65,7 @@ impl Trail {
         &self.literals
     }
 
-    /// The present level.
+    /// The present level, which is the last that began; 0 where none did.
     pub fn level(&self) -> usize {
         self.starts.len()
     }
@@ -115,14 +115,14 @@ impl Trail {
         }
     }
 
-    /// The next literal of which it is to be looked what follows.
+    /// The next literal of which it is to be looked what follows. None where all were looked at.
     pub fn next(&mut self) -> Option<Literal> {
         let literal = *self.literals.get(self.propagated)?;
         self.propagated = self.propagated.saturating_add(1);
         Some(literal)
     }
 
-    /// Takes back the last literal, where there are more than so many.
+    /// Takes back the last literal, where there are more than `least`. None else.
     pub fn pop(&mut self, least: usize) -> Option<Literal> {
         if self.literals.len() <= least {
             return None;
@@ -132,7 +132,7 @@ impl Trail {
         Some(literal)
     }
 
-    /// How many literals come before a level ends.
+    /// How many literals come before a level ends. The last level ends with the trail.
     pub fn end_of(&self, level: usize) -> usize {
         match self.starts.get(level) {
             Some(start) => *start,
@@ -140,13 +140,13 @@ impl Trail {
         }
     }
 
-    /// Ends the levels behind one, whose literals were taken back.
+    /// Ends the levels behind this one, whose literals were taken back.
     pub fn end(&mut self, level: usize) {
         self.starts.truncate(level);
         self.propagated = self.propagated.min(self.literals.len());
     }
 
-    /// Forgets why literals are true that are so for good.
+    /// Forgets why literals are true, while all that are true are so for good.
     pub fn forget_reasons(&mut self) {
         for record in self.records.iter_mut() {
             record.reason = Reason::Choice;

@@ -18,7 +18,7 @@ impl Values {
         })
     }
 
-    /// The value of a literal.
+    /// The value of a literal. One whose variable there isn't is unset.
     pub fn get(&self, literal: Literal) -> Lbool {
         match self.of_literals.get(literal.place()) {
             Some(value) => *value,
@@ -36,7 +36,7 @@ impl Values {
         self.get(literal) == Lbool::False
     }
 
-    /// Gives a literal its value.
+    /// Gives a literal this value. One whose variable there isn't is passed over.
     fn put(&mut self, literal: Literal, value: Lbool) {
         if let Some(old) = self.of_literals.get_mut(literal.place()) {
             *old = value;

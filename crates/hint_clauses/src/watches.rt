@@ -18,7 +18,7 @@ pub struct Watches {
     followers: Vec<Vec<Literal>>,
 }
 
-/// Drops the watches of clauses that stand behind so many literals, where all clauses stand one after another.
+/// Drops the watches of clauses that stand behind the first `length` literals of all clauses.
 fn prune(list: &mut Vec<Watch>, length: usize) {
     let mut place = 0usize;
     for _ in 0..list.len() {
@@ -50,7 +50,7 @@ impl Watches {
         Ok(())
     }
 
-    /// Lets a literal follow of another one.
+    /// Notes that a literal follows of another one.
     fn follow(&mut self, from: Literal, literal: Literal) -> Result<(), AllocError> {
         if let Some(list) = self.followers.get_mut(from.place()) {
             list.push(literal)?;
@@ -58,7 +58,7 @@ impl Watches {
         Ok(())
     }
 
-    /// Adds a clause of two literals.
+    /// Adds a clause of two literals: each follows of the negation of the other.
     pub fn join(&mut self, one: Literal, other: Literal) -> Result<(), AllocError> {
         self.follow(one.negated(), other)?;
         self.follow(other.negated(), one)
@@ -72,7 +72,7 @@ impl Watches {
         }
     }
 
-    /// Puts a list in the place of a literal's, and gives that one.
+    /// Puts a list in the place of a literal's list of watches, and gives the one that was there.
     pub fn exchange(&mut self, literal: Literal, list: Vec<Watch>) -> Vec<Watch> {
         match self.lists.get_mut(literal.place()) {
             Some(old) => replace(old, list),
@@ -80,7 +80,8 @@ impl Watches {
         }
     }
 
-    /// Drops the watches of all clauses that stand behind so many literals, as where the list of clauses is cut there.
+    /// Drops the watches of all clauses that stand behind the first `length` literals, as where the clauses are cut
+    /// there.
     pub fn truncate(&mut self, length: usize) {
         for list in self.lists.iter_mut() {
             prune(list, length);

@@ -7,14 +7,16 @@ use std::alloc::{AllocError, Global};
 /// The most edges times ends for which the state is looked for.
 const MOST_WORK: usize = 1 << 16;
 
-/// A state as sums: for each edge the loads, or where all are backed the rooms, with their coefficients. The columns ascend.
+/// A state as sums: for each edge the loads, or where all are backed the rooms, with their coefficients. The columns
+/// ascend.
 #[derive(Drop)]
 pub struct Dividing {
     sums: Vec<Vec<(usize, Frac)>>,
 }
 
 impl Dividing {
-    /// The state, where it is found.
+    /// The state in which all edges are free, or with `backed` all are backed. None where the network is too large, or
+    /// the equations aren't solved.
     pub fn of(alloc: Global, graph: &Graph, backed: bool) -> Result<Option<Dividing>, AllocError> {
         let ends = ends_of(alloc, graph, backed)?;
         if ends.len().saturating_mul(graph.edges()) > MOST_WORK {
@@ -30,7 +32,7 @@ impl Dividing {
         }
     }
 
-    /// Takes in what each edge carries of what comes at ends. Tells whether that was found.
+    /// Adds to each edge's sum what it carries of what comes at each end. False where that wasn't found.
     fn fill(
         &mut self,
         alloc: Global,
@@ -47,7 +49,7 @@ impl Dividing {
         Ok(true)
     }
 
-    /// Adds the numbers of a column.
+    /// Adds a column to the sums of the edges, with these numbers as its coefficients; those that are 0 are left out.
     fn add_all(&mut self, column: usize, numbers: &[Frac]) -> Result<(), AllocError> {
         for edge in 0..self.sums.len() {
             if let Some(number) = numbers.get(edge) {
@@ -59,7 +61,7 @@ impl Dividing {
         Ok(())
     }
 
-    /// The sum of an edge.
+    /// The sum of what an edge carries, with no term where there is no such edge.
     pub fn sum(&self, edge: usize) -> &[(usize, Frac)] {
         match self.sums.get(edge) {
             Some(sum) => sum,
@@ -67,7 +69,7 @@ impl Dividing {
         }
     }
 
-    /// Whether some edges have the same sum.
+    /// Whether some edges have the same sum. False where there is no edge.
     pub fn are_even(&self, edges: &[usize]) -> bool {
         match edges.first() {
             Some(first) => edges
@@ -100,7 +102,8 @@ fn are_same(first: &[(usize, Frac)], second: &[(usize, Frac)]) -> bool {
     true
 }
 
-/// The column of the load at an edge, or of the room.
+/// The column of the load at an edge that begins at an input or, with `backed`, of the room at one that ends at an
+/// output.
 fn end_column(graph: &Graph, edge: usize, backed: bool) -> usize {
     let number = graph.end(edge, backed).unwrap_or(0);
     let before = if backed {
@@ -111,7 +114,8 @@ fn end_column(graph: &Graph, edge: usize, backed: bool) -> usize {
     graph.edges().saturating_add(before).saturating_add(number)
 }
 
-/// What each edge carries where this one carries 1, and no other one at an end.
+/// What each edge carries where the one at this end carries 1, and those at the other ends where flows begin nothing.
+/// None where the equations aren't solved.
 fn numbers_of(
     alloc: Global,
     graph: &Graph,
@@ -127,7 +131,8 @@ fn numbers_of(
     equations.solve(alloc, vec![in alloc; Frac::whole(0); edges]?)
 }
 
-/// The terms that say what an edge carries.
+/// The terms of an equation that says what an edge carries: its part of what comes to its splitter, or 1 or nothing at
+/// an end.
 fn terms_of(
     alloc: Global,
     graph: &Graph,
@@ -152,7 +157,7 @@ fn terms_of(
     }
 }
 
-/// The terms that say that an edge carries its part of what others carry, among so many.
+/// The terms that say that an edge carries its part of what others carry, where it is one of so many that divide it.
 fn shared_terms(
     alloc: Global,
     edge: usize,
@@ -167,7 +172,7 @@ fn shared_terms(
     Ok(terms)
 }
 
-/// The terms that say that an edge carries 1, which is the number of a column, or nothing.
+/// The terms that say that an edge carries 1, which stands at the position past the columns, or nothing.
 fn end_terms(
     alloc: Global,
     column: usize,
@@ -182,7 +187,7 @@ fn end_terms(
     Ok(terms)
 }
 
-/// One or two.
+/// Two where the count is two, or else one: so many times an edge's part is the whole.
 fn whole(count: usize) -> Frac {
     if count == 2 {
         Frac::whole(2)

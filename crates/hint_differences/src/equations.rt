@@ -52,7 +52,7 @@ enum Effect {
 }
 
 impl Equations {
-    /// No equation of so many columns.
+    /// A system of so many columns, without an equation yet.
     pub fn new(alloc: Global, columns: usize) -> Result<Equations, AllocError> {
         Ok(Equations {
             lines: Vec::new(alloc),
@@ -89,7 +89,7 @@ impl Equations {
         }
     }
 
-    /// Tells the columns of a line that the equation with a number names them.
+    /// Notes at each column of a line that the equation with this number names it.
     fn name(&mut self, line: &Line, number: usize) -> Result<(), AllocError> {
         for index in 0..line.len() {
             let (column, _) = line.term_at(index);
@@ -98,7 +98,7 @@ impl Equations {
         Ok(())
     }
 
-    /// Has the equation with a number wait among those of its length.
+    /// Has the equation with a number wait in the list of its length.
     fn wait(&mut self, length: usize, number: usize) -> Result<(), AllocError> {
         push_at(&mut self.waiting, length_class(length), number)
     }
@@ -117,8 +117,8 @@ impl Equations {
         Ok(false)
     }
 
-    /// Solves the equation with a number for a column, where it is still of this class, and puts that in all others.
-    /// False where a number doesn't fit.
+    /// Solves the equation with a number for one of its columns, where its length is still of this class, and puts what
+    /// the column is in all others. Does nothing where it isn't. False where a number doesn't fit.
     fn pivot(&mut self, alloc: Global, class: usize, number: usize) -> Result<bool, AllocError> {
         match self.taken(class, number) {
             Some(line) => self.solve_line(alloc, &line),
@@ -126,7 +126,7 @@ impl Equations {
         }
     }
 
-    /// The equation with a number, where it is still of this class: it isn't among the equations any more.
+    /// Takes the equation with a number from the equations, where its length is still of this class; else none.
     fn taken(&mut self, class: usize, number: usize) -> Option<Line> {
         if number < self.lines.len() && is_of_class(&self.lines[number], class) {
             replace(&mut self.lines[number], None)
@@ -135,8 +135,8 @@ impl Equations {
         }
     }
 
-    /// Solves an equation for the column in it that fewest name, and puts that in all others. One that names no column
-    /// says nothing of columns, and is passed over.
+    /// Solves an equation for the column in it that fewest equations name, and puts what this is in all others. An
+    /// equation that names no column is passed over. False where a number doesn't fit.
     fn solve_line(&mut self, alloc: Global, line: &Line) -> Result<bool, AllocError> {
         let Some(column) = self.rarest(line) else {
             return Ok(true);
@@ -147,7 +147,7 @@ impl Equations {
         }
     }
 
-    /// The column of a line that fewest equations name.
+    /// The column of a line that fewest equations name, the first of several; none where the line names no column.
     fn rarest(&self, line: &Line) -> Option<usize> {
         let mut rarest = None;
         let mut fewest = usize::MAX;
@@ -162,7 +162,7 @@ impl Equations {
         rarest
     }
 
-    /// How many equations name a column; more than there are for what is past the columns.
+    /// How many equations are noted as naming a column; `usize::MAX` for a position past the columns.
     fn count_naming(&self, column: usize) -> usize {
         match self.naming.get(column) {
             Some(numbers) => numbers.len(),
@@ -170,7 +170,8 @@ impl Equations {
         }
     }
 
-    /// Puts what a column is, by a line that is 0, in each equation that names it. False where a number doesn't fit.
+    /// Puts what a column is, by a line that is 0 and has -1 there, in each equation that names it, and keeps the line
+    /// for the column's value. False where a number doesn't fit.
     fn put_everywhere(
         &mut self,
         alloc: Global,
@@ -183,7 +184,7 @@ impl Equations {
         Ok(fits)
     }
 
-    /// The equations that name a column, which is forgotten.
+    /// The numbers of the equations that name a column, whose own list is left empty.
     fn taken_naming(&mut self, alloc: Global, column: usize) -> Vec<usize> {
         if column < self.naming.len() {
             replace(&mut self.naming[column], Vec::new(alloc))
@@ -192,7 +193,8 @@ impl Equations {
         }
     }
 
-    /// Puts what a column is in the equations with these numbers.
+    /// Puts what a column is in the equations with these numbers. False, and the rest are left, where a number doesn't
+    /// fit.
     fn put_in_all(
         &mut self,
         alloc: Global,
@@ -209,7 +211,8 @@ impl Equations {
         Ok(true)
     }
 
-    /// Puts what a column is in the equation with a number, where it is still there.
+    /// Puts what a column is in the equation with a number, where that is still there, and notes its new columns and
+    /// its new length. False where a number doesn't fit.
     fn put(
         &mut self,
         alloc: Global,
@@ -232,7 +235,8 @@ impl Equations {
         }
     }
 
-    /// The numbers, in which each column that was solved has what the later ones give it.
+    /// The numbers, in which each column that was solved has the value that its line gives it. The column that was
+    /// solved last comes first, as the lines of those before may name it. None where a number doesn't fit.
     fn valued(&self, numbers: Vec<Frac>) -> Option<Vec<Frac>>
         ensures { IfSome result (λ v. length v.items ≡ length numbers.items) }
     {
@@ -258,7 +262,7 @@ fn lists(alloc: Global, count: usize) -> Result<Vec<Vec<usize>>, AllocError> {
     Ok(lists)
 }
 
-/// The next of the shortest equations that wait, with the class of its length.
+/// Takes the next of the shortest equations that wait: the class of its length, and its number. None where none waits.
 fn shortest(waiting: &mut [Vec<usize>]) -> Option<(usize, usize)> {
     for class in 0..waiting.len() {
         if let Some(number) = waiting[class].pop() {
@@ -276,12 +280,12 @@ fn push_at(lists: &mut [Vec<usize>], place: usize, number: usize) -> Result<(), 
     Ok(())
 }
 
-/// The class of a length.
+/// The list in which equations of a length wait: the last one holds all that are longer, too.
 fn length_class(length: usize) -> usize {
     length.min(LENGTHS - 1)
 }
 
-/// Whether there is an equation of this class.
+/// Whether an equation stands at this place whose length is of this class.
 fn is_of_class(place: &Option<Line>, class: usize) -> bool {
     match place {
         Some(line) => length_class(line.len()) == class,
@@ -289,7 +293,8 @@ fn is_of_class(place: &Option<Line>, class: usize) -> bool {
     }
 }
 
-/// Puts what a column is, by a line that is 0, in an equation.
+/// Puts what a column is, by a line that is 0 and has -1 there, in the equation at a place, and tells the effect. Where
+/// the two aren't both held as small whole numbers, the equation is made anew in fractions.
 fn put_in(
     alloc: Global,
     room: &mut Room,

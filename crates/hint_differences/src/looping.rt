@@ -28,18 +28,18 @@ struct Shortfall {
 }
 
 impl Shortfall {
-    /// The edge carries as much as in the state.
+    /// The literal that says that the edge carries at least as much as in the state.
     fn reaches(self) -> NamedLit {
         self.reached.is_some()
     }
 
-    /// The edge doesn't.
+    /// The literal that says that the edge carries less than in the state.
     fn falls_short(self) -> NamedLit {
         let reaches = self.reaches();
         named(reaches.var, !reaches.positive)
     }
 
-    /// Adds the rows of what is defined.
+    /// Adds the rows that define both comparisons.
     fn add_rows(self, rows: &mut Vec<usize>) -> Result<(), AllocError> {
         self.reached.add_rows(rows)?;
         self.behind.add_rows(rows)
@@ -111,7 +111,7 @@ fn has_loops(alloc: Global, net: &Net) -> Result<bool, AllocError> {
     Ok(order.len() < net.splitters() as usize)
 }
 
-/// Adds that an edge is full just where it carries as much as in the state, where there is a literal for that.
+/// Adds that an edge that is full carries at least as much as in the state, where there is a literal for that.
 fn add_full(
     alloc: Global,
     aims: &mut Vec<Aim>,
@@ -125,7 +125,8 @@ fn add_full(
     }
 }
 
-/// A sum, and one column with its coefficient, which is below all others.
+/// The terms of a column with its coefficient, and behind it those of a sum, whose columns are above it: with their
+/// signs turned where `turned`.
 fn with_column(
     alloc: Global,
     column: usize,
@@ -162,7 +163,7 @@ fn caps_of(alloc: Global, formula: &Formula) -> Result<Vec<Vec<usize>>, AllocErr
 }
 
 impl<'a> Looping<'a> {
-    /// The edges of a splitter that lead on.
+    /// The edges of a splitter by which the argument goes on: those out of it, or where all are backed those into it.
     fn near(&self, splitter: usize) -> &[usize] {
         if self.backed {
             self.graph.ins(splitter)
@@ -171,7 +172,7 @@ impl<'a> Looping<'a> {
         }
     }
 
-    /// The edges of a splitter that lead back.
+    /// The edges of a splitter by which the argument comes: those into it, or where all are backed those out of it.
     fn far(&self, splitter: usize) -> &[usize] {
         if self.backed {
             self.graph.outs(splitter)
@@ -180,11 +181,12 @@ impl<'a> Looping<'a> {
         }
     }
 
+    /// The shortfall of an edge, where it is defined.
     fn shortfall(&self, edge: usize) -> Option<Shortfall> {
         self.shortfalls.get(edge).copied()
     }
 
-    /// The edge's shortfall doesn't count.
+    /// The literal that says that the edge has the mark with which its shortfall doesn't count.
     fn is_out(&self, edge: usize) -> NamedLit {
         named(edge, !self.backed)
     }
@@ -226,7 +228,8 @@ impl<'a> Looping<'a> {
         }
     }
 
-    /// Defines the shortfall of an edge by its forms.
+    /// Defines the shortfall of an edge by its forms: it counts where the edge carries less than in the state, and
+    /// [`Looping::is_out`] doesn't hold.
     fn define_forms(
         &mut self,
         alloc: Global,
@@ -252,7 +255,7 @@ impl<'a> Looping<'a> {
         Ok(())
     }
 
-    /// The shortfalls of some edges less those of others.
+    /// The terms of the shortfalls of some edges less those of others; edges that stand among both are left out.
     fn signed(
         &self,
         alloc: Global,
@@ -268,7 +271,7 @@ impl<'a> Looping<'a> {
         Ok(terms)
     }
 
-    /// The loads, or the rooms, less the flows at the other ends.
+    /// The terms of all loads, or all rooms, less the flows at the other ends.
     fn totals(&self, alloc: Global) -> Result<Vec<(usize, Frac)>, AllocError> {
         let mut edges = Vec::from_slice(alloc, &self.last)?;
         edges.sort()?;
@@ -284,7 +287,7 @@ impl<'a> Looping<'a> {
         Ok(terms)
     }
 
-    /// Adds the scopes and aims.
+    /// Adds the scopes and aims of edges, splitters and ends.
     fn argue(
         &self,
         alloc: Global,
@@ -356,7 +359,8 @@ impl<'a> Looping<'a> {
         Ok(rows)
     }
 
-    /// Adds what holds of an edge by itself.
+    /// Adds what holds of an edge by itself, by the scope at a place: its shortfall is at least nothing, at least all
+    /// that it is behind where its mark counts, and at most that where it carries less than in the state.
     fn argue_edge(
         &self,
         alloc: Global,
@@ -405,6 +409,7 @@ impl<'a> Looping<'a> {
         }
     }
 
+    /// Adds the rows of the shortfall of an edge, where it is defined.
     fn add_rows_of(&self, rows: &mut Vec<usize>, edge: usize) -> Result<(), AllocError> {
         match self.shortfall(edge) {
             Some(shortfall) => shortfall.add_rows(rows),
@@ -459,7 +464,8 @@ impl<'a> Looping<'a> {
         add_aim(alloc, &mut line.aims, &[no_more], place)
     }
 
-    /// Adds that an edge has no shortfall, or none beside it at a splitter carries as much as in the state.
+    /// Adds that an edge has no shortfall, or that no other one at its side of a splitter carries as much as in the
+    /// state.
     fn argue_beside(
         &self,
         alloc: Global,
@@ -503,7 +509,7 @@ impl<'a> Looping<'a> {
         self.argue_conclusion(alloc, formula, line)
     }
 
-    /// Adds that the last edges fall behind no more than the first, so not at all.
+    /// Adds that the last edges together fall behind no more than the first, and so that none of them does.
     fn argue_sum(&self, alloc: Global, line: &mut Line) -> Result<(), AllocError> {
         let Some(sum) = self.sums.get(self.graph.splitters()).copied() else {
             return Ok(());
@@ -553,7 +559,7 @@ impl<'a> Looping<'a> {
         Ok(rows)
     }
 
-    /// Adds that an edge at the other ends carries as much as in the state.
+    /// Adds that an edge at which the argument ends carries as much as in the state.
     fn argue_last(
         &self,
         alloc: Global,
@@ -570,7 +576,7 @@ impl<'a> Looping<'a> {
         Ok(())
     }
 
-    /// Adds that no more flows than what loads, or rooms, allow.
+    /// Adds that what flows at the other ends is no more than all loads, or all rooms.
     fn argue_totals(
         &self,
         alloc: Global,

@@ -31,7 +31,7 @@ struct Pair {
 }
 
 impl Pair {
-    /// Adds the rows of what is defined.
+    /// Adds the rows that define the comparisons of both flows and the excess.
     fn add_rows(self, rows: &mut Vec<usize>) -> Result<(), AllocError> {
         self.over.add_rows(rows)?;
         self.under.add_rows(rows)?;
@@ -173,7 +173,7 @@ struct Forms {
 }
 
 impl Forms {
-    /// The forms of two columns.
+    /// The forms of two columns. None where the second isn't above the first.
     fn of(alloc: Global, first: usize, second: usize) -> Result<Option<Forms>, AllocError> {
         let over = difference(alloc, first, second, 1)?;
         let under = difference(alloc, first, second, -1)?;
@@ -224,7 +224,7 @@ impl<'a> Pairing<'a> {
         self.define_sum(line, terms)
     }
 
-    /// Defines the excess of an edge.
+    /// Defines the excess of an edge over the one beside it, by the columns of both flows.
     fn define_pair(
         &mut self,
         alloc: Global,
@@ -298,15 +298,17 @@ impl<'a> Pairing<'a> {
         Ok(())
     }
 
+    /// An edge of the first network with the one beside it, where they are compared.
     fn pair(&self, edge: usize) -> Option<Pair> {
         self.pairs.get(edge).copied()
     }
 
+    /// The excess of an edge over the one beside it, where it is defined.
     fn excess(&self, edge: usize) -> Option<Counted> {
         Some(self.pair(edge)?.excess)
     }
 
-    /// The excess of another edge of a splitter.
+    /// The excess of another edge of a splitter; none where the two edges are the same.
     fn excess_beside(&self, edge: usize, other: usize) -> Option<Counted> {
         if edge == other {
             None
@@ -315,7 +317,7 @@ impl<'a> Pairing<'a> {
         }
     }
 
-    /// The excesses of some edges less those of others.
+    /// The terms of the excesses of some edges less those of others; edges that stand among both are left out.
     fn excesses(
         &self,
         alloc: Global,
@@ -344,7 +346,7 @@ impl<'a> Pairing<'a> {
         Ok(terms)
     }
 
-    /// Adds the columns of ends and of those beside them.
+    /// Adds the columns of ends, with a number, and those of the edges beside them, with its negative.
     fn add_ends(
         &self,
         columns: &mut Vec<(usize, i64)>,
@@ -360,7 +362,7 @@ impl<'a> Pairing<'a> {
         Ok(())
     }
 
-    /// Adds the scopes and aims.
+    /// Adds the scopes and aims of splitters, edges and ends.
     fn argue(&self, alloc: Global, formula: &Formula, line: &mut Line) -> Result<(), AllocError> {
         for splitter in 0..self.graph.splitters() {
             self.extend_scope(alloc, line, splitter)?;
@@ -423,6 +425,7 @@ impl<'a> Pairing<'a> {
         Ok(rows)
     }
 
+    /// Adds the rows that define the excess of an edge, where it is defined.
     fn add_rows_of(&self, rows: &mut Vec<usize>, edge: usize) -> Result<(), AllocError> {
         match self.pair(edge) {
             Some(pair) => pair.add_rows(rows),
@@ -450,7 +453,8 @@ impl<'a> Pairing<'a> {
         self.argue_end(alloc, aims, excess, edge, place)
     }
 
-    /// Adds what holds of two edges at an end.
+    /// Adds what holds of two edges at an end: at an input the excess is at least nothing and all of the difference, at
+    /// an output it is at most these.
     fn argue_end(
         &self,
         alloc: Global,
@@ -585,7 +589,7 @@ impl<'a> Pairing<'a> {
         conclude(alloc, formula, line, rows)
     }
 
-    /// The rows of the excesses of all ends, and of their comparisons.
+    /// The rows of the excesses of all ends, of their comparison, and of that of all that flows.
     fn rows_of_ends(&self, alloc: Global) -> Result<Vec<usize>, AllocError> {
         let mut rows = Vec::new(alloc);
         for edge in &self.inputs {

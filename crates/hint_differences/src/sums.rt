@@ -6,8 +6,8 @@ use std::alloc::{AllocError, Global};
 /// The most positions that a sum may name.
 const MOST_POSITIONS: usize = 1 << 32;
 
-/// The line of the sum of these terms, of which some may name one position. None where a number doesn't fit, or a
-/// position is too large.
+/// The line of the sum of these terms, of which several may name the same position. None where a number doesn't fit, or
+/// a position is `MOST_POSITIONS` or more.
 pub fn sum_of(alloc: Global, terms: &[Term]) -> Result<Option<Line>, AllocError> {
     let mut sum = Line::of(alloc, Vec::new(alloc))?;
     for (position, number) in terms {
@@ -19,7 +19,7 @@ pub fn sum_of(alloc: Global, terms: &[Term]) -> Result<Option<Line>, AllocError>
     Ok(Some(sum))
 }
 
-/// The sum of a line and a number times a position.
+/// The sum of a line and a number times a position. None where a number doesn't fit, or the position is too large.
 fn with_term(
     alloc: Global,
     line: &Line,
@@ -33,8 +33,8 @@ fn with_term(
     added(alloc, line, number, &lone)
 }
 
-/// The sum of a line and a number times another line. None where a number doesn't fit, and where the factor is 0 the line
-/// of no term.
+/// The sum of a line and a number times another line; where the number is 0, the first line alone. None where a number
+/// doesn't fit.
 fn added(
     alloc: Global,
     left: &Line,
@@ -65,7 +65,8 @@ pub fn scaled(alloc: Global, line: &Line, position: usize) -> Result<Option<Line
     added(alloc, &none, &factor, line)
 }
 
-/// The line with what a position is, by a line that is 0 and has -1 there, in place of it. None where a number doesn't fit.
+/// The line with what a position is, by a line that is 0 and has -1 there, in place of it. None where the line doesn't
+/// name the position, or a number doesn't fit.
 pub fn substituted(
     alloc: Global,
     line: &Line,

@@ -9,7 +9,8 @@ const MIXER: u64 = 0x9e37_79b9_7f4a_7c15;
 /// What tells an input from an output, and one side of a splitter from the other.
 const OTHER_SIDE: u64 = 0x5851_f42d_4c95_7f2d;
 
-/// The colours that tell one step more.
+/// The colours that tell one step more: to each splitter's colour those are added from which its edges come and to
+/// which they lead.
 pub fn refined(alloc: Global, net: &Net, colours: &[u64]) -> Result<Vec<u64>, AllocError> {
     let mut next = Vec::new(alloc);
     for colour in colours {
@@ -24,7 +25,7 @@ pub fn refined(alloc: Global, net: &Net, colours: &[u64]) -> Result<Vec<u64>, Al
     Ok(next)
 }
 
-/// The colour of where an edge begins.
+/// The colour of the splitter at which an edge begins, or the number of its input.
 fn colour_before(edge: &Edge, colours: &[u64]) -> u64 {
     match Role::OutOf.number_in(edge) {
         Some(splitter) => colour_at(colours, splitter),
@@ -32,7 +33,7 @@ fn colour_before(edge: &Edge, colours: &[u64]) -> u64 {
     }
 }
 
-/// The colour of where an edge ends.
+/// The colour of the splitter at which an edge ends, or the number of its output.
 fn colour_behind(edge: &Edge, colours: &[u64]) -> u64 {
     match Role::Into.number_in(edge) {
         Some(splitter) => colour_at(colours, splitter),
@@ -40,6 +41,7 @@ fn colour_behind(edge: &Edge, colours: &[u64]) -> u64 {
     }
 }
 
+/// The colour of a splitter, 0 where it has none.
 fn colour_at(colours: &[u64], splitter: u32) -> u64 {
     colours.get(splitter as usize).copied().unwrap_or(0)
 }
@@ -54,7 +56,7 @@ fn mix_in(colours: &mut [u64], splitter: Option<u32>, colour: u64) {
     }
 }
 
-/// A number that tells another one, and looks like chance.
+/// A number made of another one, with bits that look like chance: from different numbers hardly ever the same comes.
 pub fn mixed(number: u64) -> u64 {
     let spread = (number ^ (number >> 31))
         .wrapping_add(MIXER)

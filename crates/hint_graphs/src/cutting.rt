@@ -13,8 +13,8 @@ const ROUNDS: usize = 64;
 /// How many times all cuts are moved on.
 const LEVELS: usize = 16;
 
-/// Which edges are cut, so that no loop is left: those that lead back in an order of the splitters in which few do, or others
-/// to which these can be moved, where more splitters reach the ends evenly then.
+/// For each edge whether it is cut, so that no loop is left: those that lead back in an order of the splitters in which
+/// few do, or others to which these can be moved, where more splitters reach the ends evenly then.
 pub fn cuts_of(alloc: Global, graph: &Graph) -> Result<Vec<bool>, AllocError> {
     let mut ranking = Ranking::new(alloc, graph)?;
     ranking.rank_all(graph);
@@ -32,7 +32,7 @@ pub fn cuts_of(alloc: Global, graph: &Graph) -> Result<Vec<bool>, AllocError> {
     Ok(search.best)
 }
 
-/// The edges that lead back by the ranks of splitters.
+/// For each edge whether it leads back by the ranks of splitters.
 fn leading_back(alloc: Global, graph: &Graph, ranks: &[usize]) -> Result<Vec<bool>, AllocError> {
     let mut cut = Vec::new(alloc);
     for edge in 0..graph.edges() {
@@ -49,7 +49,7 @@ fn leads_back(graph: &Graph, ranks: &[usize], edge: usize) -> bool {
     }
 }
 
-/// The number at a place.
+/// The number at a place, 0 where there is none.
 fn at(numbers: &[usize], place: usize) -> usize {
     numbers.get(place).copied().unwrap_or(0)
 }
@@ -71,6 +71,7 @@ struct Ranking {
 }
 
 impl Ranking {
+    /// An order in which no splitter has a rank yet.
     fn new(alloc: Global, graph: &Graph) -> Result<Ranking, AllocError> {
         let count = graph.splitters();
         let mut ranking = Ranking {
@@ -87,7 +88,7 @@ impl Ranking {
         Ok(ranking)
     }
 
-    /// Counts an edge between two splitters.
+    /// Counts an edge between two splitters; one between a splitter and itself or an end isn't counted.
     fn count(&mut self, graph: &Graph, edge: usize) {
         if let (Some(start), Some(target)) = (graph.start(edge), graph.target(edge)) {
             if start != target {
@@ -107,8 +108,8 @@ impl Ranking {
         }
     }
 
-    /// The splitter that is ranked next: one of which no edge leads on, one to which none leads, or the one with the most
-    /// edges out over those into it.
+    /// The splitter that is ranked next: one of which no edge leads on, one to which none leads, or the one with the
+    /// most edges out over those into it. None where all have a rank.
     fn next(&self) -> Option<usize> {
         let mut best = None;
         let mut most = 0;
@@ -124,7 +125,7 @@ impl Ranking {
         best
     }
 
-    /// What tells which splitter is ranked next.
+    /// What tells which splitter is ranked next: the one with the greatest worth. The 8 keeps the difference above 0.
     fn worth(&self, splitter: usize) -> usize {
         let outs = at(&self.outs, splitter);
         let ins = at(&self.ins, splitter);
@@ -137,7 +138,8 @@ impl Ranking {
         }
     }
 
-    /// Gives a splitter its rank.
+    /// Gives a splitter its rank: the next from the back where no edge leads on from it, or else the next from the
+    /// front.
     fn rank(&mut self, graph: &Graph, splitter: usize) {
         let rank = if at(&self.outs, splitter) == 0 {
             self.back = self.back.saturating_sub(1);
@@ -153,7 +155,7 @@ impl Ranking {
         self.leave(graph, splitter);
     }
 
-    /// Counts the edges at a splitter no more.
+    /// Takes the edges at a splitter from the counts of the splitters at their other ends.
     fn leave(&mut self, graph: &Graph, splitter: usize) {
         for edge in graph.outs(splitter) {
             if let Some(target) = graph.target(*edge) {
@@ -199,7 +201,8 @@ struct Search {
 }
 
 impl Search {
-    /// Tries cuts, and those to which they can be moved in turn.
+    /// Climbs from cuts, moves all that can be moved to this side of their splitters, and does so again, `LEVELS` times
+    /// in all.
     fn move_on(
         &mut self,
         alloc: Global,
@@ -218,7 +221,8 @@ impl Search {
         Ok(())
     }
 
-    /// Moves cuts at single splitters while that is better, and keeps them where none were better before.
+    /// Moves cuts at single splitters while that makes them better, and keeps them where they are better than the best
+    /// so far.
     fn climb(&mut self, alloc: Global, graph: &Graph, cut: &[bool]) -> Result<(), AllocError> {
         let mut here = Vec::from_slice(alloc, cut)?;
         let mut score = self.score_of(alloc, graph, &here)?;
@@ -236,7 +240,8 @@ impl Search {
         Ok(())
     }
 
-    /// Tries to move the cuts at each splitter, and tells how good they are then.
+    /// Moves the cuts at each splitter, where that makes them better than `score`, and tells how good they are then.
+    /// Nothing is moved any more once too many edges were looked at.
     fn climb_once(
         &mut self,
         alloc: Global,
@@ -259,7 +264,7 @@ impl Search {
         Ok(best)
     }
 
-    /// How good cuts are.
+    /// How good cuts are, as a score to be compared. Counts the edges as looked at.
     fn score_of(
         &mut self,
         alloc: Global,
@@ -272,7 +277,7 @@ impl Search {
     }
 }
 
-/// The splitters at which cuts can be moved to a side.
+/// The splitters at which cuts can be moved to this side, which has none.
 fn movable(
     alloc: Global,
     graph: &Graph,
@@ -292,7 +297,8 @@ fn movable(
     Ok(splitters)
 }
 
-/// Whether all edges at one side of a splitter are cut, and none at the other, where each leads from or to a splitter.
+/// Whether cuts can be moved from one side of a splitter to the other: all edges at the one are cut and none at the
+/// other, neither side is empty, and no edge is at an end of the network.
 fn can_exchange(graph: &Graph, cut: &[bool], splitter: usize) -> bool {
     let ins = graph.ins(splitter);
     let outs = graph.outs(splitter);
@@ -307,16 +313,18 @@ fn are_opposite(cut: &[bool], ins: &[usize], outs: &[usize]) -> bool {
         || (all_are(cut, ins, false) && all_are(cut, outs, true))
 }
 
+/// Whether all of some edges are cut, or none of them is.
 fn all_are(cut: &[bool], edges: &[usize], wanted: bool) -> bool {
     edges.iter().all(|edge| is_set(cut, *edge) == wanted)
 }
 
-/// Cuts what isn't cut at a splitter, and no more what is.
+/// Moves cuts at a splitter: an edge that is cut isn't any more, and one that isn't is.
 fn exchange(graph: &Graph, cut: &mut [bool], splitter: usize) {
     turn(cut, graph.ins(splitter));
     turn(cut, graph.outs(splitter));
 }
 
+/// Cuts those of some edges that aren't cut, and the others no more.
 fn turn(cut: &mut [bool], edges: &[usize]) {
     for edge in edges {
         if *edge < cut.len() {

@@ -99,7 +99,7 @@ impl Walk {
         Ok(())
     }
 
-    /// Reaches the splitters that feed one which was reached.
+    /// Reaches the splitters that feed one which was reached, one step farther away.
     fn go_on(&mut self, feeders: &[Vec<usize>], splitter: usize) -> Result<(), AllocError> {
         if splitter < self.distances.len() && splitter < feeders.len() {
             let distance = self.distances[splitter].saturating_add(1);
@@ -111,7 +111,7 @@ impl Walk {
     }
 }
 
-/// For each splitter the place of its scope among those of the search.
+/// For each splitter its place in the order of [`ranked_splitters`], in which the scopes of a search stand.
 pub fn places_of(alloc: Global, net: &Net, from_inputs: bool) -> Result<Vec<usize>, AllocError> {
     let mut places = vec![in alloc; 0; net.splitters() as usize]?;
     let order = ranked_splitters(alloc, net, from_inputs)?;

@@ -18,7 +18,7 @@ pub struct Flow<'a> {
 }
 
 impl<'a> Flow<'a> {
-    /// The flow through a network.
+    /// Cuts the loops of a network and finds its centres.
     pub fn of(alloc: Global, net: &'a Net) -> Result<Flow<'a>, AllocError> {
         let graph = Graph::of(alloc, net)?;
         let cut = cuts_of(alloc, &graph)?;
@@ -57,7 +57,8 @@ impl<'a> Flow<'a> {
         is_joint(&self.graph, &self.cut, splitter)
     }
 
-    /// The splitter after so many in the order, or from its end back.
+    /// The splitter after so many in the order, or before so many from its end back; `usize::MAX` where the order is
+    /// too short.
     pub fn splitter_at(&self, step: usize, from_end: bool) -> usize {
         let count = self.order.len();
         let place = if from_end {
@@ -68,7 +69,7 @@ impl<'a> Flow<'a> {
         self.order.get(place).copied().unwrap_or(usize::MAX)
     }
 
-    /// The centre at which an argument ends.
+    /// The first of the centres, at which an argument ends; `usize::MAX` where there is none.
     pub fn centre(&self) -> usize {
         self.centres.first().copied().unwrap_or(usize::MAX)
     }

@@ -47,17 +47,18 @@ impl<'a> Graph<'a> {
         self.net.edges().get(number)
     }
 
-    /// The splitter out of which an edge leads.
+    /// The splitter out of which an edge leads; none where it begins at an input.
     pub fn start(&self, number: usize) -> Option<usize> {
         Some(Role::OutOf.number_in(self.edge(number)?)? as usize)
     }
 
-    /// The splitter into which an edge leads.
+    /// The splitter into which an edge leads; none where it ends at an output.
     pub fn target(&self, number: usize) -> Option<usize> {
         Some(Role::Into.number_in(self.edge(number)?)? as usize)
     }
 
-    /// The number of the output at which an edge ends, or of the input at which it begins.
+    /// The number of the output at which an edge ends, or of the input at which it begins; none where it has no such
+    /// end.
     pub fn end(&self, number: usize, is_output: bool) -> Option<usize> {
         let role = if is_output {
             Role::ToOutput
@@ -67,7 +68,7 @@ impl<'a> Graph<'a> {
         Some(role.number_in(self.edge(number)?)? as usize)
     }
 
-    /// The cap of an edge.
+    /// The cap of an edge, 0 where there is no such edge.
     pub fn cap(&self, number: usize) -> u64 {
         match self.edge(number) {
             Some(edge) => u64::from(edge.cap),
@@ -76,7 +77,7 @@ impl<'a> Graph<'a> {
     }
 }
 
-/// For each splitter the edges at one side of it, by their numbers.
+/// For each splitter the edges that have this role at it, by their numbers.
 pub fn edges_at(alloc: Global, net: &Net, role: Role) -> Result<Vec<Vec<usize>>, AllocError> {
     let mut lists = empty_lists(alloc, net.splitters())?;
     for (number, edge) in net.edges().iter().enumerate() {
@@ -85,7 +86,8 @@ pub fn edges_at(alloc: Global, net: &Net, role: Role) -> Result<Vec<Vec<usize>>,
     Ok(lists)
 }
 
-/// The edges at which flows begin, or end where all are backed, in the order of the ends' numbers.
+/// For each input the edge that begins there, or with `backed` for each output the edge that ends there, by the ends'
+/// numbers.
 pub fn ends_of(alloc: Global, graph: &Graph, backed: bool) -> Result<Vec<usize>, AllocError> {
     let count = if backed {
         graph.net.outputs()

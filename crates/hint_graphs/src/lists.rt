@@ -5,7 +5,7 @@ ghost use Rattle.hint_graphs.specs.Places.{AreBelow};
 
 use std::alloc::{AllocError, Global};
 
-/// So many lists without rows.
+/// So many empty lists.
 pub fn empty_lists(alloc: Global, count: u32) -> Result<Vec<Vec<usize>>, AllocError>
     ensures { (end : ℕ) → IfOk result (λ lists. All (λ list. AreBelow end list.items) lists.items) }
 {
@@ -31,7 +31,7 @@ pub fn add(lists: &mut [Vec<usize>], splitter: Option<u32>, number: usize) -> Re
     Ok(())
 }
 
-/// The list at a place, or none.
+/// The list at a place, empty where there is none.
 pub fn list_at(lists: &[Vec<usize>], place: usize) -> &[usize] {
     match lists.get(place) {
         Some(list) => list,
@@ -44,7 +44,7 @@ pub fn is_set(marks: &[bool], place: usize) -> bool {
     marks.get(place).copied().unwrap_or(false)
 }
 
-/// Sets a mark.
+/// Sets the mark at a place to a value, where there is one.
 pub fn mark(marks: &mut [bool], place: usize, value: bool) {
     if place < marks.len() {
         marks[place] = value;

@@ -84,7 +84,7 @@ impl Walk {
         Ok(())
     }
 
-    /// Lets a splitter wait for one less.
+    /// Lets a splitter wait for one less, and reaches it where it waits for none then.
     fn free(&mut self, splitter: usize) -> Result<(), AllocError> {
         if splitter < self.waiting.len() && self.waiting[splitter] > 0 {
             self.waiting[splitter] -= 1;

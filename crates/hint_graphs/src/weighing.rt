@@ -1,18 +1,19 @@
-//! Which splitters reach the ends of a network evenly: by numbers that stand for the weights of all ends, so that whole sums
-//! need not be made. Nothing rests on it.
+//! Which splitters reach the ends of a network evenly: by numbers that stand for the weights of all ends, so that whole
+//! sums need not be made. Below a splitter is what lies towards the outputs, above it what lies towards the inputs.
+//! Nothing rests on it.
 use crate::colours::mixed;
 use crate::graph::Graph;
 use crate::lists::{is_set, mark};
 use crate::order::ordered;
 use std::alloc::{AllocError, Global};
 
-/// The prime by which numbers are taken.
+/// The prime modulo which weights are added.
 const PRIME: u64 = 2_147_483_647;
 
-/// What is twice as much as one, by the prime.
+/// What is half of one modulo the prime: twice this number is 1.
 const HALF: u64 = 1_073_741_824;
 
-/// The parts of one in which sizes are.
+/// The parts of one in which sizes are told.
 pub const UNIT: u64 = 1 << 56;
 
 /// Weights of ends.
@@ -33,7 +34,7 @@ impl Weight {
         chance: 0,
     };
 
-    /// The weight of an end.
+    /// The weight of the one end at an edge, through which as much flows as the cap at most.
     fn of(edge: usize, cap: u64) -> Weight {
         Weight {
             size: cap.saturating_mul(UNIT),
@@ -42,6 +43,7 @@ impl Weight {
         }
     }
 
+    /// The weights of both together.
     fn plus(self, other: Weight) -> Weight {
         Weight {
             size: self.size.saturating_add(other.size),
@@ -50,7 +52,8 @@ impl Weight {
         }
     }
 
-    /// Half of it, where it is one of two, and there is none where that isn't a whole size.
+    /// Each one's share of it among so many edges: all or half. None where they are neither one nor two, or half of the
+    /// size isn't whole.
     fn shared(self, among: usize) -> Option<Weight> {
         match among {
             1 => Some(self),
@@ -63,13 +66,13 @@ impl Weight {
         }
     }
 
-    /// Whether it is a part of another weight, and each end has the same part.
+    /// Whether it isn't nothing, and each end has the same part in it as in another weight.
     fn is_part_of(&self, all: &Weight) -> bool {
         self.count != 0 && are_alike(self.count, all.chance, self.chance, all.count)
     }
 }
 
-/// Whether two products are the same by the prime.
+/// Whether two products are the same modulo the prime.
 fn are_alike(first: u64, by: u64, second: u64, other: u64) -> bool {
     first.wrapping_mul(by) % PRIME == second.wrapping_mul(other) % PRIME
 }
@@ -120,6 +123,7 @@ fn sum(weights: &[Option<Weight>], edges: &[usize]) -> Option<Weight> {
     Some(sum)
 }
 
+/// Gives an edge a weight, where there is such an edge.
 fn put(weights: &mut [Option<Weight>], edge: usize, weight: Weight) {
     if edge < weights.len() {
         weights[edge] = Some(weight);
@@ -166,7 +170,7 @@ impl Weighed {
         }
     }
 
-    /// Shares what ends with edges between these.
+    /// Gives each of some edges its share of what ends with all of them, where that is whole.
     fn join_at(&mut self, edges: &[usize]) {
         if let Some(all) = sum(&self.below, edges) {
             if let Some(weight) = all.shared(edges.len()) {
@@ -201,7 +205,7 @@ impl Weighed {
         }
     }
 
-    /// The weight of the ends below a splitter, where each has the same.
+    /// The weight of the ends below a splitter, where all that flows end with have the same part in it; else none.
     fn even_below(&self, graph: &Graph, splitter: usize) -> Option<Weight> {
         let weight = sum(&self.below, graph.outs(splitter))?;
         if weight.is_part_of(&self.sinks) {
@@ -211,7 +215,7 @@ impl Weighed {
         }
     }
 
-    /// The weight of the ends above a splitter, where each has the same.
+    /// The weight of the ends above a splitter, where all that flows begin with have the same part in it; else none.
     fn even_above(&self, graph: &Graph, splitter: usize) -> Option<Weight> {
         let weight = sum(&self.above, graph.ins(splitter))?;
         if weight.is_part_of(&self.sources) {
@@ -235,7 +239,8 @@ impl Weighed {
         score
     }
 
-    /// Whether the ends above and those below have the same weight at a splitter, and each of them has.
+    /// Whether each end below a splitter has the same part there, and each above it too, and the two parts are the
+    /// same.
     fn is_even(&self, graph: &Graph, splitter: usize) -> bool {
         match (
             self.even_below(graph, splitter),
@@ -253,7 +258,8 @@ impl Weighed {
         }
     }
 
-    /// The first splitters on the way from the inputs that are even, where all that flows goes through them.
+    /// The first splitters on the way from the inputs that are even, where all that flows goes through them and no loop
+    /// is left; else none.
     pub fn centres(
         &self,
         alloc: Global,
@@ -278,6 +284,7 @@ impl Weighed {
         Ok(centres)
     }
 
+    /// The sum of the weights of the ends below a splitter modulo the prime, 0 where these aren't even.
     fn count_below(&self, graph: &Graph, splitter: usize) -> u64 {
         match self.even_below(graph, splitter) {
             Some(weight) => weight.count,

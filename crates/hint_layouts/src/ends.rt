@@ -97,7 +97,7 @@ fn write(list: &mut [usize], number: u32, index: usize) {
     }
 }
 
-/// Gives the ends of an edge of the request the parts of the ends of one of the own network.
+/// Names the ends of an edge of the request by the parts at the ends of one of the own network.
 fn name_both(names: &mut Names, traced: &Traced, edge: Edge, own: Edge) {
     if let (Start::Input(number), Start::Input(own)) = (edge.start, own.start) {
         write(&mut names.inputs, number, index_at(&traced.inputs, own));
@@ -115,7 +115,8 @@ fn has_end(edge: Edge) -> bool {
     }
 }
 
-/// Names the ends of an edge of the request by an edge that is left.
+/// Names the ends of an edge of the request by those of the first edge of the own network that is left and may be the
+/// same, which is left no more. Does nothing where the edge joins two splitters, or no such is left.
 fn name_edge(own: Own, names: &mut Names, left: &mut [bool], edge: Edge) {
     if !has_end(edge) {
         return;
@@ -128,7 +129,8 @@ fn name_edge(own: Own, names: &mut Names, left: &mut [bool], edge: Edge) {
     }
 }
 
-/// The names by which the parts, of which this is the network, may be the request's: the splitters have these.
+/// The names of parts, whose own network is `traced`, as those of a request: its splitters have the indices
+/// `splitters`, and each end that of an edge which may be the end's, or the greatest number where there is none.
 pub fn name_ends(
     alloc: Global,
     request: &Request,

@@ -11,7 +11,7 @@ use std::alloc::{AllocError, Global};
 const ROOM: u64 = 80;
 
 /// The router is asked in a part of a rectangle only where edges times cells are at most so many: beyond, it takes a minute.
-const MOST_ROUTED: u64 = 1 << 23;
+pub const MOST_ROUTED: u64 = 1 << 23;
 
 /// The least side of the part of a rectangle in which a plan is looked for.
 const LEAST_SIDE: u32 = 16;
@@ -26,7 +26,7 @@ fn cells_of(rect: Rect) -> u64 {
     u64::from(rect.width).saturating_mul(u64::from(rect.height))
 }
 
-/// The side of the least square of so many cells, or the most cells that a rectangle may have in a row.
+/// The side of the least square of at least so many cells, or the most cells that a rectangle may have in a row.
 fn side_of(cells: u64) -> u32 {
     for side in 1..MOST_ACROSS {
         if u64::from(side).saturating_mul(u64::from(side)) >= cells {
@@ -44,8 +44,8 @@ fn names_no_cells(demand: &Demand) -> bool {
     }
 }
 
-/// The part of a request's rectangle in which a plan is looked for, where it has less than half of the cells, and the request
-/// names no cells.
+/// The part of a request's rectangle in which a plan is looked for, where it has at most half of the cells, and the
+/// request names no cells; else none.
 fn inner_of(request: &Request) -> Option<Rect> {
     let (net, rect) = (request.net(), request.rect());
     let may_be_moved = request.blocks().is_empty() && request.demands().iter().all(names_no_cells);
@@ -88,7 +88,7 @@ fn frame_of(outer: Rect, inner: Rect) -> Frame {
     }
 }
 
-/// Directions across this one, after its opposite.
+/// The opposite of a direction, and then the two across it.
 fn behind(dir: Dir) -> [Dir; 3] {
     match dir {
         Dir::North => [Dir::South, Dir::East, Dir::West],
@@ -99,7 +99,7 @@ fn behind(dir: Dir) -> [Dir; 3] {
 }
 
 impl Frame {
-    /// A cell of the inner rectangle in the other one.
+    /// Where a cell of the inner rectangle lies in the other one.
     fn cell(self, cell: Cell) -> Cell {
         Cell {
             x: cell.x.wrapping_add(self.first.x),
@@ -107,7 +107,7 @@ impl Frame {
         }
     }
 
-    /// A part of the inner rectangle in the other one.
+    /// A part of the inner rectangle as it stands in the other one.
     fn part(self, part: Part) -> Part {
         Part {
             cell: self.cell(part.cell),
@@ -115,7 +115,8 @@ impl Frame {
         }
     }
 
-    /// From where the first part of an input is fed across the border of the inner rectangle.
+    /// On which side of an input's first part the border of the inner rectangle lies: behind the part, or else beside
+    /// it. None where it lies at neither.
     fn origin(self, part: Part) -> Option<Dir> {
         for dir in &behind(part.dir) {
             if !inside(&self.inner, part.cell.next(*dir)) {
@@ -125,7 +126,8 @@ impl Frame {
         None
     }
 
-    /// Adds belts that look so, from the cell beside a part of the inner rectangle in this direction to the border.
+    /// Adds belts that look in the direction `dir`, from the cell beside a part of the inner rectangle in the direction
+    /// `away` to the border of the other one.
     fn push_belts(
         self,
         sketch: &mut Sketch,
@@ -172,7 +174,8 @@ impl Frame {
     }
 }
 
-/// The parts of a sketch of the inner rectangle, in which splitters have these numbers.
+/// A sketch of the inner rectangle as one of the other. A splitter gets the number that stands in `numbers` at the
+/// place of its own.
 fn moved(
     alloc: Global,
     frame: Frame,
@@ -211,7 +214,8 @@ fn framed_in(alloc: Global, request: &Request, inner: Rect) -> Result<Option<Ske
     Ok(Some(outer))
 }
 
-/// A plan in the middle of a request's rectangle, where that is much larger than the network needs.
+/// A plan in the middle of a request's rectangle, where that is much larger than the network needs. None elsewhere, and
+/// where the router would take too long or finds none.
 pub fn find_framed(alloc: Global, request: &Request) -> Result<Option<Sketch>, AllocError> {
     match inner_of(request) {
         Some(inner) if routed(request, inner) <= MOST_ROUTED => framed_in(alloc, request, inner),

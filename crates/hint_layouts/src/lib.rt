@@ -10,6 +10,7 @@ mod graph;
 mod matching;
 mod naming;
 mod part_names;
+mod placed;
 mod proposing;
 
 pub use naming::{Proposal, name_sketch};

@@ -1,13 +1,10 @@
 //! Names for the parts of a sketch.
-ghost use Rattle.std.specs.Prelude.{◌↔◌, IsTrue};
-ghost use Rattle.bt_parts.specs.Cells.{IsInRange};
-ghost use Rattle.bt_parts.specs.Layouts.{AreInRange};
-
 use crate::ends::name_ends;
+use crate::placed::grid_of;
 use bt_lays::Names;
 use bt_model::Request;
-use bt_parts::{MOST_COORDINATE, Part};
-use bt_recover::{Grid, GridFault, RecoverFault, recover};
+use bt_parts::Part;
+use bt_recover::{Grid, RecoverFault, recover};
 use hint_placement::Sketch;
 use std::alloc::{AllocError, Global};
 
@@ -21,7 +18,7 @@ pub struct Proposal {
 /// A part of a sketch by its cell, and its place in the sketch: the splitters come first.
 type Placed = (i32, i32, usize);
 
-/// The part at a place of a sketch.
+/// The part at a place of a sketch, where the others follow the splitters; none beyond.
 fn part_at(sketch: &Sketch, place: usize) -> Option<Part> {
     let splitters = sketch.splitters.len();
     match sketch.splitters.get(place) {
@@ -30,7 +27,7 @@ fn part_at(sketch: &Sketch, place: usize) -> Option<Part> {
     }
 }
 
-/// The places of a sketch's parts in the order of their cells.
+/// The places of a sketch's parts in ascending order of y and then x of their cells.
 fn in_order(alloc: Global, sketch: &Sketch) -> Result<Vec<Placed>, AllocError> {
     let count = sketch.splitters.len().saturating_add(sketch.others.len());
     let mut order = Vec::new(alloc);
@@ -43,7 +40,8 @@ fn in_order(alloc: Global, sketch: &Sketch) -> Result<Vec<Placed>, AllocError> {
     Ok(order)
 }
 
-/// Names an index by the number of the splitter at a place of a sketch, where a splitter stands there.
+/// Notes an index as that of the splitter at a place of a sketch, by its number. Does nothing where no splitter is
+/// there.
 fn name_splitter(splitters: &mut [usize], sketch: &Sketch, place: usize, index: usize) {
     if let Some((number, _)) = sketch.splitters.get(place) {
         if let Some(name) = splitters.get_mut(*number) {
@@ -52,7 +50,7 @@ fn name_splitter(splitters: &mut [usize], sketch: &Sketch, place: usize, index: 
     }
 }
 
-/// The parts in this order.
+/// The parts of a sketch in this order.
 fn parts_in(alloc: Global, sketch: &Sketch, order: &[Placed]) -> Result<Vec<Part>, AllocError> {
     let mut parts = Vec::new(alloc);
     for (_, _, place) in order {
@@ -63,7 +61,8 @@ fn parts_in(alloc: Global, sketch: &Sketch, order: &[Placed]) -> Result<Vec<Part
     Ok(parts)
 }
 
-/// The index in this order of each of so many splitters.
+/// The index in this order of each of so many splitters of a sketch, by their numbers; the greatest number where it
+/// lacks one.
 fn splitters_in(
     alloc: Global,
     sketch: &Sketch,
@@ -77,38 +76,7 @@ fn splitters_in(
     Ok(splitters)
 }
 
-/// Whether the coordinates of a part are in range.
-fn is_in_range(part: &Part) -> bool
-    ensures { IsTrue result ↔ IsInRange part.now.cell }
-{
-    part.cell.x.unsigned_abs() <= MOST_COORDINATE && part.cell.y.unsigned_abs() <= MOST_COORDINATE
-}
-
-/// Whether the coordinates of all parts are in range.
-fn are_in_range(parts: &[Part]) -> bool
-    ensures { IsTrue result → AreInRange parts.now }
-{
-    for part in parts {
-        if !is_in_range(part) {
-            return false;
-        }
-    }
-    true
-}
-
-/// The parts on a grid, where no two share a cell.
-fn grid_of(alloc: Global, parts: Vec<Part>) -> Result<Option<Grid>, AllocError> {
-    if !are_in_range(&parts) {
-        return Ok(None);
-    }
-    match Grid::place(alloc, parts) {
-        Ok(grid) => Ok(Some(grid)),
-        Err(GridFault::Overlap(..)) => Ok(None),
-        Err(GridFault::Memory) => Err(AllocError),
-    }
-}
-
-/// The proposal of these parts, whose splitters have these indices.
+/// The proposal of these parts, whose splitters have these indices; none where the parts show no network.
 fn proposal_on(
     alloc: Global,
     request: &Request,

@@ -1,14 +1,11 @@
 //! Names of a layout's parts.
-ghost use Rattle.std.specs.Prelude.{◌↔◌, IsTrue};
-ghost use Rattle.bt_parts.specs.Cells.{IsInRange};
-ghost use Rattle.bt_parts.specs.Layouts.{AreInRange};
-
 use crate::graph::Nodes;
 use crate::matching::Pair;
+use crate::placed::grid_of;
 use bt_lays::Names;
 use bt_model::Request;
 use bt_net::End;
-use bt_parts::{Cell, Dir, MOST_COORDINATE, Part};
+use bt_parts::{Cell, Dir, Part};
 use bt_recover::{Grid, RecoverFault, Traced, recover};
 use hint_numbering::{Wanted, place_wanted};
 use std::alloc::{AllocError, Global};
@@ -48,7 +45,8 @@ fn side_of(part: &Part, kind: Kind) -> Dir {
     }
 }
 
-/// Whether a part stands where an end wants to, and looks as it is to.
+/// Whether the part of an end stands on the cell or at the side where the end is wanted, and looks in the wanted
+/// direction where one is named.
 fn stands(part: &Part, kind: Kind, wanted: Wanted) -> bool {
     match wanted {
         Wanted::Anywhere => true,
@@ -57,7 +55,7 @@ fn stands(part: &Part, kind: Kind, wanted: Wanted) -> bool {
     }
 }
 
-/// The number of an end, which fits.
+/// The place of an end in its list as its number, which fits.
 fn number_of(place: usize) -> u32 {
     u32::try_from(place).unwrap_or(u32::MAX)
 }
@@ -107,7 +105,7 @@ fn at_side(kind: Kind, side: Dir) -> u64 {
         .wrapping_add(code_of(side).wrapping_mul(16))
 }
 
-/// The part with an index in a list.
+/// The part whose index stands at a place of a list; none where there is no such.
 fn part_of<'a>(parts: &'a [Part], list: &[usize], place: usize) -> Option<&'a Part> {
     parts.get(list.get(place).copied()?)
 }
@@ -137,7 +135,7 @@ impl Naming<'_> {
         Ok(list)
     }
 
-    /// The parts of the layout's ends of a kind.
+    /// The indices of the parts at which the layout's ends of a kind stand.
     fn ends(&self, kind: Kind) -> &[usize] {
         match kind {
             Kind::Inputs => &self.own.inputs,
@@ -145,7 +143,8 @@ impl Naming<'_> {
         }
     }
 
-    /// Whether the part of an end of the layout suits one of the request.
+    /// Whether the layout's end with this node stands where the request wants its end with this number; both are of a
+    /// kind. False where the node is no end of the kind.
     fn suits_end(&self, kind: Kind, number: usize, node: usize) -> bool {
         let first = match kind {
             Kind::Inputs => self.found.input(0),
@@ -157,7 +156,8 @@ impl Naming<'_> {
         }
     }
 
-    /// Whether all ends of the layout suit those of the request.
+    /// Whether all ends of the layout suit those of the request, where `matched` has for each node of the request one
+    /// of the layout.
     fn suits(&self, matched: &[usize]) -> bool {
         for input in 0..self.asked.inputs {
             let node = matched.get(self.asked.input(input)).copied();
@@ -174,8 +174,8 @@ impl Naming<'_> {
         true
     }
 
-    /// The first colours of the layout's ends of a kind: by the cells that ends are pinned to, and where none may stand
-    /// anywhere, by their sides.
+    /// Adds the first colours of the layout's ends of a kind: by the cells that ends are pinned to, and where none may
+    /// stand anywhere, by their sides.
     fn add_ends(
         &self,
         colours: &mut Vec<u64>,
@@ -192,7 +192,8 @@ impl Naming<'_> {
         Ok(())
     }
 
-    /// The first colours: those of the three kinds of nodes, and for ends of where they are wanted.
+    /// The first colours of the request's nodes and then of the layout's: by their kinds, and of ends by where they are
+    /// wanted, or stand.
     fn colours(&self, alloc: Global) -> Result<Vec<u64>, AllocError> {
         let inputs = self.wanted(alloc, Kind::Inputs)?;
         let outputs = self.wanted(alloc, Kind::Outputs)?;
@@ -206,7 +207,7 @@ impl Naming<'_> {
         Ok(colours)
     }
 
-    /// For each node of the request's network one of the layout's.
+    /// For each node of the request's network one of the layout's, so that all ends suit; none where none are found.
     fn matched(&self, alloc: Global) -> Result<Option<Vec<usize>>, AllocError> {
         let mut joins = self.asked.joins(alloc, self.request.net())?;
         let others = self.found.joins(alloc, &self.own.net)?;
@@ -216,7 +217,8 @@ impl Naming<'_> {
         pair.matched(alloc, self.colours(alloc)?, |matched| self.suits(matched))
     }
 
-    /// The parts that bear the numbers from a node of the request's network on.
+    /// The parts that bear the numbers below `count` of inputs, outputs or splitters. `nodes` are the first node of
+    /// these in the request's network and that in the layout's, and `list` has the parts of the latter.
     fn names(
         &self,
         alloc: Global,
@@ -259,7 +261,8 @@ fn all_settled(wanted: &[Wanted]) -> bool {
     wanted.iter().all(|one| !matches!(one, Wanted::Anywhere))
 }
 
-/// The first colour of an end of the request.
+/// The first colour of an end of the request that is wanted there. `settled` says that each end of its kind is wanted
+/// on some cell or at some side.
 fn colour_wanted(kind: Kind, one: Wanted, settled: bool) -> u64 {
     match one {
         Wanted::On(cell, _) => on_cell(kind, cell),
@@ -268,7 +271,8 @@ fn colour_wanted(kind: Kind, one: Wanted, settled: bool) -> u64 {
     }
 }
 
-/// The first colour of an end of the layout.
+/// The first colour of an end of the layout, whose part this is: by its cell where one is wanted there, else by its
+/// side where each end of its kind is wanted on some cell or at some side.
 fn colour_found(kind: Kind, part: &Part, wanted: &[Wanted]) -> u64 {
     for one in wanted {
         if let Wanted::On(cell, _) = one {
@@ -284,7 +288,7 @@ fn colour_found(kind: Kind, part: &Part, wanted: &[Wanted]) -> u64 {
     }
 }
 
-/// The first colours of the request's ends of a kind.
+/// Adds the first colours of the request's ends of a kind.
 fn add_wanted(colours: &mut Vec<u64>, kind: Kind, wanted: &[Wanted]) -> Result<(), AllocError> {
     let settled = all_settled(wanted);
     for one in wanted {
@@ -293,31 +297,12 @@ fn add_wanted(colours: &mut Vec<u64>, kind: Kind, wanted: &[Wanted]) -> Result<(
     Ok(())
 }
 
-/// The first colours of so many splitters.
+/// Adds the first colours of so many splitters.
 fn add_splitters(colours: &mut Vec<u64>, count: usize) -> Result<(), AllocError> {
     for _ in 0..count {
         colours.push(SPLITTER)?;
     }
     Ok(())
-}
-
-/// Whether the coordinates of a part are in range.
-fn is_in_range(part: &Part) -> bool
-    ensures { IsTrue result ↔ IsInRange part.now.cell }
-{
-    part.cell.x.unsigned_abs() <= MOST_COORDINATE && part.cell.y.unsigned_abs() <= MOST_COORDINATE
-}
-
-/// Whether the coordinates of all parts are in range.
-fn are_in_range(parts: &[Part]) -> bool
-    ensures { IsTrue result → AreInRange parts.now }
-{
-    for part in parts {
-        if !is_in_range(part) {
-            return false;
-        }
-    }
-    true
 }
 
 /// Names of the parts by which they may lay the request, but for what its splitters prefer. None where there are none, or
@@ -327,10 +312,7 @@ pub fn name_parts(
     request: &Request,
     parts: &[Part],
 ) -> Result<Option<Names>, AllocError> {
-    if !are_in_range(parts) {
-        return Ok(None);
-    }
-    let Ok(grid) = Grid::place(alloc, Vec::from_slice(alloc, parts)?) else {
+    let Some(grid) = grid_of(alloc, Vec::from_slice(alloc, parts)?)? else {
         return Ok(None);
     };
     let Some(own) = own_of(alloc, &grid)? else {

@@ -1,14 +1,11 @@
 //! Strategies that propose layouts.
-use crate::framed::{find_framed, routed};
+use crate::framed::{MOST_ROUTED, find_framed, routed};
 use crate::naming::{Proposal, name_sketch};
 use bt_lays::lays;
 use bt_model::Request;
 use hint_placement::{Sketch, find_sketch, wants_rows};
 use hint_stages::find_stages;
 use std::alloc::{AllocError, Global};
-
-/// A router is asked only where edges times cells are at most so many: beyond, it takes a minute.
-const MOST_ROUTED: u64 = 1 << 23;
 
 /// Whether a router may be asked.
 fn may_route(request: &Request) -> bool {
@@ -39,8 +36,8 @@ fn does_lay(
     }
 }
 
-/// Parts with names that may lay a butterfly or a Benes network, in ascending order of y and then x of their cells, stage by
-/// stage, or, where a request wants ends in a row, another network by ranks. Else it says at once that it has none.
+/// Parts with names that may lay a butterfly or a Benes network, in ascending order of y and then x of their cells,
+/// stage by stage, or, where a request wants ends in a row, another network by ranks. None of all others.
 pub fn propose_stages(alloc: Global, request: &Request) -> Result<Option<Proposal>, AllocError> {
     let staged = find_stages(alloc, request)?;
     let proposal = proposal_of(alloc, request, staged)?;

@@ -4,10 +4,11 @@ use crate::network::{from, to};
 use bt_net::Edge;
 use std::alloc::{AllocError, Global};
 
-/// More than any distance.
+/// More than any distance: what stands for that of a splitter which no way joins to the ends.
 const NEVER: u32 = 1 << 20;
 
-/// The distance at a splitter, or 0 for the ends of the network.
+/// The distance at a splitter, `NEVER` where the list has none; 0 where none is named, which stands for the ends of the
+/// network.
 pub fn distance_at(distances: &[u32], splitter: Option<usize>) -> u32 {
     match splitter {
         Some(splitter) => distances.get(splitter).copied().unwrap_or(NEVER),
@@ -15,7 +16,8 @@ pub fn distance_at(distances: &[u32], splitter: Option<usize>) -> u32 {
     }
 }
 
-/// Makes the distance at a splitter one more than this one, where that is less.
+/// Lowers the distance at a splitter to one more than `before`, where that is less. Does nothing for the ends of the
+/// network.
 fn relax(distances: &mut [u32], splitter: Option<usize>, before: u32) {
     let Some(splitter) = splitter else {
         return;
@@ -25,7 +27,8 @@ fn relax(distances: &mut [u32], splitter: Option<usize>, before: u32) {
     }
 }
 
-/// How many splitters there are at least on the way from an input to the end of each splitter.
+/// For each splitter, how many splitters the shortest way from an input passes up to it, itself included; `NEVER` where
+/// none leads to it.
 pub fn from_inputs(
     alloc: Global,
     edges: &[Edge],
@@ -41,7 +44,8 @@ pub fn from_inputs(
     Ok(distances)
 }
 
-/// How many splitters there are at least on the way from the start of each splitter to an output.
+/// For each splitter, how many splitters the shortest way to an output passes from it on, itself included; `NEVER`
+/// where none leads there.
 pub fn to_outputs(alloc: Global, edges: &[Edge], splitters: usize) -> Result<Vec<u32>, AllocError> {
     let mut distances = vec![in alloc; NEVER; splitters]?;
     for _ in 0..splitters {

@@ -18,14 +18,14 @@ pub struct Named {
     pub splitters: Vec<usize>,
 }
 
-/// The inputs and the outputs of edges, in the order of these.
+/// The inputs and the outputs in the order of their edges. The place of each in its list, from 0 on, is its new number.
 #[derive(Drop)]
 struct Order {
     inputs: Vec<u32>,
     outputs: Vec<u32>,
 }
 
-/// The ends of edges in the order of these.
+/// The inputs and the outputs of edges, in the order of the edges.
 fn order_of(alloc: Global, edges: &[Edge]) -> Result<Order, AllocError> {
     let mut order = Order {
         inputs: Vec::new(alloc),
@@ -42,7 +42,7 @@ fn order_of(alloc: Global, edges: &[Edge]) -> Result<Order, AllocError> {
     Ok(order)
 }
 
-/// The place of a number in a list, or 0.
+/// The place of a number in a list, from 0 on; 0 too where the list lacks it.
 fn place_of(list: &[u32], number: u32) -> u32 {
     let mut place = 0u32;
     for other in list {
@@ -55,17 +55,17 @@ fn place_of(list: &[u32], number: u32) -> u32 {
 }
 
 impl Order {
-    /// The number of an input.
+    /// The new number of an input.
     fn input(&self, input: u32) -> u32 {
         place_of(&self.inputs, input)
     }
 
-    /// The number of an output.
+    /// The new number of an output.
     fn output(&self, output: u32) -> u32 {
         place_of(&self.outputs, output)
     }
 
-    /// An end with its number.
+    /// An end with its new number.
     fn end(&self, end: End) -> End {
         match end {
             End::Input(input) => End::Input(self.input(input)),
@@ -73,7 +73,7 @@ impl Order {
         }
     }
 
-    /// The ends of a side with their numbers.
+    /// The ends of a side with their new numbers.
     fn ends(&self, ends: Ends) -> Ends {
         match ends {
             Ends::One(end) => Ends::One(self.end(end)),
@@ -82,7 +82,7 @@ impl Order {
         }
     }
 
-    /// A demand of ends with their numbers.
+    /// A demand with the new numbers of the ends that it names.
     fn demand(&self, demand: Demand) -> Demand {
         match demand {
             Demand::Pin(pin) => Demand::Pin(Pin {
@@ -104,7 +104,7 @@ fn push_text(text: &mut Vec<u8>, piece: &str) -> Result<(), AllocError> {
     Ok(())
 }
 
-/// Adds where an edge starts.
+/// Adds the beginning of an edge's line to the text: the word `edge`, and where the edge starts.
 fn push_start(
     alloc: Global,
     text: &mut Vec<u8>,
@@ -118,7 +118,7 @@ fn push_start(
     push_text(text, &piece)
 }
 
-/// Adds where an edge ends.
+/// Adds the rest of an edge's line to the text: where the edge ends.
 fn push_target(
     alloc: Global,
     text: &mut Vec<u8>,
@@ -132,7 +132,8 @@ fn push_target(
     push_text(text, &piece)
 }
 
-/// The text of the network with these edges and so many splitters.
+/// The text of the network with these edges and so many splitters, in which ends have the numbers of `order` and edges
+/// have no caps.
 fn text_of(
     alloc: Global,
     splitters: u32,
@@ -153,7 +154,8 @@ fn text_of(
     Ok(text)
 }
 
-/// The network with these edges and so many splitters. It is read from a text, so that nobody has to know that it is one.
+/// The network with these edges and so many splitters. It is read from a text, so that the reader shows that it is one;
+/// none where it isn't.
 fn net_of(
     alloc: Global,
     splitters: u32,
@@ -168,7 +170,8 @@ fn net_of(
     }
 }
 
-/// A number of a demand by the ends that it names.
+/// The rank of a demand by the ends that it names: a side of all inputs, of all outputs, a row of inputs, of outputs,
+/// and then single ends by their numbers.
 fn rank_of(demand: Demand) -> u64 {
     let ends = match demand {
         Demand::Pin(pin) => Ends::One(pin.end),
@@ -188,7 +191,7 @@ fn rank_of(demand: Demand) -> u64 {
     }
 }
 
-/// The demands of a request by the numbers of the ends.
+/// The demands of a request with the new numbers of their ends, in the order of their ranks.
 fn demands_of(alloc: Global, request: &Request, order: &Order) -> Result<Vec<Demand>, AllocError> {
     let mut keyed = Vec::new(alloc);
     for (place, demand) in request.demands().iter().enumerate() {
@@ -212,7 +215,8 @@ fn is_grid(rect: Rect) -> bool
     width >= 1 && width <= MOST_ACROSS && height >= 1 && height <= MOST_ACROSS
 }
 
-/// The request for this network in a rectangle, where there is one.
+/// The request for this network and these demands in a rectangle, with the tier and the blocks of another request. None
+/// where no request may have the rectangle, or pins or blocks don't lie in it.
 fn request_of(
     alloc: Global,
     request: &Request,
@@ -230,8 +234,8 @@ fn request_of(
     }
 }
 
-/// The request in this rectangle, where splitters, edges and ends have numbers by the structure of the network. None where
-/// pins or blocks don't lie in the rectangle.
+/// The request in this rectangle, where splitters, edges and ends have numbers by the structure of the network. None
+/// where no request may have the rectangle, or pins or blocks don't lie in it.
 pub fn name_by_structure(
     alloc: Global,
     request: &Request,
@@ -249,7 +253,8 @@ pub fn name_by_structure(
     }
 }
 
-/// The edges of a network of which one is opened, to an output and an input more.
+/// The edges of a network of which the one at a place is opened: it leads to a new output, and another edge leads from
+/// a new input to where it led.
 fn opened_edges(alloc: Global, net: &Net, place: usize) -> Result<Vec<Edge>, AllocError> {
     let mut edges = Vec::new(alloc);
     for (other, edge) in net.edges().iter().enumerate() {
@@ -273,7 +278,8 @@ fn opened_edges(alloc: Global, net: &Net, place: usize) -> Result<Vec<Edge>, All
     Ok(edges)
 }
 
-/// The request in this rectangle whose network has the edge at a place opened, of whose ends nothing is asked.
+/// The request in this rectangle, without demands, for the network whose edge at a place is opened to a new output and
+/// a new input. None where no request may have the rectangle, or blocks don't lie in it.
 pub fn open_edge(
     alloc: Global,
     request: &Request,
@@ -289,7 +295,7 @@ pub fn open_edge(
 }
 
 impl Named {
-    /// The number of a splitter in the network of the first request.
+    /// The number in the network of the first request of a splitter that has this one here.
     pub fn first_number(&self, splitter: usize) -> usize {
         self.splitters.get(splitter).copied().unwrap_or(splitter)
     }

@@ -1,7 +1,7 @@
 //! The ends of the edges of a network.
 use bt_net::{Edge, Start, Target};
 
-/// The splitter that an edge leaves.
+/// The splitter that an edge leaves; none where it comes from an input.
 pub fn from(edge: &Edge) -> Option<usize> {
     match edge.start {
         Start::Split(splitter) => Some(splitter as usize),
@@ -9,7 +9,7 @@ pub fn from(edge: &Edge) -> Option<usize> {
     }
 }
 
-/// The splitter into which an edge goes.
+/// The splitter into which an edge goes; none where it goes to an output.
 pub fn to(edge: &Edge) -> Option<usize> {
     match edge.target {
         Target::Split(splitter) => Some(splitter as usize),

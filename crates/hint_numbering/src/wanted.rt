@@ -1,5 +1,5 @@
 //! Where a request wants an end to stand.
-use bt_model::{Request, ends_of, names};
+use bt_model::{MOST_ACROSS, Request, ends_of, names};
 use bt_net::{Demand, End, Ends, Pin};
 use bt_parts::{Cell, Dir, Rect};
 
@@ -14,7 +14,7 @@ pub enum Wanted {
     At(Dir),
 }
 
-/// The cell in this column and row of a rectangle, where there is one.
+/// The cell in this column and row of a rectangle, from 0 on; none where it lies outside.
 fn cell_in(rect: Rect, x: u32, y: u32) -> Option<Cell> {
     let mut cell = Cell { x: 0, y: 0 };
     if x >= rect.width || y >= rect.height {
@@ -29,7 +29,7 @@ fn cell_in(rect: Rect, x: u32, y: u32) -> Option<Cell> {
     Some(cell)
 }
 
-/// Where a pin wants its end to stand.
+/// Where a pin wants its end to stand: anywhere where its cell lies outside the rectangle.
 fn wanted_by(rect: Rect, pin: &Pin) -> Wanted {
     match cell_in(rect, pin.x, pin.y) {
         Some(cell) => Wanted::On(cell, pin.dir),
@@ -37,7 +37,8 @@ fn wanted_by(rect: Rect, pin: &Pin) -> Wanted {
     }
 }
 
-/// Where a demand wants the ends that it names to stand.
+/// Where a demand wants each of the ends that it names to stand: anywhere where it is a row, which says so of none by
+/// itself.
 fn wanted_of(rect: Rect, demand: &Demand) -> Wanted {
     match demand {
         Demand::Pin(pin) => wanted_by(rect, pin),
@@ -54,7 +55,7 @@ fn names_end(demand: Demand, end: End) -> bool {
     }
 }
 
-/// Where a request wants this end to stand.
+/// Where a request wants this end to stand: anywhere where no pin and no side names it.
 pub fn place_wanted(request: &Request, end: End) -> Wanted {
     for demand in request.demands() {
         if names_end(*demand, end) {
@@ -64,7 +65,8 @@ pub fn place_wanted(request: &Request, end: End) -> Wanted {
     Wanted::Anywhere
 }
 
-/// Whether a demand wants inputs in the south or outputs in the north.
+/// Whether a demand lets inputs stand in the south and outputs in the north: a side that says so, or a row, which names
+/// no side. A pin doesn't count as one that does.
 fn is_upright(demand: &Demand) -> bool {
     let side = match demand {
         Demand::Pin(_) => return false,
@@ -77,8 +79,8 @@ fn is_upright(demand: &Demand) -> bool {
     }
 }
 
-/// Whether all may go to the north: a request says of no end where it is to stand, or of inputs in the south and of outputs
-/// in the north alone.
+/// Whether all may go to the north: a request pins no end, and names no sides but the south for inputs and the north
+/// for outputs.
 pub fn goes_north(request: &Request) -> bool {
     for demand in request.demands() {
         if !is_upright(demand) {
@@ -88,7 +90,7 @@ pub fn goes_north(request: &Request) -> bool {
     true
 }
 
-/// The cells on which a request wants no part.
+/// Whether a request wants no part on this cell.
 pub fn is_blocked(request: &Request, cell: Cell) -> bool {
     for block in request.blocks() {
         if cell.x.unsigned_abs() == block.x && cell.y.unsigned_abs() == block.y {
@@ -98,24 +100,24 @@ pub fn is_blocked(request: &Request, cell: Cell) -> bool {
     false
 }
 
-/// A number of where an end is to stand: the same for ends of which the same is wanted.
+/// The colour of an end by where it is to stand: the same just where the same is wanted.
 pub fn colour(wanted: Wanted) -> u64 {
     match wanted {
         Wanted::Anywhere => 1,
         Wanted::On(cell, dir) => {
-            let row = u64::from(cell.y.unsigned_abs()).wrapping_mul(64);
+            let row = u64::from(cell.y.unsigned_abs()).wrapping_mul(u64::from(MOST_ACROSS));
             let place = row.wrapping_add(u64::from(cell.x.unsigned_abs()));
             place
                 .wrapping_mul(8)
-                .wrapping_add(turn(dir))
+                .wrapping_add(dir_number(dir))
                 .wrapping_add(16)
         }
-        Wanted::At(dir) => turn(Some(dir)).wrapping_add(8),
+        Wanted::At(dir) => dir_number(Some(dir)).wrapping_add(8),
     }
 }
 
-/// A number of a direction, where one is named.
-fn turn(dir: Option<Dir>) -> u64 {
+/// The number of a direction, from 1 on; 0 where none is named.
+fn dir_number(dir: Option<Dir>) -> u64 {
     match dir {
         None => 0,
         Some(Dir::North) => 1,

@@ -11,7 +11,7 @@ const EXCHANGES: usize = 4;
 /// How far a splitter is moved at most.
 const FURTHEST: usize = 2;
 
-/// Whether a splitter can stand so beside the others.
+/// Whether a splitter can stand so: inside, on no block, and on no cell of another one.
 fn is_free(request: &Request, stands: &[Stand], splitter: usize, stand: Stand) -> bool {
     for (number, other) in stands.iter().enumerate() {
         if number != splitter && stand.overlaps(other) {
@@ -21,7 +21,7 @@ fn is_free(request: &Request, stands: &[Stand], splitter: usize, stand: Stand) -
     stand.is_within(request)
 }
 
-/// A stand that is moved by chance.
+/// A stand that is moved one or two cells by chance; it looks as before.
 fn shifted(stand: Stand, random: &mut Random) -> Stand {
     let Stand { mut cell, dir } = stand;
     let turn = random.below(DIRS.len());
@@ -34,7 +34,7 @@ fn shifted(stand: Stand, random: &mut Random) -> Stand {
     Stand { cell, dir }
 }
 
-/// Moves a splitter, where there is room.
+/// Moves a splitter by chance, where there is room.
 fn shift(request: &Request, stands: &mut [Stand], splitter: usize, random: &mut Random) {
     let Some(stand) = stands.get(splitter) else {
         return;
@@ -47,7 +47,7 @@ fn shift(request: &Request, stands: &mut [Stand], splitter: usize, random: &mut 
     }
 }
 
-/// The stands, of which one is moved or two are exchanged.
+/// The stands, of which by chance two are exchanged, or one is moved where there is room.
 pub fn moved(
     alloc: Global,
     request: &Request,

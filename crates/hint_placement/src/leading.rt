@@ -74,7 +74,8 @@ fn quarters(number: u32, count: u32) -> u32 {
 const SMALL: u32 = 256;
 
 impl BlockSeat {
-    /// The first cell of a block here, where the rectangle isn't small and has room round the block.
+    /// The north-western cell of a block on this seat; none where the rectangle is small or has no room round the
+    /// block.
     pub fn first_cell(self, rect: Rect, block: Rect) -> Option<Cell> {
         let wide = rect.width.checked_sub(block.width)?;
         let high = rect.height.checked_sub(block.height)?;
@@ -86,7 +87,7 @@ impl BlockSeat {
     }
 }
 
-/// The stands of a plan's splitters, each at its number.
+/// The stands of a plan's splitters, each at its number; those that the plan lacks stand far outside.
 fn stands_of(alloc: Global, sketch: &Sketch, count: usize) -> Result<Vec<Stand>, AllocError> {
     let nowhere = Stand {
         cell: Cell { x: -8, y: -8 },
@@ -132,7 +133,8 @@ fn outer_edges(alloc: Global, request: &Request, loops: &[Edge]) -> Result<Vec<E
     Ok(edges)
 }
 
-/// Chains for the edges outside a block of stages that begins with this cell, where the router finds some.
+/// Chains for the edges outside a block of stages that begins with this cell; none where the router doesn't settle
+/// them.
 pub fn lead_round(
     alloc: Global,
     request: &Request,

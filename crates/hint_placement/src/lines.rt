@@ -11,12 +11,12 @@ pub struct View {
     pub dir: Dir,
 }
 
-/// The last of so many.
+/// The last of so many, from 0 on.
 fn last(count: u32) -> usize {
     (count as usize).saturating_sub(1)
 }
 
-/// The cell so many steps from the corner to the east and to the south.
+/// The cell so many steps from the north-western corner to the east and to the south.
 fn cell_at(x: usize, y: usize) -> Cell {
     let mut cell = Cell { x: 0, y: 0 };
     for _ in 0..x {
@@ -47,7 +47,8 @@ impl View {
         }
     }
 
-    /// The cell at a place of a line.
+    /// The cell at a place of a line: places count from the west or the north on, lines from the furthest on, both from
+    /// 0.
     pub fn cell(&self, place: usize, line: usize) -> Cell {
         match self.dir {
             Dir::North => cell_at(place, line),
@@ -57,8 +58,8 @@ impl View {
         }
     }
 
-    /// The line on which the splitters of one of so many rows stand: between the first and the last rows they are spread
-    /// evenly, with a line for belts before and behind all of them where there is room.
+    /// The line on which the splitters of one of so many rows stand: the rows are spread evenly from the first line to
+    /// the last, with a line for belts before and behind all of them where there is room. A row alone is in the middle.
     pub fn line_of(&self, row: usize, rows: usize) -> usize {
         let along = self.along();
         if rows < 2 {
@@ -68,6 +69,7 @@ impl View {
         let is_tight = rows > along.saturating_sub(2);
         let first = if is_tight { 0 } else { 1 };
         let span = along.saturating_sub(if is_tight { 1 } else { 3 });
+        // The nearest line to first + span * row / gaps.
         let double = span.saturating_mul(row).saturating_mul(2);
         first + double.saturating_add(gaps) / gaps.saturating_mul(2).max(1)
     }

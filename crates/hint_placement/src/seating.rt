@@ -13,10 +13,10 @@ const MOVES_EACH: usize = 600;
 /// The most moves.
 const MOST_MOVES: usize = 200_000;
 
-/// An edge that leads back goes round both of its splitters.
+/// What an edge costs more that leads back, since it goes round both of its splitters.
 const BACK: usize = 8;
 
-/// Seats that lie so many places and lines apart.
+/// Seats in so many columns and lines, which are spread evenly over a rectangle.
 #[derive(Clone, Copy)]
 pub struct Seats {
     view: View,
@@ -77,7 +77,8 @@ impl Seats {
     }
 }
 
-/// What an edge costs from one seat to another, and against the view.
+/// What an edge costs from one seat to another: its way across and along, and more where it doesn't lead on in the
+/// view.
 fn way(start: Seat, target: Seat) -> usize {
     let across = start.place.abs_diff(target.place);
     let along = start.line.abs_diff(target.line);
@@ -89,7 +90,7 @@ fn way(start: Seat, target: Seat) -> usize {
     }
 }
 
-/// How far a place lies from those of a span.
+/// How far a place lies from those of a span; 0 where there is none.
 fn beside(span: Option<Span>, place: usize) -> usize {
     let Some(span) = span else {
         return 0;
@@ -126,7 +127,7 @@ impl Seating<'_> {
         self.seats.seat(number)
     }
 
-    /// What an edge costs.
+    /// What an edge costs: its way between seats, or from a seat to the border or the span where its end stands.
     fn cost(&self, edge: &Edge) -> usize {
         let last = self.seats.view.along();
         match (edge.start, edge.target) {
@@ -185,7 +186,7 @@ impl Seating<'_> {
         self.cost_at(one).saturating_add(self.cost_at(other))
     }
 
-    /// Exchanges two seats, unless it costs more than this.
+    /// Exchanges those who sit on two seats, unless their edges then cost more than `more` above what they did.
     fn exchange(&mut self, one: usize, other: usize, more: usize) {
         let (first, second) = (self.who(one), self.who(other));
         let before = self.cost_of(first, second);
@@ -198,7 +199,7 @@ impl Seating<'_> {
         }
     }
 
-    /// Makes moves by chance; those at the end make nothing dearer.
+    /// Makes exchanges by chance. What one may cost more gets less and less, and is nothing at the end.
     fn settle(&mut self, random: &mut Random) {
         let (splitters, seats) = (self.taken.len(), self.seats.count());
         let moves = splitters.saturating_mul(MOVES_EACH).min(MOST_MOVES);
@@ -239,7 +240,7 @@ fn joined_edges(
     Ok(joined)
 }
 
-/// The first so many of so many seats are taken.
+/// Who sits on so many seats at first: each splitter on the seat of its number.
 fn first_sitting(
     alloc: Global,
     splitters: usize,
@@ -252,7 +253,7 @@ fn first_sitting(
     Ok(sitting)
 }
 
-/// The stands of so many splitters on seats, by a number of chance.
+/// The stands of so many splitters on seats, after exchanges by chance from this seed.
 pub fn seated(
     alloc: Global,
     edges: &[Edge],

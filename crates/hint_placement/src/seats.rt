@@ -6,7 +6,7 @@ use bt_random::Random;
 use hint_routing::Stand;
 use std::alloc::{AllocError, Global};
 
-/// What a line costs, as so many places of a line.
+/// To be a line away from a seat counts as much as to be so many places away.
 const LINE_COST: usize = 3;
 
 /// Where a splitter should stand: the place of its first half in a line.
@@ -24,7 +24,7 @@ fn stand_at(view: View, place: usize, line: usize) -> Stand {
     }
 }
 
-/// Whether a splitter can stand so beside the others.
+/// Whether a splitter can stand so: inside, on no block, and on no cell of another one.
 fn is_free(request: &Request, stands: &[Option<Stand>], stand: Stand) -> bool {
     for other in stands {
         if let Some(other) = other {
@@ -36,7 +36,7 @@ fn is_free(request: &Request, stands: &[Option<Stand>], stand: Stand) -> bool {
     stand.is_within(request)
 }
 
-/// How far a place of a line is from a seat.
+/// How far a place of a line is from a seat, in places: a line counts as `LINE_COST` of them.
 fn distance(seat: Seat, place: usize, line: usize) -> usize {
     let lines = seat.line.abs_diff(line);
     lines
@@ -44,7 +44,7 @@ fn distance(seat: Seat, place: usize, line: usize) -> usize {
         .saturating_add(seat.place.abs_diff(place))
 }
 
-/// The nearest stand to a seat that is free.
+/// The free stand that is nearest to a seat; none where no stand is free.
 fn nearest(request: &Request, view: View, stands: &[Option<Stand>], seat: Seat) -> Option<Stand> {
     let mut best: Option<(usize, Stand)> = None;
     for line in 0..view.along() {
@@ -66,7 +66,7 @@ fn nearest(request: &Request, view: View, stands: &[Option<Stand>], seat: Seat) 
     }
 }
 
-/// The place of one of so many splitters in a line of so many cells.
+/// The place of the first half of one of so many splitters, which are spread evenly over a line of so many cells.
 fn place_of(number: usize, count: usize, across: usize) -> usize {
     let double = number.saturating_mul(2).saturating_add(1);
     let middle = across.saturating_mul(double) / count.saturating_mul(2).max(1);
@@ -149,7 +149,7 @@ fn place_rows(
     true
 }
 
-/// The stands that are there.
+/// The stands of a list without the gaps.
 fn all_of(alloc: Global, stands: &[Option<Stand>]) -> Result<Vec<Stand>, AllocError> {
     let mut all = Vec::new(alloc);
     for stand in stands {

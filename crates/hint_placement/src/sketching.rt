@@ -34,15 +34,15 @@ const EFFORT: Effort = Effort {
     trial: usize::MAX,
 };
 
-/// How long they do in a rectangle that isn't narrow, where most placings are tried in vain.
+/// How long they negotiate in a rectangle of more cells than `NARROW`, where most placings are tried in vain.
 const WIDE_EFFORT: Effort = Effort {
     rounds: 50,
     patience: 8,
     trial: 7,
 };
 
-/// In such a rectangle no more than so many placings are tried, and none is moved, where at best more than so small a part as
-/// the second says of all edges shared a claim: of placings that were found later the best of the first four came to less.
+/// In such a rectangle no more than so many placings are tried, and none is moved, where at best more claims were
+/// shared than one for every `WIDE_PART` edges: where a plan was found later the best of the first four came to less.
 const WIDE_TRIALS: usize = 4;
 
 const WIDE_PART: usize = 20;
@@ -50,8 +50,8 @@ const WIDE_PART: usize = 20;
 /// The state of the generator that moves splitters.
 const FIRST_STATE: u64 = 5;
 
-/// A plan is looked for only where there are so many cells for each splitter; in rectangles that aren't narrow none was found
-/// with less than the second.
+/// A plan is looked for only where there are so many cells for each splitter; in rectangles of more cells than `NARROW`
+/// none was found with less than `WIDE_ROOM`.
 const LEAST_ROOM: u64 = 8;
 
 const WIDE_ROOM: u64 = 20;
@@ -59,7 +59,8 @@ const WIDE_ROOM: u64 = 20;
 /// How many percent more seats there are than splitters, by turns.
 const SPARE: [usize; 3] = [30, 0, 70];
 
-/// The same in a rectangle that isn't narrow: where room is scarce there, nearly all that settle have none more.
+/// The same in a rectangle of more cells than `NARROW`: where room is scarce there, nearly all placings that settle
+/// have no more seats than splitters.
 const WIDE_SPARE: [usize; 2] = [30, 0];
 
 /// A plan of a layout.
@@ -165,7 +166,8 @@ struct Progress {
     placing: Placing,
 }
 
-/// The plan in which the splitters stand so, where no chains share a claim. Else they may be the best so far.
+/// The plan in which the splitters stand so, where no chains share a claim. Else the placing is the best so far where
+/// no more claims are shared than at best before.
 fn sketch_with(
     alloc: Global,
     request: &Request,
@@ -226,7 +228,7 @@ fn order_of(orders: &[Rows], seed: usize) -> Option<&Rows> {
     orders.get((seed / 4) % orders.len().max(1))
 }
 
-/// Where splitters are placed by ranks for a seed, where there is room.
+/// The placing of a seed that puts splitters on lines by their ranks; none where there is no room.
 fn placed_by_ranks(
     alloc: Global,
     request: &Request,
@@ -247,7 +249,7 @@ fn placed_by_ranks(
     }
 }
 
-/// The side of the least square of so many cells.
+/// The side of the least square of at least so many cells.
 fn side_of(cells: usize) -> usize {
     let mut side = 1usize;
     for _ in 0..MOST_ACROSS {
@@ -267,7 +269,8 @@ fn spare_of(is_wide: bool, seed: usize) -> (usize, usize) {
     (spare, seed / count)
 }
 
-/// The seats of a seed: in about as many lines as make them as far apart both ways, or some more or fewer.
+/// The seats of a seed, with what `spare_of` tells of it: in about as many lines as make them as far apart both ways,
+/// or one or two more or fewer. None where they don't fit.
 fn seats_of(view: View, splitters: usize, spare: (usize, usize)) -> Option<Seats> {
     let (spare, before) = spare;
     let high = splitters.saturating_mul(view.along()) / view.across().max(1);
@@ -281,7 +284,7 @@ fn seats_of(view: View, splitters: usize, spare: (usize, usize)) -> Option<Seats
     Seats::new(view, splitters, lines, spare)
 }
 
-/// Where splitters are placed on seats for a seed, where there are some.
+/// The placing of a seed that puts splitters on seats; none where so many seats don't fit in the rectangle.
 fn placed_on_seats(
     alloc: Global,
     request: &Request,
@@ -306,7 +309,7 @@ fn cells_of(request: &Request) -> u32 {
     rect.width.saturating_mul(rect.height)
 }
 
-/// Whether splitters are placed on seats alone.
+/// Whether a rectangle has more cells than `NARROW`, so that splitters are placed on seats alone.
 fn is_wide(request: &Request) -> bool {
     cells_of(request) > NARROW
 }
@@ -340,12 +343,13 @@ fn chains_of(request: &Request) -> u32 {
     }
 }
 
-/// Whether splitters are placed on seats: where a request asks for ends in a row, or the rectangle isn't small.
+/// Whether splitters are placed on seats for some seeds or all: where a request asks for ends in a row, or the
+/// rectangle isn't small.
 fn may_be_seated(request: &Request) -> bool {
     cells_of(request) > SMALL || wants_rows(request)
 }
 
-/// Where splitters are placed for a seed, where there is room.
+/// The placing of a seed, by ranks or on seats; none where there is no room.
 fn placed(
     alloc: Global,
     request: &Request,
@@ -380,7 +384,8 @@ fn sketch_by(
     }
 }
 
-/// A plan by the first seed that comes to one.
+/// A plan by the first seed that comes to one; none where more seeds are in vain, or would take chains that are kept
+/// for moves.
 fn sketch_by_seeds(
     alloc: Global,
     request: &Request,
@@ -441,7 +446,7 @@ fn climbing_of(request: &Request, chains: u32) -> u32 {
     }
 }
 
-/// Before any splitters are placed.
+/// The progress before any splitters are placed.
 fn first_progress(alloc: Global, request: &Request) -> Progress {
     let chains = chains_of(request);
     Progress {
@@ -484,7 +489,7 @@ fn has_room(request: &Request) -> bool {
     u64::from(cells) >= u64::from(request.net().splitters()).saturating_mul(room)
 }
 
-/// A plan of a layout of a request, where one is found.
+/// A plan of a layout of a request, where one is found: none is looked for where there is hardly room.
 pub fn find_sketch(alloc: Global, request: &Request) -> Result<Option<Sketch>, AllocError> {
     if !has_room(request) {
         return Ok(None);

@@ -79,7 +79,7 @@ fn side_of(request: &Request, kind: EndKind, otherwise: Dir) -> Option<Dir> {
     Some(side)
 }
 
-/// The cell at a place of a side.
+/// The cell at a place of a side, from 0 in the west or the north.
 fn cell_at(rect: Rect, side: Dir, place: u32) -> Cell {
     let (mut cell, along) = match side {
         Dir::North | Dir::West => (Cell { x: 0, y: 0 }, 0),
@@ -110,7 +110,8 @@ fn place_in(room: u32, random: &mut Random, seed: usize) -> u32 {
     (chance as u32).min(room)
 }
 
-/// Where the ends of this kind stand side by side, where a request wants them in a row and there is room.
+/// Where the ends of this kind stand side by side, where a request wants them in a row and there is room: at the side
+/// `otherwise` where none is asked.
 fn span_of(
     request: &Request,
     kind: EndKind,
@@ -139,7 +140,8 @@ fn span_of(
     })
 }
 
-/// Where ends stand side by side that a request wants in a row, seen so.
+/// Where ends stand side by side that a request wants in a row: where no side is asked, outputs ahead in the view and
+/// inputs behind; in the middle of a side, or by chance where the seed isn't 0.
 pub fn spans_of(request: &Request, view: View, seed: usize) -> Spans {
     let mut random = Random::new(seed as u64);
     let (inputs, outputs) = (EndKind::Inputs, EndKind::Outputs);

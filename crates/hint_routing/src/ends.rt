@@ -13,7 +13,7 @@ use std::alloc::{AllocError, Global};
 #[derive(Clone, Copy)]
 pub struct Beginning {
     pub pose: Pose,
-    /// Whether its first part keeps the direction.
+    /// Whether its first part has to keep the direction.
     pub is_straight: bool,
     /// What it claims beside its cells: the half that it leaves, and the cell in front of an unused half.
     pub half: Option<Claim>,
@@ -61,7 +61,7 @@ pub struct Field<'a> {
     pub poses: &'a [Pose],
 }
 
-/// The cell from which a chain comes in a pose.
+/// The cell from which a chain comes that is in a pose.
 fn back(pose: Pose) -> Cell {
     pose.cell.next(pose.dir.opposite())
 }
@@ -71,7 +71,7 @@ fn comes_across(rect: Rect, side: Dir, pose: Pose) -> bool {
     side == pose.dir.opposite() && !inside(&rect, back(pose))
 }
 
-/// How an input may begin in a pose.
+/// How an input that is wanted there may begin in a pose; none where it may not.
 fn beginning_of(rect: Rect, wanted: Wanted, pose: Pose) -> Option<Beginning> {
     let (may_begin, is_straight) = match wanted {
         Wanted::Anywhere => (!inside(&rect, back(pose)), false),
@@ -91,7 +91,7 @@ fn beginning_of(rect: Rect, wanted: Wanted, pose: Pose) -> Option<Beginning> {
     }
 }
 
-/// Adds where an input may begin on a span.
+/// Adds the poses in which an input may begin on a span.
 fn push_span(beginnings: &mut Vec<Beginning>, field: Field, span: Span) -> Result<(), AllocError> {
     for pose in field.poses {
         if span.has(*pose) && inside(&field.rect, pose.cell) {
@@ -106,7 +106,7 @@ fn push_span(beginnings: &mut Vec<Beginning>, field: Field, span: Span) -> Resul
     Ok(())
 }
 
-/// Adds where an input may begin.
+/// Adds the poses in which an input may begin that is wanted there.
 fn push_inputs(
     beginnings: &mut Vec<Beginning>,
     field: Field,
@@ -120,7 +120,8 @@ fn push_inputs(
     Ok(())
 }
 
-/// Adds that a chain may leave a half of a splitter. Where it is the only one, the cell in front of the other half stays empty.
+/// Adds that a chain may leave the first of a splitter's halves, where the cell in front of it lies in the rectangle.
+/// Where the chain is the only one, the cell in front of the other half stays empty.
 fn push_half(
     beginnings: &mut Vec<Beginning>,
     rect: Rect,
@@ -150,7 +151,7 @@ fn push_half(
     Ok(())
 }
 
-/// Adds where a chain may leave a splitter.
+/// Adds that a chain may leave either half of a splitter, as the only one or not.
 fn push_halves(
     beginnings: &mut Vec<Beginning>,
     rect: Rect,
@@ -162,7 +163,7 @@ fn push_halves(
     push_half(beginnings, rect, stand, (second, first), is_only)
 }
 
-/// Where a chain may leave a splitter, where there is one.
+/// How a chain may begin that leaves a splitter; in no way where it stands nowhere.
 fn half_beginnings(
     alloc: Global,
     rect: Rect,
@@ -195,7 +196,7 @@ fn free_where(may_end: bool) -> Ending {
     if may_end { Ending::Free } else { Ending::Never }
 }
 
-/// Whether a chain may come into a splitter in a pose.
+/// How a chain may end in a pose at a splitter: only by coming into one of the halves.
 fn into_half(stand: Stand, pose: Pose) -> Ending {
     if pose.dir == stand.dir && stand.covers(pose.cell) {
         Ending::Into(pose.cell)
@@ -215,7 +216,7 @@ fn steps_between(one: Cell, other: Cell) -> u64 {
 }
 
 impl Endings {
-    /// Whether a chain may end in a pose.
+    /// Whether a chain may end in a pose, and what it claims there.
     pub fn at(self, pose: Pose) -> Ending {
         match self {
             Endings::Nowhere => Ending::Never,
@@ -225,7 +226,7 @@ impl Endings {
         }
     }
 
-    /// How many cells a chain has at least to go from a cell on until it may end.
+    /// How many cells a chain has at least to go from a cell on until it may end: for a border, 0.
     pub fn distance(self, cell: Cell) -> u64 {
         match self {
             Endings::Nowhere | Endings::Border(..) => 0,
@@ -235,7 +236,7 @@ impl Endings {
     }
 }
 
-/// Where an input may begin.
+/// How an input may begin: on a span where there is one, else where the request wants it.
 fn input_beginnings(
     alloc: Global,
     request: &Request,

@@ -39,7 +39,8 @@ pub struct Chain {
     pub claims: Vec<usize>,
 }
 
-/// Where a search is to come, and what a step there costs at least: 0 where the search doesn't look for it.
+/// Where a search is to come, and what each cell on the way there costs at least: 0 where the search doesn't look
+/// ahead.
 #[derive(Clone, Copy)]
 struct Aim {
     endings: Endings,
@@ -58,7 +59,7 @@ impl Aim {
         Aim { endings, price }
     }
 
-    /// What a chain costs at least from a cell on.
+    /// What a chain costs at least from a cell on to where it may end.
     fn rest(self, cell: Cell) -> u64 {
         self.price.saturating_mul(self.endings.distance(cell))
     }
@@ -70,8 +71,8 @@ struct Search {
     rect: Rect,
     aim: Aim,
     labels: Vec<Label>,
-    /// The poses that are to be gone on from: the greatest number less what a chain through it costs at least, and the pose's
-    /// number.
+    /// The poses that are to be gone on from: `u64::MAX` less what a chain through it costs at least, since the heap
+    /// gives the greatest first, and the pose's number.
     heap: BinaryHeap<(u64, usize)>,
     /// What the cheapest whole chain so far costs, and the number of the pose where it ends.
     best: Option<(u64, usize)>,
@@ -81,7 +82,7 @@ struct Search {
 const MOST_TURNS: u32 = 1 << 16;
 
 impl Search {
-    /// A search that has come to no pose of so many.
+    /// A search that has come to none of so many poses.
     fn new(alloc: Global, rect: Rect, aim: Aim, count: usize) -> Result<Search, AllocError> {
         let label = Label {
             cost: u64::MAX,
@@ -96,7 +97,8 @@ impl Search {
         })
     }
 
-    /// What it costs to come to the pose of this number.
+    /// What it costs to come to the pose of this number: `u64::MAX` where no way is known, and 0 where there is no such
+    /// pose, so that none is looked for.
     fn cost(&self, number: usize) -> u64 {
         match self.labels.get(number) {
             Some(label) => label.cost,
@@ -127,7 +129,7 @@ impl Search {
     }
 }
 
-/// What a claim costs where there is one, and nothing else.
+/// What a claim costs, where one is named, else 0; none where it can't be had.
 fn price_of(ledger: &Ledger, claim: Option<Claim>) -> Option<u64> {
     match claim {
         Some(claim) => ledger.price(claim),
@@ -135,7 +137,7 @@ fn price_of(ledger: &Ledger, claim: Option<Claim>) -> Option<u64> {
     }
 }
 
-/// What it costs that an input begins on a cell beside its ground: nothing; none where that can't be had.
+/// What it costs besides the ground that an input begins on a cell: nothing; none where the ground can't be had.
 fn input_price(ledger: &Ledger, cell: Cell) -> Option<u64> {
     match ledger.price(Claim::Ground(cell)) {
         Some(_) => Some(0),
@@ -143,7 +145,7 @@ fn input_price(ledger: &Ledger, cell: Cell) -> Option<u64> {
     }
 }
 
-/// What it costs to begin so.
+/// What it costs to begin so, without the ground of the first cell; none where a claim can't be had.
 fn beginning_price(ledger: &Ledger, beginning: &Beginning) -> Option<u64> {
     let half = match beginning.half {
         Some(half) => ledger.price(half)?,
@@ -153,7 +155,7 @@ fn beginning_price(ledger: &Ledger, beginning: &Beginning) -> Option<u64> {
     Some(half.saturating_add(empty))
 }
 
-/// What it costs to end so.
+/// What it costs to end so; none where a chain may not.
 fn ending_price(ledger: &Ledger, ending: Ending) -> Option<u64> {
     match ending {
         Ending::Never => None,
@@ -196,7 +198,8 @@ fn go_by_belts(search: &mut Search, here: Here, is_straight: bool) -> Result<(),
     Ok(())
 }
 
-/// Goes on by an underground pair with its exit on this cell, so far ahead.
+/// Goes on by an underground pair with its exit on this cell, so far ahead, where its ground can be had. The pieces and
+/// what is under the ground cost `below`.
 fn go_by_pair(
     search: &mut Search,
     ledger: &Ledger,
@@ -218,7 +221,8 @@ fn go_by_pair(
     search.come_to(next, cost, Origin::From(here.number, step))
 }
 
-/// Goes on by underground pairs of each length.
+/// Goes on by underground pairs with exits from 2 to `reach` + 1 cells ahead, as far as the cells lie inside and can be
+/// passed below.
 fn go_below(
     search: &mut Search,
     ledger: &Ledger,
@@ -243,7 +247,7 @@ fn go_below(
     Ok(())
 }
 
-/// Whether the part in the pose of this number keeps its direction.
+/// Whether the part in the pose of this number has to keep its direction: only where a chain begins so.
 fn is_straight(search: &Search, number: usize) -> bool {
     match search.origin(number) {
         Origin::Begun(beginning) => beginning.is_straight,
@@ -251,7 +255,7 @@ fn is_straight(search: &Search, number: usize) -> bool {
     }
 }
 
-/// Goes on from a pose, to which it costs so much to come.
+/// Goes on from a pose by belts and pairs, where its cell lies inside and can be had.
 fn go_on(
     search: &mut Search,
     ledger: &Ledger,
@@ -275,7 +279,8 @@ fn go_on(
     go_below(search, ledger, here, reach)
 }
 
-/// Ends a chain in the pose of this number, where it may end there and no other chain is cheaper. Whether it may end there.
+/// Ends a chain in the pose of this number, where it may end there and is cheaper than the best one. Whether it may end
+/// there.
 fn end_at(search: &mut Search, ledger: &Ledger, ends: &Ends, pose: Pose, number: usize) -> bool {
     let Some(price) = ending_price(ledger, ends.endings.at(pose)) else {
         return false;
@@ -299,7 +304,8 @@ fn is_over(search: &Search, cost: u64) -> bool {
     }
 }
 
-/// Goes on from the cheapest pose. Whether there may be a cheaper chain than the best one.
+/// Goes on from the cheapest pose, or skips it where a cheaper way there has come up since. Whether there may be a
+/// cheaper chain than the best one.
 fn turn(
     search: &mut Search,
     ledger: &Ledger,
@@ -323,7 +329,7 @@ fn turn(
     Ok(true)
 }
 
-/// Adds the number of a claim.
+/// Adds the number of a claim, where one is named.
 fn push_claim(
     claims: &mut Vec<usize>,
     ledger: &Ledger,
@@ -335,7 +341,7 @@ fn push_claim(
     Ok(())
 }
 
-/// Adds the claims of a pair.
+/// Adds the claims of a pair: the ground of both pieces, and what is below from the one to the other.
 fn push_pair(
     claims: &mut Vec<usize>,
     ledger: &Ledger,
@@ -389,7 +395,7 @@ fn trace(
     Ok(())
 }
 
-/// The chain that ends in the pose of this number.
+/// The chain that ends so in the pose of this number.
 fn chain_to(
     alloc: Global,
     search: &Search,
@@ -408,7 +414,8 @@ fn chain_to(
     Ok(chain)
 }
 
-/// The cheapest chain of an edge in a rectangle with these poses; none where there is no chain.
+/// The cheapest chain of an edge in a rectangle with these poses; none where no chain is found. After `MOST_TURNS`
+/// poses the best one so far is taken.
 pub fn cheapest(
     alloc: Global,
     rect: Rect,

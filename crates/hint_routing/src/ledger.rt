@@ -48,7 +48,7 @@ const FIRST_PRESSURE: u64 = 8;
 /// The greatest pressure.
 const MOST_PRESSURE: u64 = 1 << 16;
 
-/// Who has a claim, and its history.
+/// A claim: what it costs at first, how many chains have it, its history, and whether none can have it.
 #[derive(Clone, Copy)]
 struct Share {
     base: u64,
@@ -67,7 +67,7 @@ pub struct Ledger {
     taken: u32,
 }
 
-/// Adds shares of one kind.
+/// Adds so many shares that no chain has, each of which costs this much at first.
 fn push_shares(shares: &mut Vec<Share>, count: usize, base: u64) -> Result<(), AllocError> {
     for _ in 0..count {
         shares.push(Share {
@@ -81,7 +81,7 @@ fn push_shares(shares: &mut Vec<Share>, count: usize, base: u64) -> Result<(), A
 }
 
 impl Share {
-    /// What the claim costs; none where it can't be had.
+    /// What the claim costs one more chain at this pressure; none where it can't be had.
     fn price(&self, pressure: u64) -> Option<u64> {
         if self.is_closed {
             return None;
@@ -99,6 +99,7 @@ impl Ledger {
     pub fn new(alloc: Global, rect: Rect) -> Result<Ledger, AllocError> {
         let count = cell_count(rect);
         let mut shares = Vec::new(alloc);
+        // In the order of `number`: on the ground; below it, upright and across; into halves and out of them.
         push_shares(&mut shares, count, GROUND_PRICE)?;
         push_shares(&mut shares, count.saturating_mul(2), BELOW_PRICE)?;
         push_shares(&mut shares, count.saturating_mul(2), GROUND_PRICE)?;
@@ -181,7 +182,7 @@ impl Ledger {
         false
     }
 
-    /// Makes what chains share dearer. How many claims are shared.
+    /// Makes each claim that chains share dearer for good, and raises the pressure. Answers how many claims are shared.
     pub fn raise(&mut self) -> usize {
         let mut count = 0usize;
         for share in self.shares.iter_mut() {

@@ -16,18 +16,19 @@ use std::alloc::{AllocError, Global};
 pub struct Effort {
     /// The most rounds.
     pub rounds: usize,
-    /// After so many rounds in which no fewer claims are shared than in an earlier one no more are made.
+    /// After so many rounds in turn that don't lower the least number of shared claims no more are made.
     pub patience: usize,
     /// After so many rounds no more are made where the least number of claims that were shared isn't a small part of those
     /// that the first round left shared.
     pub trial: usize,
 }
 
-/// That part: of 30 placings that settled each came to a seventh of the first round in seven rounds, most to a twentieth.
+/// The small part is one in so many: of the placings that settled each came to a seventh of the first round in seven
+/// rounds, most to a twentieth.
 const SMALL_PART: usize = 5;
 
-/// How far rounds came: how many were made, after how many no fewer claims were shared, how many were shared after the first
-/// one, and the least number.
+/// How far rounds came: how many were made, how many since the least number of shared claims was lowered, how many
+/// claims were shared after the first one, and the least number.
 #[derive(Clone, Copy)]
 struct Course {
     rounds: usize,
@@ -61,7 +62,8 @@ impl Course {
         }
     }
 
-    /// Whether no more rounds are made.
+    /// Whether no more rounds are made: nothing was shared after one, or patience is at its end, or the trial is over
+    /// and was in vain.
     fn is_over(self, effort: Effort) -> bool {
         let is_far = self.least.saturating_mul(SMALL_PART) > self.first;
         self.least == 0 || self.idle >= effort.patience || self.rounds >= effort.trial && is_far
@@ -84,7 +86,7 @@ enum Round {
 pub enum Negotiated {
     /// No two of the chains of the edges claim the same.
     Settled(Vec<Option<Chain>>),
-    /// At best so many claims were shared.
+    /// At best so many claims were shared after a round: the greatest number where no round was finished.
     Shared(usize),
 }
 
@@ -122,7 +124,7 @@ fn close_blocks(ledger: &mut Ledger, request: &Request, poses: &[Pose]) {
     }
 }
 
-/// Makes the cells dear on which ends stand side by side: each chain that needs one takes one alone.
+/// Makes the cells dear on which ends stand side by side, so that chains don't pass over them without need.
 fn reserve_spans(ledger: &mut Ledger, spans: Spans, poses: &[Pose]) {
     for span in &[spans.inputs, spans.outputs] {
         let Some(span) = span else {
@@ -136,7 +138,8 @@ fn reserve_spans(ledger: &mut Ledger, spans: Spans, poses: &[Pose]) {
     }
 }
 
-/// The ledger before the first round.
+/// The ledger before the first round, in which splitters and blocks are closed and the cells of ends side by side are
+/// dear.
 fn first_ledger(
     alloc: Global,
     request: &Request,
@@ -156,7 +159,7 @@ fn first_ledger(
     Ok(ledger)
 }
 
-/// Lays the chain of an edge anew, where it has none or shares a claim. Whether it has one then.
+/// Lays the chain of an edge anew, where it has none or shares a claim. Whether the edge has a chain then.
 fn lay_anew(
     alloc: Global,
     ledger: &mut Ledger,
@@ -179,7 +182,8 @@ fn lay_anew(
     Ok(chain.is_some())
 }
 
-/// A round over all edges.
+/// Lays chains anew for all edges that have none or share a claim, up to the first edge for which none is found; then
+/// makes what is shared dearer.
 fn lay_round(
     alloc: Global,
     ledger: &mut Ledger,
@@ -200,7 +204,8 @@ fn lay_round(
     }
 }
 
-/// Rounds until no two chains claim the same, or no fewer do. The least number of claims that were shared after a round.
+/// Makes rounds until their course is over, their number is reached, or an edge has no chain. Answers the least number
+/// of claims that were shared after a round: the greatest number where none was finished.
 fn rounds(
     alloc: Global,
     ledger: &mut Ledger,
@@ -224,7 +229,7 @@ fn rounds(
     Ok(course.least)
 }
 
-/// No chain for each of so many edges.
+/// A list of so many edges' chains in which each has none yet.
 fn no_chains(alloc: Global, count: usize) -> Result<Vec<Option<Chain>>, AllocError> {
     let mut chains = Vec::new(alloc);
     for _ in 0..count {
@@ -233,7 +238,8 @@ fn no_chains(alloc: Global, count: usize) -> Result<Vec<Option<Chain>>, AllocErr
     Ok(chains)
 }
 
-/// Lays chains for the edges of a network whose splitters and ends stand so. How many chains are laid is taken from what is left.
+/// Lays chains for the edges of a network whose splitters and ends stand so. How many chains were laid, at least 1, is
+/// taken from `left`.
 pub fn negotiate(
     alloc: Global,
     request: &Request,

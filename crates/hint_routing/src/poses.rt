@@ -10,7 +10,7 @@ pub struct Pose {
     pub dir: Dir,
 }
 
-/// How many cells a row has with the margin.
+/// How many cells a row of the rectangle has with the margin.
 fn across(rect: Rect) -> usize {
     (rect.width as usize).saturating_add(2)
 }
@@ -20,14 +20,14 @@ pub fn cell_count(rect: Rect) -> usize {
     across(rect).saturating_mul((rect.height as usize).saturating_add(2))
 }
 
-/// The number of a cell of the rectangle or its margin.
+/// The number of a cell of the rectangle or its margin, row by row from 0 in the north-western corner of the margin.
 pub fn cell_number(rect: Rect, cell: Cell) -> usize {
     let row = cell.y.wrapping_add(1).unsigned_abs() as usize;
     let column = cell.x.wrapping_add(1).unsigned_abs() as usize;
     row.saturating_mul(across(rect)).saturating_add(column)
 }
 
-/// The number of a direction.
+/// The place of a direction among the four poses of a cell, from 0 on.
 fn dir_number(dir: Dir) -> usize {
     match dir {
         Dir::North => 0,
@@ -37,13 +37,13 @@ fn dir_number(dir: Dir) -> usize {
     }
 }
 
-/// The number of a pose.
+/// The number of a pose: the four of a cell follow one another.
 pub fn pose_number(rect: Rect, pose: Pose) -> usize {
     let first = cell_number(rect, pose.cell).saturating_mul(4);
     first.saturating_add(dir_number(pose.dir))
 }
 
-/// Adds the poses of a row that begins with this cell.
+/// Adds the poses of a row of so many cells that begins with this one.
 fn push_row(poses: &mut Vec<Pose>, first: Cell, count: usize) -> Result<(), AllocError> {
     let mut cell = first;
     for _ in 0..count {
@@ -55,7 +55,7 @@ fn push_row(poses: &mut Vec<Pose>, first: Cell, count: usize) -> Result<(), Allo
     Ok(())
 }
 
-/// All poses, each at its number.
+/// All poses of a rectangle and its margin, each at its number.
 pub fn poses_of(alloc: Global, rect: Rect) -> Result<Vec<Pose>, AllocError> {
     let mut poses = Vec::new(alloc);
     let mut first = Cell { x: -1, y: -1 };

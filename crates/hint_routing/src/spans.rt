@@ -13,7 +13,7 @@ pub struct Span {
     pub dir: Dir,
 }
 
-/// Where ends stand side by side; of those of which nothing stands here each is by itself.
+/// Where the inputs and the outputs stand side by side; none where each of them stands by itself.
 #[derive(Clone, Copy)]
 pub struct Spans {
     pub inputs: Option<Span>,
@@ -40,7 +40,7 @@ impl Span {
         if is_upright(self.dir) { (x, y) } else { (y, x) }
     }
 
-    /// Whether an end stands on the cell.
+    /// Whether the cell is one of the span, on which an end stands.
     pub fn covers(self, cell: Cell) -> bool {
         let (along, across) = self.offset(cell);
         across == 0 && along >= 0 && along.unsigned_abs() < self.count
@@ -52,7 +52,7 @@ impl Span {
         u64::from(across.unsigned_abs()).saturating_sub(1)
     }
 
-    /// Whether a chain that comes to a pose is an end here.
+    /// Whether a pose is on a cell of the span and in its direction, so that an input may begin in it.
     pub(crate) fn has(self, pose: Pose) -> bool {
         pose.dir == self.dir && self.covers(pose.cell)
     }

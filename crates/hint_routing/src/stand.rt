@@ -12,7 +12,7 @@ pub struct Stand {
 }
 
 impl Stand {
-    /// The cells of the two halves.
+    /// The cells of the two halves, that of the lesser one first.
     pub fn halves(&self) -> [Cell; 2] {
         let beside = if is_upright(self.dir) {
             Dir::East
@@ -42,7 +42,7 @@ impl Stand {
         true
     }
 
-    /// Whether it has a cell in common with another one.
+    /// Whether a half stands on a cell of another splitter that stands so.
     pub fn overlaps(&self, other: &Stand) -> bool {
         let [first, second] = self.halves();
         other.covers(first) || other.covers(second)

@@ -35,7 +35,7 @@ impl Atoms {
         Ok(atoms)
     }
 
-    /// Takes the variable at a place, where its row is such a one.
+    /// Takes the variable at a place, where its row says that an edge is full, or that a flow is at least another one.
     fn take(&mut self, net: &Net, formula: &Formula, place: usize) -> Result<(), AllocError> {
         let Some(var) = formula.var_at(place) else {
             return Ok(());
@@ -62,7 +62,8 @@ impl Atoms {
         Ok(())
     }
 
-    /// Takes the variable that says that a column, times a number, is at least a bound, where that is an edge's cap.
+    /// Takes the variable that says that a column, times the number `one`, is at least a bound, where that is an edge's
+    /// cap.
     fn take_full(&mut self, net: &Net, edge: usize, one: &Frac, bound: &Frac, var: Var) {
         if edge < self.full.len() && edge < net.edges().len() && one.numerator() > 0 {
             if bound.numerator() == i128::from(net.edges()[edge].cap) {
@@ -103,12 +104,13 @@ fn positive(var: Var) -> Lit {
     }
 }
 
-/// The row of a variable, where it is an atom.
+/// The row of a variable, none where it isn't an atom.
 pub fn row_of(formula: &Formula, var: Var) -> Option<&Row> {
     formula.rows().get(formula.row_of(var)?)
 }
 
-/// The literal that says that an edge has a mark, where there is one.
+/// The literal that says that an edge is backed, or without `backed` that it is free; none where there is no such edge.
+/// The variables of the edges' marks stand first in a flow formula.
 pub fn mark_of(formula: &Formula, edge: usize, backed: bool) -> Option<Lit> {
     Some(Lit {
         var: formula.var_at(edge)?,

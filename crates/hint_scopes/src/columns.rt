@@ -80,7 +80,7 @@ fn is_end(net: &Net, number: usize) -> bool {
     }
 }
 
-/// The rows that say that sums are equal.
+/// The places of the rows that say that a sum is equal to its bound.
 pub fn equal_rows(alloc: Global, formula: &Formula) -> Result<Vec<usize>, AllocError> {
     let mut rows = Vec::new(alloc);
     for (place, row) in formula.rows().iter().enumerate() {

@@ -15,22 +15,22 @@ pub struct Compared {
 }
 
 impl Compared {
-    /// The first sum is at least the second.
+    /// The literal that says that the first sum is at least the second.
     pub fn at_least(self) -> NamedLit {
         self.first.is_some()
     }
 
-    /// The first sum is at most the second, where they are compared so.
+    /// The literal that says that the first sum is at most the second; none where they are compared one way alone.
     pub fn at_most(self) -> Option<NamedLit> {
         Some(self.second?.is_some())
     }
 
-    /// The first sum is less than the second.
+    /// The literal that says that the first sum is less than the second.
     pub fn is_less(self) -> NamedLit {
         self.first.is_less()
     }
 
-    /// Adds the numbers of the rows that define it, of both ways where both are compared.
+    /// Adds the places of the rows that define it, of both ways where both are compared.
     pub fn add_rows(self, rows: &mut Vec<usize>) -> Result<(), AllocError> {
         self.first.add_rows(rows)?;
         match self.second {
@@ -40,7 +40,7 @@ impl Compared {
     }
 }
 
-/// Adds the numbers of the rows that define a comparison, where there is one.
+/// Adds the places of the rows that define a comparison, where there is one.
 pub fn add_rows(rows: &mut Vec<usize>, compared: Option<Compared>) -> Result<(), AllocError> {
     match compared {
         Some(compared) => compared.add_rows(rows),
@@ -48,7 +48,8 @@ pub fn add_rows(rows: &mut Vec<usize>, compared: Option<Compared>) -> Result<(),
     }
 }
 
-/// Defines the comparison of two sums, both ways or that the first is at least the second.
+/// Defines the comparison of two sums, both ways or that the first is at least the second alone. None where a column of
+/// them is too large.
 pub fn compare(
     alloc: Global,
     line: &mut Line,
@@ -71,7 +72,7 @@ pub fn compare(
     }))
 }
 
-/// Defines the comparison of a sum less another.
+/// Defines the comparison of a sum less another with 0. None where a column of them is too large.
 fn compare_way(
     alloc: Global,
     line: &mut Line,

@@ -1,5 +1,5 @@
-//! What a line of argument defines over a formula, by the numbers of what that adds: comparisons of sums with nothing, and
-//! columns that count in one of two cases.
+//! What a line of argument defines over a formula, by the numbers of what that adds: comparisons of sums with nothing,
+//! which is 0, and columns that count in one of two cases.
 use crate::line::{Line, add_disjunction, add_rows, named};
 use bt_cnf::Formula;
 use bt_extend::{Definition, Form, NamedLit};
@@ -25,12 +25,12 @@ pub struct Comparison {
 }
 
 impl Comparison {
-    /// The sum is at least nothing.
+    /// The literal that says that the sum is at least nothing.
     pub fn is_some(self) -> NamedLit {
         named(self.var, true)
     }
 
-    /// The sum is less than nothing.
+    /// The literal that says that the sum is less than nothing.
     pub fn is_less(self) -> NamedLit {
         named(self.var.saturating_add(1), true)
     }
@@ -59,22 +59,22 @@ impl Counted {
         self.column
     }
 
-    /// It is at least nothing.
+    /// The literal that says that the column is at least nothing.
     pub fn is_some(self) -> NamedLit {
         named(self.nothing, true)
     }
 
-    /// It is at most nothing.
+    /// The literal that says that the column is at most nothing.
     pub fn is_none(self) -> NamedLit {
         named(self.nothing.saturating_add(2), true)
     }
 
-    /// It is at least the form.
+    /// The literal that says that the column is at least the form.
     pub fn is_all(self) -> NamedLit {
         named(self.form, true)
     }
 
-    /// It is at most the form.
+    /// The literal that says that the column is at most the form.
     pub fn is_no_more(self) -> NamedLit {
         named(self.form.saturating_add(2), true)
     }
@@ -103,22 +103,22 @@ impl Chosen {
         self.column
     }
 
-    /// It is at least the first form.
+    /// The literal that says that the column is at least the first form.
     pub fn at_least_first(self) -> NamedLit {
         named(self.first, true)
     }
 
-    /// It is at most the first form.
+    /// The literal that says that the column is at most the first form.
     pub fn at_most_first(self) -> NamedLit {
         named(self.first.saturating_add(2), true)
     }
 
-    /// It is at least the second form.
+    /// The literal that says that the column is at least the second form.
     pub fn at_least_second(self) -> NamedLit {
         named(self.second, true)
     }
 
-    /// It is at most the second form.
+    /// The literal that says that the column is at most the second form.
     pub fn at_most_second(self) -> NamedLit {
         named(self.second.saturating_add(2), true)
     }
@@ -139,7 +139,7 @@ pub struct Next {
 }
 
 impl Next {
-    /// The numbers behind a formula.
+    /// The numbers of what is defined first over a formula, behind all that it has.
     pub fn behind(formula: &Formula) -> Next {
         Next {
             var: formula.vars(),
@@ -164,7 +164,8 @@ impl Next {
         Ok(comparison)
     }
 
-    /// Defines the comparison of a sum of columns with nothing, where these ascend.
+    /// Defines the comparison of a sum of columns with nothing. None where the columns don't ascend, or a coefficient
+    /// is 0.
     pub fn compare_sum(
         &mut self,
         line: &mut Line,
@@ -189,7 +190,8 @@ impl Next {
         Ok(var)
     }
 
-    /// Defines the column that is the form where the variable at a place has this value, and else nothing.
+    /// Defines the column that is the form where the variable at a place has this value, and else nothing. The answer
+    /// is never none.
     pub fn count(
         &mut self,
         alloc: Global,
@@ -234,7 +236,8 @@ impl Next {
         })
     }
 
-    /// The numbers of a column that was defined, whose form stands first or second.
+    /// The numbers of the column that is defined next, whose form stands first or second of its two. They are passed
+    /// over then.
     fn take_counted(&mut self, is_first: bool) -> Counted {
         let second = self.var.saturating_add(OF_CASE);
         let (form, nothing) = if is_first {
@@ -260,7 +263,7 @@ impl Next {
     }
 }
 
-/// The form of a sum of columns, where these ascend.
+/// The form of a sum of columns with their coefficients. None where the columns don't ascend, or a coefficient is 0.
 pub fn sum_of(terms: Vec<(usize, Frac)>) -> Option<Form> {
     Form::new(Frac::whole(0), terms)
 }

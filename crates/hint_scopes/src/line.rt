@@ -68,7 +68,7 @@ pub fn add_scope(line: &mut Line, rows: Vec<usize>) -> Result<usize, AllocError>
     Ok(place)
 }
 
-/// Adds so many rows from one on.
+/// Adds the places of so many rows, from the first on.
 pub fn add_rows(rows: &mut Vec<usize>, first: usize, count: usize) -> Result<(), AllocError> {
     for step in 0..count {
         rows.push(first.saturating_add(step))?;
@@ -76,7 +76,7 @@ pub fn add_rows(rows: &mut Vec<usize>, first: usize, count: usize) -> Result<(),
     Ok(())
 }
 
-/// Adds a definition of literals.
+/// Adds the definition of a variable that is true just where one of the literals is.
 pub fn add_disjunction(
     alloc: Global,
     line: &mut Line,
@@ -87,7 +87,8 @@ pub fn add_disjunction(
     Ok(())
 }
 
-/// Adds the scope of some rows and of those of the last clause's literals, and by it that these are false.
+/// Adds the scope of some rows and of those of the last clause's literals, and the aims that these literals are false
+/// by it. Adds nothing where the formula has no clause.
 pub fn conclude(
     alloc: Global,
     formula: &Formula,
@@ -102,7 +103,7 @@ pub fn conclude(
     add_opposites(alloc, formula, &mut line.aims, place)
 }
 
-/// Some rows, and those of the last clause's literals.
+/// Some rows, and behind them those of the last clause's literals.
 fn with_last(formula: &Formula, rows: Vec<usize>) -> Result<Vec<usize>, AllocError> {
     let mut rows = rows;
     if let Some(last) = formula.clause_at(formula.clauses().saturating_sub(1)) {

@@ -37,12 +37,12 @@ impl FormulaLits {
         }
     }
 
-    /// The edge isn't full, where there is such a literal.
+    /// The literal that says that an edge isn't full, where there is one.
     pub fn not_full(&self, edge: usize) -> Option<NamedLit> {
         Some(opposite_of(self.atoms.full(edge)?))
     }
 
-    /// The flow at an end reaches its load or its room.
+    /// The literal that says that the flow of an edge at an end reaches its load or its room, where there is one.
     pub fn meets(&self, edge: usize) -> Option<NamedLit> {
         *self.meets.get(edge)?
     }
@@ -53,7 +53,8 @@ fn row_at(formula: &Formula, place: usize) -> Option<&Row> {
     formula.rows().get(formula.row_of(formula.var_at(place)?)?)
 }
 
-/// The edge of whose flow a variable says that it reaches what is at its end.
+/// The edge of whose flow the variable at a place says that it reaches the load or the room at its end; none where it
+/// doesn't.
 fn met_edge(net: &Net, formula: &Formula, place: usize) -> Option<usize> {
     let row = row_at(formula, place)?;
     if row.relation() != Relation::AtLeast {

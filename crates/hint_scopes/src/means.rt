@@ -25,7 +25,7 @@ impl Term {
     }
 }
 
-/// The sum of one column.
+/// The term of a column with the weight 1.
 pub fn single(column: usize) -> Term {
     Term {
         column,
@@ -33,7 +33,7 @@ pub fn single(column: usize) -> Term {
     }
 }
 
-/// The sum of terms, of which each column has one then.
+/// The terms in the order of their columns, where those of one column are added up to one term.
 pub fn merged(alloc: Global, terms: &mut Vec<Term>) -> Result<Vec<Term>, AllocError> {
     terms.sort()?;
     let mut sums = Vec::new(alloc);
@@ -54,7 +54,8 @@ fn add_term(sums: &mut Vec<Term>, term: Term) -> Result<(), AllocError> {
     Ok(())
 }
 
-/// The sum over a number of edges, which is one or two. Empty where a weight isn't whole then.
+/// The share of one of so many edges in a sum: all of it or half. Empty where they are neither one nor two, or where
+/// half of a weight isn't whole.
 pub fn shared(alloc: Global, terms: &[Term], among: usize) -> Result<Vec<Term>, AllocError> {
     let mut shares = Vec::new(alloc);
     if among == 1 {
@@ -71,7 +72,8 @@ pub fn shared(alloc: Global, terms: &[Term], among: usize) -> Result<Vec<Term>, 
     Ok(shares)
 }
 
-/// The form of a sum less another, times the least number that makes all coefficients whole.
+/// The form of a sum less another, times the least power of two that makes all coefficients whole. None where a column
+/// is too large.
 pub fn difference(
     alloc: Global,
     plus: &[Term],
@@ -91,6 +93,7 @@ pub fn difference(
     form_of(alloc, &amounts, lowest_bit(bits))
 }
 
+/// A term as an amount, which is its weight or the negative of it.
 fn amount_of(term: &Term, positive: bool) -> Amount {
     let weight = i128::from(term.weight);
     Amount {
@@ -108,7 +111,7 @@ fn lowest_bit(bits: u64) -> u64 {
     }
 }
 
-/// The form of amounts whose columns ascend, over a number.
+/// The form of amounts, whose columns ascend and are named twice at most, each divided by a number.
 fn form_of(alloc: Global, amounts: &[Amount], by: u64) -> Result<Option<Form>, AllocError> {
     let mut terms: Vec<(usize, Frac)> = Vec::new(alloc);
     for place in 0..amounts.len() {
@@ -122,7 +125,7 @@ fn form_of(alloc: Global, amounts: &[Amount], by: u64) -> Result<Option<Form>, A
     Ok(Form::new(Frac::whole(0), terms))
 }
 
-/// Whether the next amount is of another column.
+/// Whether the next amount, where there is one, is of another column.
 fn is_last_of(amounts: &[Amount], place: usize) -> bool {
     match (amounts.get(place), amounts.get(place.saturating_add(1))) {
         (Some(this), Some(next)) => this.column != next.column,

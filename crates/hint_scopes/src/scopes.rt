@@ -29,6 +29,7 @@ impl Sides {
         target: None,
     };
 
+    /// The splitters from which an edge comes and to which it leads.
     fn of(edge: &Edge) -> Sides {
         Sides {
             start: Role::OutOf.number_in(edge),
@@ -74,10 +75,10 @@ struct Gaps {
     behind: usize,
 }
 
-/// The scopes of the rows of a network's flow formula, as lists of their places. Each splitter has one: the rows
-/// whose columns are all flows of its edges, or the load or the room at one of these. The splitters nearest to the
-/// outputs come first, and for `drawn-evenly` the farthest. Behind them comes a scope of the rows that compare flows, and
-/// then one for each edge that touches no splitter.
+/// The scopes of the rows of a network's flow formula, as lists of their places. Each splitter has one: the rows whose
+/// columns are all flows of its edges, or the load or the room at one of these. The splitters nearest to the outputs
+/// come first, and for `drawn-evenly` and `drawn-fairly` the farthest. Behind them comes a scope of the rows that
+/// compare flows, and then one for each edge that touches no splitter.
 pub fn scopes_of(
     alloc: Global,
     net: &Net,
@@ -167,7 +168,7 @@ struct BothSides {
 }
 
 impl BothSides {
-    /// Whether all terms are of columns at one of two splitters, each of its network.
+    /// Whether all terms are of columns at one splitter or the other of a couple, each of its own network.
     fn have(&self, couple: &Couple, terms: &[(usize, Frac)]) -> bool {
         terms.iter().all(|(column, _)| sides_at(&self.first, *column).has(couple.first)
             || sides_at(&self.second, *column).has(couple.second))
@@ -192,7 +193,7 @@ fn couple_scope(
     Ok(scope)
 }
 
-/// The scopes of a network's splitters in their order, behind others.
+/// The scopes of a network's splitters, in the order of their distances from the outputs, behind others.
 fn splitter_scopes(
     alloc: Global,
     before: Vec<Vec<usize>>,
@@ -277,7 +278,7 @@ fn comparisons(
     Ok(scope)
 }
 
-/// The place that comes after so many, from the first of so many on or from the last.
+/// The place that comes after `step` others, of so many places from the first on or from the last back.
 fn place_after(count: usize, step: usize, last_first: bool) -> usize
     requires { step < count }
     ensures { result < count }
@@ -290,7 +291,8 @@ fn compares(terms: &[(usize, Frac)], flows: usize) -> bool {
     terms.len() > 1 && terms.iter().all(|(column, _)| *column < flows)
 }
 
-/// The lists in this order, behind others. A list that it names once more is empty there.
+/// Takes the lists in this order, and puts them behind others. A list that the order names once more is empty there,
+/// and a place without a list is passed over.
 fn in_order(
     alloc: Global,
     before: Vec<Vec<usize>>,
@@ -310,7 +312,7 @@ fn in_order(
     Ok(scopes)
 }
 
-/// For each of so many splitters the rows all of whose columns are at it.
+/// For each of so many splitters the places of the rows whose columns are all at it.
 fn lists_of(
     alloc: Global,
     count: u32,
@@ -363,7 +365,7 @@ fn put(all: &mut [Sides], number: Option<u32>, sides: Sides) {
     }
 }
 
-/// The splitters of whose edges all terms speak.
+/// The splitters of whose edges all terms speak: none where there is no term.
 fn sides_of(columns: &[Sides], terms: &[(usize, Frac)]) -> Sides {
     let mut sides = match terms.first() {
         Some((column, _)) => sides_at(columns, *column),
@@ -375,6 +377,7 @@ fn sides_of(columns: &[Sides], terms: &[(usize, Frac)]) -> Sides {
     sides
 }
 
+/// The splitters at the edge of a column, none where it is of no edge.
 fn sides_at(columns: &[Sides], column: usize) -> Sides {
     columns.get(column).copied().unwrap_or(Sides::NONE)
 }

@@ -35,7 +35,7 @@ pub struct Sought {
 }
 
 impl Sought {
-    /// Nothing was found.
+    /// That nothing was found, and nothing is refuted.
     pub fn nothing() -> Sought {
         Sought {
             sketch: None,
@@ -53,7 +53,7 @@ struct Reading<'a> {
 }
 
 impl Reading<'_> {
-    /// Whether a fact holds.
+    /// Whether a fact holds in the model. False where the formula has no variable for it.
     fn has(&self, fact: Fact) -> bool {
         match literal_of(self.formula, self.numbers, fact, true) {
             Some(lit) => self.model.get(lit.var.place()).copied().unwrap_or(false),
@@ -61,7 +61,7 @@ impl Reading<'_> {
         }
     }
 
-    /// The belt or the underground piece that stands so.
+    /// Which belt or underground piece stands on a cell and looks in a direction; none where neither does.
     fn kind(&self, cell: Cell, dir: Dir) -> Option<Kind> {
         if self.has(holds(cell, Shape::Belt, dir)) {
             return Some(Kind::Belt);
@@ -75,7 +75,7 @@ impl Reading<'_> {
         None
     }
 
-    /// Which of so many splitters stands so.
+    /// Which of so many splitters stands on a cell and looks in a direction; none where none does.
     fn splitter(&self, splitters: usize, cell: Cell, dir: Dir) -> Option<usize> {
         for splitter in 0..splitters {
             if self.has(Fact::At(splitter, cell, dir)) {
@@ -96,7 +96,7 @@ impl Ground {
         }
     }
 
-    /// A sketch as one of the first request.
+    /// A sketch of this ground's request as one of the first request: with its numbers, and turned back.
     pub fn told(&self, alloc: Global, sketch: &Sketch) -> Result<Sketch, AllocError> {
         let mut splitters = Vec::new(alloc);
         for (splitter, part) in &sketch.splitters {
@@ -109,7 +109,7 @@ impl Ground {
         Ok(Sketch { splitters, others })
     }
 
-    /// A part of this kind.
+    /// A part of this kind, of the request's tier.
     fn part(&self, kind: Kind, cell: Cell, dir: Dir) -> Part {
         Part {
             kind,
@@ -154,7 +154,8 @@ impl Ground {
         self.told(alloc, &sketch)
     }
 
-    /// What a search comes to.
+    /// What a search comes to: a sketch of the model that it finds, that there is none, or neither where its steps are
+    /// spent.
     fn outcome(&self, alloc: Global, solver: &mut Solver<Active>) -> Result<Sought, AllocError> {
         let answer = solver.next_model()?;
         let mut sought = Sought::nothing();
@@ -185,12 +186,13 @@ impl Ground {
         self.outcome(alloc, &mut solver)
     }
 
-    /// Its request.
+    /// The request that is searched on this ground, with the numbers of the structure.
     pub fn request(&self) -> &Request {
         &self.named.request
     }
 
-    /// A sketch of its request as one of the first, where the search with it finds what it shows.
+    /// Searches for a layout of this ground's request by a sketch of one, and tells it as a sketch of the first
+    /// request. None where the search finds none.
     pub fn show<S: Search>(
         &self,
         alloc: Global,
@@ -202,7 +204,7 @@ impl Ground {
         Ok(shown.sketch)
     }
 
-    /// A sketch of a layout.
+    /// A sketch of a layout of this ground's request, told as one of the first request; none where none is found.
     pub fn sketch(&self, alloc: Global) -> Result<Option<Sketch>, AllocError> {
         match find_sketch(alloc, &self.named.request)? {
             Some(sketch) => Ok(Some(self.told(alloc, &sketch)?)),
@@ -226,7 +228,7 @@ pub fn great_rect(request: &Request) -> Rect {
     }
 }
 
-/// The ground in a rectangle.
+/// The ground of a request in a rectangle; none where its pins or blocks don't lie in that.
 pub fn ground_in(
     alloc: Global,
     request: &Request,

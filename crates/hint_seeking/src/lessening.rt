@@ -72,7 +72,8 @@ fn has_room(request: &Request, rect: Rect, room: u64) -> bool {
 }
 
 /// A plan of a layout that lies in the rectangle of a request, from the parts of one in a greater rectangle that is
-/// made smaller.
+/// made smaller for about as long as `effort` conflicts take. None where it doesn't get so small, or a search doesn't
+/// show it. Each number begins another search.
 fn lessened_into<S: Search>(
     alloc: Global,
     request: &Request,
@@ -156,7 +157,8 @@ fn beginnings(alloc: Global, request: &Request) -> Result<Vec<Beginning>, AllocE
 }
 
 /// Searches for a layout of a request by making one smaller that lies in a greater rectangle, more than once. Other
-/// places begin other searches.
+/// places begin other searches. None where the request names cells, its rectangle is the greatest or has too little
+/// room, or none is found.
 pub fn seek_by_lessening<S: Search>(
     alloc: Global,
     request: &Request,
@@ -176,7 +178,8 @@ pub fn seek_by_lessening<S: Search>(
     Ok(None)
 }
 
-/// A plan in the greatest rectangle that is made smaller than the rectangles of some requests.
+/// A plan of a request in the greatest rectangle, made as small as it gets for about as long as `effort` conflicts
+/// take. None where no plan is found. Each number begins another search.
 fn seek_from_greatest(
     alloc: Global,
     request: &Request,
@@ -230,7 +233,7 @@ fn seek_shrunk(
 }
 
 /// Looks for a layout that half a turn maps onto itself; or makes the layout smaller that was found, or a plan where
-/// none was.
+/// none was, for about as long as `effort` conflicts take. Each number begins another search.
 pub fn seek_lesser(
     alloc: Global,
     requests: &[Request],

@@ -16,7 +16,7 @@ pub enum Means {
 }
 
 impl Means {
-    /// How many requests in a row a round passes before it ends.
+    /// How many requests a round passes, since it began or a layout was found, before it ends.
     pub fn most_passed(self) -> usize {
         match self {
             Means::Sketch => MOST_SKETCHED,

@@ -25,7 +25,7 @@ fn cells_in(rect: Rect) -> u64 {
     u64::from(rect.width).saturating_mul(u64::from(rect.height))
 }
 
-/// The network of a request, laid stage by stage in the least rectangle.
+/// The network of a request, laid stage by stage in the least rectangle; none where it isn't one that has stages.
 fn laid_anew(alloc: Global, request: &Request) -> Result<Option<Own>, AllocError> {
     let tier = request.tier();
     match find_least(alloc, request)? {
@@ -44,8 +44,8 @@ fn is_better(rect: Rect, other: Rect, most: Rect) -> bool {
     other.width > most.width || other.height > most.height || cells_in(rect) < cells_in(other)
 }
 
-/// A layout as small as it gets; where the one that is laid anew is the better one, each of the two gets half of the
-/// effort.
+/// The own layout, or the one that is laid anew where there is no other, made as small as it gets; none where there is
+/// neither. Where the latter is the better one, each of the two gets half of the effort.
 fn narrowed(
     alloc: Global,
     most: Rect,

@@ -28,7 +28,7 @@ const LARGE: u64 = 216;
 /// And so they are from so many on, where the rectangle is nearly full.
 const LARGE_IF_TIGHT: u64 = 120;
 
-/// The literals of choices.
+/// The literals of choices; those of which the formula has no variable are left out.
 fn literals_of(
     alloc: Global,
     formula: &Formula,
@@ -44,7 +44,8 @@ fn literals_of(
     Ok(lits)
 }
 
-/// Adds that choices are made in their turn.
+/// Adds choices to a plan, which serve in this turn. Brittle ones are given up for good once one of them turns out
+/// false.
 pub fn push_choices(
     alloc: Global,
     plan: &mut Plan,
@@ -59,7 +60,8 @@ pub fn push_choices(
     Ok(())
 }
 
-/// The plan that the splitters are placed first, from both ends of the network to its middle.
+/// The plan that the splitters are placed first, from both ends of the network to its middle; where the rectangle is
+/// nearly full, nothing is chosen first.
 fn placing(alloc: Global, formula: &Formula, request: &Request) -> Result<Plan, AllocError> {
     let mut plan = Plan::new(alloc, RESTART_STEPS);
     if is_tight(request) {

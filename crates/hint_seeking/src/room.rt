@@ -16,7 +16,7 @@ pub fn taken_in(request: &Request) -> u64 {
     halves.saturating_add(ends)
 }
 
-/// Whether halves of splitters and ends take more than so many parts of so many of the cells of a request's rectangle.
+/// Whether halves of splitters and ends take more than `parts` in `of` of the cells of a request's rectangle.
 fn takes_more(request: &Request, parts: u64, of: u64) -> bool {
     taken_in(request).saturating_mul(of) > cells_in(request.rect()).saturating_mul(parts)
 }
@@ -27,7 +27,8 @@ pub fn is_tight(request: &Request) -> bool {
     takes_more(request, 3, 4)
 }
 
-/// Whether they take more than eleven twentieths. Where they do, a layout that there is is found by few steps.
+/// Whether halves of splitters and ends take more than eleven twentieths of the cells of a request's rectangle. Where
+/// they do, a layout that there is is found by few steps.
 pub fn is_close(request: &Request) -> bool {
     takes_more(request, 11, 20)
 }

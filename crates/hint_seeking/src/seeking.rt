@@ -26,7 +26,8 @@ pub fn seek_by_sketch(alloc: Global, request: &Request) -> Result<Option<Sketch>
     }
 }
 
-/// Makes an attempt in the window's own formula.
+/// Makes an attempt in the own formula of the attempt's window; nothing is found where pins or blocks don't lie in
+/// that.
 fn seek_in_window<S: Search>(
     alloc: Global,
     request: &Request,
@@ -39,7 +40,8 @@ fn seek_in_window<S: Search>(
     }
 }
 
-/// How many of so many steps look for a layout of a request where one is likely.
+/// With how many of so many steps a layout of a request is looked for where one is likely: with fewer in a rectangle of
+/// which little is left.
 fn steps_for(request: &Request, steps: u64) -> u64 {
     if is_close(request) {
         steps.min(CLOSE_STEPS)
@@ -56,7 +58,8 @@ fn attempts_at(alloc: Global, request: &Request, steps: u64) -> Result<Vec<Attem
     }
 }
 
-/// Searches for a layout that half a turn maps onto itself, the first time, or else by making one smaller.
+/// Searches for a layout that half a turn maps onto itself, unless that `is_begun`, and then for one by making a
+/// greater one smaller. Other places begin other searches of the latter kind.
 fn seek_without_steps<S: Search>(
     alloc: Global,
     request: &Request,

@@ -11,7 +11,7 @@ use hint_placement::Sketch;
 use hint_streamlining::Choice;
 use std::alloc::{AllocError, Global};
 
-/// That a belt or an underground piece stands where a sketch has it.
+/// That a belt or an underground piece stands where a sketch has it; none of a splitter.
 fn standing(part: &Part) -> Option<Choice> {
     let shape = match part.kind {
         Kind::Belt => Shape::Belt,

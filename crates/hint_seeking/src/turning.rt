@@ -33,7 +33,7 @@ pub fn turned_rect(rect: Rect) -> Rect {
     }
 }
 
-/// Adds belts as one that follows a part in a direction, or comes before it, up to the border of a rectangle.
+/// Adds belts that look as a part does, from the next cell in the direction `towards` to the border of a rectangle.
 fn add_belts(
     others: &mut Vec<Part>,
     rect: Rect,

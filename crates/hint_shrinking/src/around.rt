@@ -1,7 +1,7 @@
 //! Cells by their places in a rectangle, row by row. Those that no coordinate tells are somewhere else.
 use bt_parts::{Cell, Dir, Rect, inside};
 
-/// The number of cells.
+/// The number of a rectangle's cells.
 pub fn count(rect: Rect) -> usize {
     (rect.width as usize).saturating_mul(rect.height as usize)
 }

@@ -61,7 +61,7 @@ impl Board {
         }
     }
 
-    /// Has a cell hold this.
+    /// Has a cell hold this. Does nothing where it lies outside.
     pub fn put(&mut self, cell: Cell, content: Content) {
         if let Some(place) = place_of(self.rect, cell) {
             if let Some(old) = self.contents.get_mut(place) {
@@ -81,7 +81,7 @@ impl Board {
         filled
     }
 
-    /// How many cells of a line hold something that doesn't lead straight on across it.
+    /// How many cells of a line hold something but a belt that looks across it.
     pub fn cost(&self, line: Line) -> usize {
         let mut cost = 0usize;
         for place in 0..self.contents.len() {
@@ -98,7 +98,8 @@ impl Board {
         cost
     }
 
-    /// What is left in a lesser rectangle where a line is cut out.
+    /// What is left in a lesser rectangle where a line is cut out, with belts for pairs that then pass empty cells
+    /// alone.
     pub fn without(&self, alloc: Global, line: Line, rect: Rect) -> Result<Board, AllocError> {
         let mut board = Board::new(alloc, rect)?;
         for place in 0..count(rect) {
@@ -124,7 +125,8 @@ impl Board {
         Ok(board)
     }
 
-    /// How far ahead of an entrance the exit of its pair stands, where all cells between are empty.
+    /// How far ahead of an entrance the exit of its pair stands; none where a cell between isn't empty, or no exit
+    /// comes.
     fn idle_length(&self, entrance: Cell, dir: Dir) -> Option<usize> {
         let mut cell = entrance;
         for length in 1..MOST_APART {
@@ -138,7 +140,7 @@ impl Board {
         None
     }
 
-    /// Has belts lead from a cell on.
+    /// Has belts lead from a cell to the one so far ahead.
     fn put_belts(&mut self, from: Cell, dir: Dir, length: usize) {
         let mut cell = from;
         for _ in 0..=length {

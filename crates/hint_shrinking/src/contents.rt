@@ -41,7 +41,7 @@ fn axis_of(dir: Dir) -> Axis {
     }
 }
 
-/// Whether what stands there leads straight on along an axis, if anything does.
+/// Whether a cell that holds this is empty or holds a belt that looks along an axis.
 pub fn leads_along(content: Content, axis: Axis) -> bool {
     match content {
         Content::Empty => true,
@@ -61,7 +61,7 @@ pub fn content_of(part: &Part) -> Content {
     Content::Turned(shape, part.dir)
 }
 
-/// The belt or underground piece of a cell that holds this, if it holds one.
+/// The kind and the direction of the belt or underground piece that this is; none where it is none.
 pub fn piece_of(content: Content) -> Option<(Kind, Dir)> {
     match content {
         Content::Turned(Shape::Belt, dir) => Some((Kind::Belt, dir)),

@@ -50,7 +50,7 @@ fn priced(alloc: Global, board: &Board, goal: Goal) -> Result<Vec<(usize, Line)>
     Ok(priced)
 }
 
-/// That all cells far from a line that was cut out hold what they do.
+/// The literals that say that all cells beyond a margin beside a line that was cut out hold what they do.
 fn far(
     alloc: Global,
     field: &Field,
@@ -72,7 +72,8 @@ fn far(
     Ok(literals)
 }
 
-/// The board that is left in a field where a line is cut out or added, with its surroundings laid anew.
+/// A layout of a field that is like a board from which a line was cut out or to which one was added, but for the lines
+/// within a margin of that, which are laid anew. None where none is found.
 fn mended(
     alloc: Global,
     field: &mut Field,
@@ -91,7 +92,7 @@ fn mended(
     Ok(Some(field.board(alloc)?))
 }
 
-/// The board without a line.
+/// The board without a line, with the lines within a margin of it laid anew; none where that isn't found.
 fn without_line(
     alloc: Global,
     request: &Request,
@@ -112,7 +113,8 @@ fn without_line(
     }
 }
 
-/// The board without one of the cheapest rows and columns, where that is found.
+/// The board without the first of its cheapest rows and columns, or of all where all are tried, that is cut out with
+/// success; none where none is.
 pub fn cut_out(
     alloc: Global,
     request: &Request,

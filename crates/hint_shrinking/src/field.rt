@@ -44,7 +44,7 @@ pub struct Field {
     beside: u64,
 }
 
-/// Has cells stay empty where they can, which is chosen first.
+/// Has the search choose first that cells are empty.
 fn wish_empty(solver: &mut Solver, variables: &Variables, rect: Rect) {
     for place in 0..count(rect) {
         let fact = Fact::Kind(cell_of(rect, place), Content::Empty);
@@ -54,8 +54,8 @@ fn wish_empty(solver: &mut Solver, variables: &Variables, rect: Rect) {
     }
 }
 
-/// The variables of a request's facts, of which so many are in its formula, and of which those are shared that are
-/// alike; none, where no exchange of splitters leaves the network as it is.
+/// The variables of a request's facts, of which the formula has `count`, where those that are alike share one. None
+/// where half a turn is asked for and no exchange of splitters leaves the network as it is.
 fn variables_of(
     alloc: Global,
     request: &Request,
@@ -73,8 +73,9 @@ fn variables_of(
     Ok(Some(variables))
 }
 
-/// The search of a request's placement formula, with more clauses. In the small rectangles where layouts are turned few
-/// cells are empty, and to wish it of them takes half as many conflicts again.
+/// The search of a request's placement formula, with the clauses that no pair passes empty cells alone. Where half a
+/// turn maps layouts onto themselves no cell is wished empty: few are in the small rectangles where such layouts are
+/// looked for, and the wish takes half as many conflicts again.
 fn solver_of(
     alloc: Global,
     request: &Request,
@@ -109,7 +110,7 @@ fn field_of(alloc: Global, named: Named, likeness: Likeness) -> Result<Option<Fi
 }
 
 impl Field {
-    /// The field of a request in a rectangle, where it has one there.
+    /// The field of a request in a rectangle; none where the request doesn't fit in it.
     pub fn new(
         alloc: Global,
         request: &Request,
@@ -127,7 +128,7 @@ impl Field {
         self.named.request.rect()
     }
 
-    /// The number of a splitter in the network of the first request.
+    /// The number in the network of the first request of a splitter that has this one here.
     pub fn first_number(&self, splitter: usize) -> usize {
         self.named.first_number(splitter)
     }
@@ -142,7 +143,7 @@ impl Field {
         Literal::new(self.variables.find(fact)?, holds)
     }
 
-    /// Adds that a cell holds this, or that it doesn't.
+    /// Adds the literal that says that a cell holds this, or that it doesn't; nothing where it has no variable.
     pub fn push(
         &self,
         literals: &mut Vec<Literal>,
@@ -212,7 +213,8 @@ impl Field {
         self.solver.grant(alloc, literals)
     }
 
-    /// Whether a layout has what is taken for granted and these literals, as at most so many conflicts show.
+    /// Whether a search of at most so many conflicts finds a layout that has what is taken for granted and these
+    /// literals.
     pub fn has_layout(
         &mut self,
         alloc: Global,

@@ -30,7 +30,7 @@ pub struct Line {
 }
 
 impl Line {
-    /// How far from the first row or column a cell lies.
+    /// How far from the first line of the same axis a cell lies: its row, or its column.
     pub fn coordinate(self, x: usize, y: usize) -> usize {
         match self.axis {
             Axis::Level => y,

@@ -20,7 +20,8 @@ const MORE: usize = 2;
 /// One in so many trials may fill more cells.
 const SELDOM: usize = 4;
 
-/// What a trial wants of a cell that isn't empty: in one of four that it is, in two that it holds something else.
+/// What a trial wants of a cell that isn't empty, by chance: in one of four that it is empty, in two that it holds
+/// something else, and in one nothing.
 fn wanted(
     alloc: Global,
     field: &Field,
@@ -37,12 +38,14 @@ fn wanted(
     Ok(literals)
 }
 
-/// Whether a layout with so many filled cells may take the place of one with so many.
+/// Whether a layout with `after` filled cells takes the place of one with `before`: where it has no more, or now and
+/// then up to `MORE` more.
 fn is_taken(before: usize, after: usize, random: &mut Random) -> bool {
     after <= before || after <= before.saturating_add(MORE) && random.below(SELDOM) == 0
 }
 
-/// One trial in a window, with what lies outside taken for granted.
+/// Looks for a layout in which one filled cell of a window, by chance, may change, with what lies outside taken for
+/// granted. It takes the place of the board where it hasn't too many filled cells.
 fn try_once(
     alloc: Global,
     field: &mut Field,
@@ -64,7 +67,7 @@ fn try_once(
     Ok(())
 }
 
-/// Lays a window by chance anew, more than once.
+/// Makes trials in a window that is chosen by chance.
 pub fn lay_anew(
     alloc: Global,
     field: &mut Field,

@@ -23,7 +23,8 @@ fn push_not(
     Ok(true)
 }
 
-/// Makes a clause that of a pair so far apart. Whether all cells between lie in the rectangle.
+/// Makes a clause the one by which a pair so far apart passes a cell that isn't empty. Whether all of its facts have
+/// variables.
 fn set_clause(
     clause: &mut Vec<Literal>,
     variables: &Variables,

@@ -13,7 +13,7 @@ use std::alloc::{AllocError, Global};
 /// The most conflicts until splitters have their numbers, which what cells hold leaves open.
 const CONFLICTS: u64 = 10_000;
 
-/// That all cells hold what they do.
+/// The literals that say that all cells hold what they do on a board.
 fn everywhere(alloc: Global, field: &Field, board: &Board) -> Result<Vec<Literal>, AllocError> {
     let mut literals = Vec::new(alloc);
     for place in 0..count(board.rect()) {
@@ -61,7 +61,7 @@ fn others_of(alloc: Global, board: &Board, tier: Tier) -> Result<Vec<Part>, Allo
     Ok(others)
 }
 
-/// The plan of a layout of a request, in which splitters have their numbers.
+/// The plan of a layout of a request, in which splitters have their numbers; none where the search doesn't find these.
 pub fn plan_of(
     alloc: Global,
     field: &mut Field,

@@ -48,7 +48,8 @@ struct Shrinking {
 }
 
 impl Shrinking {
-    /// How the next line is cut out.
+    /// How the next line is cut out: the longer none was, the more may be laid anew, and now and then all lines are
+    /// tried.
     fn cut(&self) -> Cut {
         Cut {
             goal: self.goal,
@@ -80,7 +81,7 @@ impl Shrinking {
         Ok(true)
     }
 
-    /// Lays windows anew.
+    /// Lays some windows of the board anew, where the request fits in its rectangle.
     fn lay_windows(&mut self, alloc: Global, request: &Request) -> Result<(), AllocError> {
         let rect = self.board.rect();
         self.fields.prepare(alloc, request, rect)?;
@@ -111,7 +112,8 @@ impl Shrinking {
         Ok(())
     }
 
-    /// What was found.
+    /// The plan of the board, with its rectangle and what it took; none where the search doesn't find the splitters'
+    /// numbers.
     fn shrunk(&mut self, alloc: Global, request: &Request) -> Result<Option<Shrunk>, AllocError> {
         let rect = self.board.rect();
         self.fields.prepare(alloc, request, rect)?;

@@ -17,7 +17,7 @@ struct Given {
     most: usize,
 }
 
-/// A number from the other end of so many.
+/// What a number, from 0 on, is of so many where they are counted from the other end.
 fn from_end(many: u32, number: i32) -> i32 {
     i32::try_from(many)
         .unwrap_or(0)
@@ -25,7 +25,7 @@ fn from_end(many: u32, number: i32) -> i32 {
         .wrapping_sub(number)
 }
 
-/// What half a turn of a half of a splitter is.
+/// What half a turn makes of a shape: of a half of a splitter the other half.
 fn turned_shape(shape: Shape) -> Shape {
     match shape {
         Shape::Half(Half::Lesser) => Shape::Half(Half::Greater),

@@ -15,7 +15,7 @@ use std::alloc::{AllocError, Global};
 /// In how many rectangles opened networks are laid by turns.
 const PLACES: u64 = 3;
 
-/// The field in which a layout of a request was found that half a turn maps onto itself.
+/// The field in which a layout of a request was found that half a turn maps onto itself; none where none was.
 fn turned_field(
     alloc: Global,
     request: &Request,
@@ -35,7 +35,8 @@ fn turned_field(
     }
 }
 
-/// The plan of a layout.
+/// The plan of the layout on a board, with its rectangle and what it took; none where the splitters' numbers aren't
+/// found.
 fn shrunk_of(
     alloc: Global,
     field: &mut Field,
@@ -53,7 +54,7 @@ fn shrunk_of(
     }
 }
 
-/// A layout that half a turn maps onto itself.
+/// A layout that half a turn maps onto itself; none where none is found.
 fn find_whole(
     alloc: Global,
     request: &Request,
@@ -105,7 +106,8 @@ fn opened_board(
     }
 }
 
-/// A layout whose loops are joined at the border, which half a turn maps onto itself without them.
+/// A layout of a network whose loops are joined at its border, and which half a turn maps onto itself without these.
+/// None where none is found.
 fn find_joined(
     alloc: Global,
     request: &Request,
@@ -129,7 +131,7 @@ fn find_joined(
 }
 
 /// Whether half a turn may map a layout in a rectangle onto itself: where nothing is asked of its ends and cells, and
-/// splitters fill no more than that.
+/// there are two cells for each splitter.
 fn may_turn(request: &Request, rect: Rect) -> bool {
     let is_free = request.demands().is_empty() && request.blocks().is_empty();
     is_free && (request.net().splitters() as usize).saturating_mul(2) <= count(rect)

@@ -23,7 +23,7 @@ pub struct Window {
     height: usize,
 }
 
-/// A size and a beginning by chance in so many cells.
+/// Where a window begins by chance along so many cells, and over how many of them it goes.
 fn stretch(random: &mut Random, cells: usize) -> (usize, usize) {
     let size = LEAST.saturating_add(random.below(SIZES)).min(cells);
     let free = cells.saturating_sub(size).saturating_add(1);
@@ -56,7 +56,7 @@ impl Window {
     }
 }
 
-/// That all cells outside a window hold what they do.
+/// The literals that say that all cells outside a window hold what they do on a board.
 pub fn outside(
     alloc: Global,
     field: &Field,

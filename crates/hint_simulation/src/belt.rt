@@ -32,7 +32,8 @@ pub struct Belt {
 }
 
 impl Belt {
-    /// An empty belt of this cap, which is told as a network tells it.
+    /// An empty belt of this cap, which is told in belts of the slowest tier, and of this load and room, in parts of
+    /// `UNIT`.
     pub fn new(cap: u32, load: u32, room: u32) -> Belt {
         let cap = in_units(cap);
         Belt {

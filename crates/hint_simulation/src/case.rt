@@ -29,7 +29,7 @@ pub enum Choice {
 }
 
 impl Choice {
-    /// Whether it is one alone.
+    /// Whether one load or room alone stays.
     fn is_only(self) -> bool {
         match self {
             Choice::These(_) | Choice::Few(_) | Choice::Parts => false,
@@ -37,7 +37,7 @@ impl Choice {
         }
     }
 
-    /// The choice of what comes behind so many.
+    /// The choice for the rooms, which come behind so many loads: their bits stand behind those of the loads.
     fn behind(self, count: usize) -> Choice {
         match self {
             Choice::These(bits) => Choice::These(shifted(bits, count)),
@@ -89,7 +89,8 @@ impl Case {
     }
 }
 
-/// Whether rooms are lowered: one alone only where loads aren't.
+/// Whether rooms are lowered: where the property speaks of blocked outputs too and, for a choice of one alone, where no
+/// loads are lowered.
 fn lowers_rooms(property: Property, choice: Choice) -> bool {
     !property.asks_rooms() && (property.asks_loads() || !choice.is_only())
 }
@@ -101,7 +102,7 @@ fn set(numbers: &mut [u32], place: u32, number: u32) {
     }
 }
 
-/// Lowers numbers but for those of a choice.
+/// Lowers numbers, but for those that a choice keeps, to 0 or to half.
 fn lower(numbers: &mut [u32], choice: Choice, random: &mut Random) {
     match choice {
         Choice::These(bits) => keep_these(numbers, bits),
@@ -111,12 +112,12 @@ fn lower(numbers: &mut [u32], choice: Choice, random: &mut Random) {
     }
 }
 
-/// The bits behind so many, of which there are 64.
+/// The bits of a number behind the first so many; none where these are 64 or more.
 fn shifted(bits: usize, count: usize) -> usize {
     if count < 64 { bits >> count } else { 0 }
 }
 
-/// Keeps the numbers whose bits are set.
+/// Keeps the numbers whose bits are set; the others become 0.
 fn keep_these(numbers: &mut [u32], bits: usize) {
     for place in 0..numbers.len() {
         if shifted(bits, place) % 2 == 0 {
@@ -125,7 +126,8 @@ fn keep_these(numbers: &mut [u32], bits: usize) {
     }
 }
 
-/// Keeps so many numbers, or all where there are fewer: each of these choices is drawn as often as another.
+/// Keeps so many numbers, or all where there are fewer; the others become 0. Each of these choices is drawn as often as
+/// another.
 fn keep_few(numbers: &mut [u32], count: usize, random: &mut Random) {
     let mut left = count;
     for place in 0..numbers.len() {
@@ -148,7 +150,7 @@ fn keep_parts(numbers: &mut [u32], random: &mut Random) {
     }
 }
 
-/// Keeps one number, counted round.
+/// Keeps the one number at a place that is counted round; the others become 0.
 fn keep_only(numbers: &mut [u32], kept: usize) {
     for place in 0..numbers.len() {
         if place != kept % numbers.len() {

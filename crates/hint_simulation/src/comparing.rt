@@ -44,7 +44,7 @@ fn lesser(case: Case, other: &Case) -> Case {
     case
 }
 
-/// Lowers numbers to others.
+/// Lowers each number to the one at its place among others, where that is lower.
 fn lower_to(numbers: &mut [u32], others: &[u32]) {
     for (number, other) in numbers.iter_mut().zip(others) {
         *number = (*number).min(*other);
@@ -67,7 +67,7 @@ fn tried(
     Ok(Found { case, simulated })
 }
 
-/// One simulation behind another.
+/// One simulation behind another: it is still where both are, and its steps are those of both.
 fn joined(one: Simulated, other: &Simulated) -> Result<Simulated, AllocError> {
     let mut both = one;
     both.flows.extend_from_slice(&other.flows)?;
@@ -77,7 +77,8 @@ fn joined(one: Simulated, other: &Simulated) -> Result<Simulated, AllocError> {
     Ok(both)
 }
 
-/// Whether the flow of some output differs, clearly.
+/// Whether the flow of some output differs by more than `LEAST_FAILURE`, where these are the flows of the first network
+/// and behind them those of the second.
 fn differs(alloc: Global, first: &Net, second: &Net, flows: &[u32]) -> Result<bool, AllocError> {
     let edges = first.edges().len().min(flows.len());
     let ones = output_flows(alloc, first, &flows[..edges])?;

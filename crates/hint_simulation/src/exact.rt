@@ -74,7 +74,7 @@ fn equations_of(alloc: Global, net: &Net, found: &Found) -> Result<Equations, Al
     Ok(equations)
 }
 
-/// Adds what is asked of the edges at each splitter.
+/// Adds what a steady state asks of the edges at each splitter.
 fn add_splitters(
     alloc: Global,
     equations: &mut Equations,
@@ -104,7 +104,7 @@ fn add_splitters(
     Ok(())
 }
 
-/// Adds what is asked of each edge alone.
+/// Adds what a steady state asks of each edge alone: at its ends, and that it carries its cap where it nearly does.
 fn add_edges(
     alloc: Global,
     equations: &mut Equations,
@@ -132,7 +132,7 @@ fn add_conservation(
     equations.add(alloc, &terms)
 }
 
-/// The flows of the edges of a port, each times a number.
+/// Adds the flows of the edges of a port to terms, each times a number.
 fn push_port(terms: &mut Vec<Term>, port: Port, number: i64) -> Result<(), AllocError> {
     match port {
         Port::Unused => {}
@@ -145,8 +145,9 @@ fn push_port(terms: &mut Vec<Term>, port: Port, number: i64) -> Result<(), Alloc
     Ok(())
 }
 
-/// Adds what is asked of two edges of a port of which one doesn't have the mark: that they carry the same, or that the
-/// other edge than the preferred one is empty.
+/// Adds what is asked of two edges of a port of which one doesn't have the mark, which is that of a backed edge or,
+/// where `mark` is false, of a free one: that they carry the same, or that the other edge than the preferred one is
+/// empty.
 fn add_sharing(
     alloc: Global,
     equations: &mut Equations,

@@ -106,7 +106,8 @@ impl Search {
         }
     }
 
-    /// The next simulation that seems to break the property, and to convince more than the state that was found.
+    /// The next simulation that seems to break the property, and to convince more than the state that was found. None
+    /// where enough is tried.
     fn next(
         &mut self,
         alloc: Global,
@@ -131,7 +132,7 @@ impl Search {
         Ok(None)
     }
 
-    /// What is tried next, or nothing where enough is tried.
+    /// What is tried next, none where enough is tried.
     fn choice(&mut self) -> Option<Choice> {
         if self.work >= self.enough || self.failures >= MOST_FAILURES {
             None
@@ -156,7 +157,8 @@ impl Search {
         convinces && self.shown.is_clear()
     }
 
-    /// Learns whether what was shown last gives a state that breaks the property.
+    /// Learns whether what was shown last gives a state that breaks the property. The first such state limits the work
+    /// that follows.
     fn learn(&mut self, breaks: bool) {
         if !breaks {
             self.failures = self.failures.saturating_add(1);

@@ -9,7 +9,8 @@ pub enum Preference {
     Second,
 }
 
-/// Which edge of a port is the preferred one.
+/// Which edge of a port is the preferred one, which is told by its number: the second where it isn't the first, and
+/// neither where none is preferred or the port has no two edges.
 pub fn preferred_at(port: Port, preferred: Option<usize>) -> Preference {
     match (port, preferred) {
         (Port::Two(first, _), Some(edge)) => {

@@ -90,7 +90,7 @@ fn input_spread(edges: &[Edge], flows: &[u32]) -> u64 {
     span.width()
 }
 
-/// How clearly an output is short of its room and carries less than another.
+/// The most by which an output is both short of its room and below the greatest flow to an output.
 fn output_lag(edges: &[Edge], flows: &[u32], rooms: &[u32]) -> u64 {
     let mut lag = Lag::new();
     for (edge, flow) in edges.iter().zip(flows) {
@@ -106,7 +106,7 @@ fn output_lag(edges: &[Edge], flows: &[u32], rooms: &[u32]) -> u64 {
     lag.most
 }
 
-/// How clearly an input is short of its load and gives less than another.
+/// The most by which an input is both short of its load and below the greatest flow from an input.
 fn input_lag(edges: &[Edge], flows: &[u32], loads: &[u32]) -> u64 {
     let mut lag = Lag::new();
     for (edge, flow) in edges.iter().zip(flows) {
@@ -143,7 +143,8 @@ impl Lag {
         self.greatest = self.greatest.max(flow);
     }
 
-    /// Compares an end with the greatest flow so far: both gaps have to be clear.
+    /// Takes in an end whose load or room is `limit`. What counts is the lesser of its gaps to that and to the greatest
+    /// flow, as both have to be clear.
     fn add(&mut self, flow: u32, limit: u32) {
         let short = limit.saturating_sub(flow);
         let behind = self.greatest.saturating_sub(flow);

@@ -23,11 +23,13 @@ struct Shares {
 }
 
 impl Shares {
+    /// The amounts of both edges together.
     fn sum(self) -> u32 {
         self.first.saturating_add(self.second)
     }
 
-    /// The amount, evenly or first the preferred edge, as far as these shares allow.
+    /// An amount that is at most the sum of these shares, divided evenly or first to the preferred edge, where no edge
+    /// gets more than its share here.
     fn divide(self, amount: u32, preferred: Preference) -> Shares {
         let wanted = match preferred {
             Preference::Neither => amount / 2,
@@ -60,7 +62,7 @@ pub fn splitters_of(alloc: Global, net: &Net) -> Result<Vec<Splitter>, AllocErro
     Ok(splitters)
 }
 
-/// The port at a number.
+/// The port of the splitter with a number, unused where there is none.
 fn port_at(ports: &[Port], number: usize) -> Port {
     match ports.get(number) {
         Some(port) => *port,

@@ -85,7 +85,7 @@ impl Tries {
         }
     }
 
-    /// The number of the next choice.
+    /// The number of the next choice, none where enough is tried.
     fn number(&self) -> Option<usize> {
         if self.steps >= ENOUGH_STEPS {
             return None;
@@ -117,7 +117,7 @@ impl Tries {
         self.is_even(number % all) == (number < all)
     }
 
-    /// Whether as many loads as rooms stay in a choice of whole belts, or but one of both is chosen.
+    /// Whether as many loads as rooms stay in a choice of whole belts, or it is of loads alone or of rooms alone.
     fn is_even(&self, bits: usize) -> bool {
         let loads = choices(self.loads);
         loads == 1
@@ -139,19 +139,19 @@ impl Tries {
     }
 }
 
-/// How many of these may be below their caps.
+/// How many of these may be below their caps: none where the property asks that they are at them.
 fn lowered(numbers: &[u32], asked: bool) -> usize {
     if asked { 0 } else { numbers.len() }
 }
 
-/// How many choices of whole belts so few ends have.
+/// How many choices of whole belts so many ends have: two for each end. More ends than `FEW_ENDS` count as that many.
 fn choices(ends: usize) -> usize
     ensures { 0 < result }
 {
     (1usize << ends.min(FEW_ENDS)).max(1)
 }
 
-/// How many are kept of so many where the choice with a number is of a few.
+/// How many loads, and how many rooms, are kept by the choice of a few that has this number: from 1 to `most`.
 fn few_of(number: usize, most: usize) -> usize {
     let step = number.saturating_sub(number / 4).wrapping_mul(SPREAD);
     1 + step % most.max(1)

@@ -26,7 +26,8 @@ impl Lemma {
     }
 }
 
-/// How many lemmas stay, of those that come in the order of their levels.
+/// How many lemmas stay, of those that come in the order of their levels: half of them, or all of few levels where
+/// those are more.
 fn staying(lemmas: &[Lemma]) -> usize {
     let mut few = 0usize;
     for lemma in lemmas {
@@ -37,7 +38,7 @@ fn staying(lemmas: &[Lemma]) -> usize {
     few.max(lemmas.len() / 2)
 }
 
-/// The literals of lemmas.
+/// A copy of the literals of lemmas, whose spans lead there from now on.
 fn copied(alloc: Global, clauses: &Clauses, lemmas: &mut [Lemma]) -> Result<Clauses, AllocError> {
     let mut copies = Clauses::new(alloc);
     for lemma in lemmas.iter_mut() {
@@ -46,7 +47,7 @@ fn copied(alloc: Global, clauses: &Clauses, lemmas: &mut [Lemma]) -> Result<Clau
     Ok(copies)
 }
 
-/// Puts the literals of a clause into a list that have no value. Whether none is true.
+/// Lists the literals of a clause that have no value. Tells whether none is true; where one is, the list is cut short.
 fn open_literals(
     list: &mut Vec<Literal>,
     literals: &[Literal],
@@ -64,7 +65,7 @@ fn open_literals(
     Ok(true)
 }
 
-/// Adds a lemma with these literals, of which none has a value.
+/// Adds a lemma with these literals, of which none has a value. One of fewer than two is left out.
 fn attach_again(
     search: &mut Search,
     lemmas: &mut Vec<Lemma>,
@@ -84,7 +85,8 @@ fn attach_again(
     Ok(())
 }
 
-/// Adds the lemmas again whose literals stand here.
+/// Adds lemmas again, whose literals stand in `copies`: each without its false literals, and not at all where one is
+/// true.
 fn attach_all(
     alloc: Global,
     search: &mut Search,
@@ -102,7 +104,8 @@ fn attach_all(
     Ok(())
 }
 
-/// Drops all lemmas but the first so many, which stand behind so many literals of clauses. What is true is so for good.
+/// Drops all lemmas but the first `stay`, which stand behind the first `length` literals of clauses, while only what is
+/// true for good is true.
 fn drop_behind(
     alloc: Global,
     search: &mut Search,

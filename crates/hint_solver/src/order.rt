@@ -72,7 +72,7 @@ impl Order {
         self.bump > GREATEST_BUMP
     }
 
-    /// Lets a variable be chosen.
+    /// Lets a variable be chosen, by its present score.
     pub fn push(&mut self, variable: usize) -> Result<(), AllocError> {
         if let Some(score) = self.scores.get(variable) {
             self.heap.push((*score, variable))?;
@@ -85,13 +85,13 @@ impl Order {
         self.heap.len()
     }
 
-    /// The variable that is chosen next, which may have a value.
+    /// The variable that is chosen next, which may have a value. None where none may be chosen.
     pub fn pop(&mut self) -> Option<usize> {
         let (_, variable) = self.heap.pop()?;
         Some(variable)
     }
 
-    /// Scales scores down where they are great.
+    /// Scales the scores and the bump down where the bump is great.
     fn scale(&mut self) {
         if self.bump > GREAT_BUMP {
             self.bump >>= SCALE;
@@ -101,7 +101,7 @@ impl Order {
         }
     }
 
-    /// Begins anew with these variables.
+    /// Lets these variables be chosen and no others. Scores are scaled down before where they are great.
     pub fn refill(&mut self, alloc: Global, variables: &[usize]) -> Result<(), AllocError> {
         self.scale();
         self.heap = BinaryHeap::new(alloc);

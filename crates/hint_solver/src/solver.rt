@@ -180,7 +180,7 @@ impl Solver {
         Ok(true)
     }
 
-    /// Begins a trial: forgets how variables were set, and raises the scores of so many by chance.
+    /// Begins a trial: forgets how variables were set, and raises the scores of `raised` of them, drawn by chance.
     fn prepare(
         &mut self,
         alloc: Global,
@@ -197,7 +197,7 @@ impl Solver {
         self.order.refill(alloc, &self.open)
     }
 
-    /// The literal that is chosen next, where a variable has no value.
+    /// A literal of the variable that is chosen next. None where all have a value.
     fn next_choice(&mut self) -> Option<Literal> {
         for _ in 0..self.order.len() {
             let variable = self.order.pop()?;
@@ -246,7 +246,8 @@ impl Solver {
         Ok(())
     }
 
-    /// Learns from a conflict, and goes back.
+    /// Learns a clause from a conflict, goes back to where all its literals but the first are false, though not to
+    /// before what is wished, and adds the clause.
     fn learn(&mut self, alloc: Global, conflict: Conflict) -> Result<(), AllocError> {
         if self.is_thorough {
             self.phases.note(&self.search.trail)?;
@@ -270,7 +271,8 @@ impl Solver {
         Ok(true)
     }
 
-    /// One step: what follows, and then a lesson or a choice. What the trial comes to, where it ends.
+    /// One step: what follows, and then a lesson or a choice. What the trial comes to, where it ends: with the conflict
+    /// of number `last` at the latest.
     fn step(&mut self, alloc: Global, last: u64) -> Result<Option<Answer>, AllocError> {
         let Some(conflict) = self.search.propagate(alloc)? else {
             return if self.choose()? {

@@ -34,7 +34,7 @@ pub struct Tracer {
 }
 
 impl Tracer {
-    /// For clauses over so many variables.
+    /// A tracer for clauses over so many variables.
     pub fn new(alloc: Global, variables: usize) -> Result<Tracer, AllocError> {
         Ok(Tracer {
             literals: Vec::new(alloc),
@@ -88,7 +88,8 @@ impl Tracer {
         }
     }
 
-    /// Sees a literal that is false, which is traced where it is of the present level, or else learnt.
+    /// Sees a literal that is false, which is traced where it is of the present level, or else learnt. One that was
+    /// seen or is false for good is passed over.
     fn see(
         &mut self,
         trail: &Trail,
@@ -110,7 +111,7 @@ impl Tracer {
         Ok(())
     }
 
-    /// Sees literals.
+    /// Sees each of these literals, which are false.
     fn see_all(
         &mut self,
         trail: &Trail,
@@ -139,7 +140,7 @@ impl Tracer {
         }
     }
 
-    /// Sees why a literal is true.
+    /// Sees the other literals of the clause that made a literal true, where it wasn't chosen.
     fn see_reason(
         &mut self,
         search: &Search,
@@ -156,7 +157,7 @@ impl Tracer {
         }
     }
 
-    /// Traces literals of the present level back until one is left.
+    /// Traces literals of the present level back until one is left, whose negation is learnt last.
     fn trace_back(&mut self, search: &Search, order: &mut Order) -> Result<(), AllocError> {
         for literal in search.trail.literals().iter().rev() {
             if !self.is_marked(*literal) {
@@ -177,7 +178,7 @@ impl Tracer {
         literal.variable() == variable || self.is_marked(literal) || trail.level_of(literal) == 0
     }
 
-    /// Whether literals are all covered.
+    /// Whether literals are each false for good, seen, or of this variable.
     fn are_covered(&self, trail: &Trail, literals: &[Literal], variable: usize) -> bool {
         for literal in literals {
             if !self.is_covered(trail, *literal, variable) {
@@ -187,7 +188,7 @@ impl Tracer {
         true
     }
 
-    /// Whether a literal is false because others of the clause are.
+    /// Whether a literal is false since others that were seen are, by its reason alone.
     fn is_redundant(&self, trail: &Trail, clauses: &Clauses, literal: Literal) -> bool {
         let variable = literal.variable();
         match trail.reason_of(literal) {
@@ -231,7 +232,8 @@ impl Tracer {
         Ok(())
     }
 
-    /// Puts the literal of the greatest level among all but the first in the second place. That level, or 0.
+    /// Puts the literal of the greatest level among all but the first in the second place. Gives that level, or 0 where
+    /// there is one literal alone.
     fn arrange(&mut self, trail: &Trail) -> usize {
         let (mut best, mut back) = (1usize, 0usize);
         for place in 1..self.literals.len() {
@@ -247,7 +249,7 @@ impl Tracer {
         back
     }
 
-    /// Whether a level wasn't counted in this lesson yet. It is now.
+    /// Whether a level wasn't counted in this lesson yet. From now on it is counted.
     fn is_new(&mut self, level: usize) -> bool {
         let lessons = self.lessons;
         match self.stamps.get_mut(level) {
@@ -284,7 +286,7 @@ impl Tracer {
         }
     }
 
-    /// Learns a clause from a conflict, which is not of what was taken for granted.
+    /// Learns a clause from a conflict, whose level comes behind what was taken for granted.
     pub fn learn(
         &mut self,
         alloc: Global,

@@ -1,4 +1,5 @@
-//! In which order the splitters of each rank stand.
+//! In which order the splitters of each rank stand. A block of a rank stands over two halves side by side, which are
+//! blocks of the rank before; the core is a block of eight lines with the ranks under it.
 use crate::eight::CORE_ACROSS;
 use crate::wiring::{Beside, Wiring, both_at};
 use std::alloc::{AllocError, Global};
@@ -10,7 +11,7 @@ pub type Rows = Vec<Vec<usize>>;
 /// The most ranks of a butterfly: so many lines has none that a grid holds.
 const MOST_RANKS: usize = 7;
 
-/// Whether no splitter stands twice in a row of so many splitters' numbers.
+/// Whether no splitter stands twice in a row; all have numbers below `count`.
 fn are_apart(alloc: Global, row: &[usize], count: usize) -> Result<bool, AllocError> {
     let mut seen = vec![in alloc; false; count]?;
     for splitter in row {
@@ -22,8 +23,8 @@ fn are_apart(alloc: Global, row: &[usize], count: usize) -> Result<bool, AllocEr
     Ok(true)
 }
 
-/// The splitters to which those of a row lead, where each leads to two: one of each, in this order, and then the others. In
-/// the core the two stand side by side.
+/// The splitters to which those of a row lead: one of each, in this order, and then the others. In the core the two
+/// stand side by side. None where one doesn't lead to two.
 fn next_row(
     alloc: Global,
     row: &[usize],
@@ -52,7 +53,8 @@ fn are_side_by_side(half: usize) -> bool {
     half.saturating_mul(2) == CORE_ACROSS
 }
 
-/// The splitters to which one leads over so many ranks, in the order of their columns over its block.
+/// The splitters of the last of `ranks` ranks to which `first`, in the first of them, leads, in the order of their
+/// columns. None where one on the way doesn't lead to two, or is reached twice in the last rank.
 fn reached(
     alloc: Global,
     behind: &[Beside],
@@ -74,7 +76,7 @@ fn reached(
     }
 }
 
-/// The splitters from which those of a row come, each once, where each comes from two.
+/// The splitters from which those of a row come, each once. None where one of the row doesn't come from two.
 fn row_before(
     alloc: Global,
     row: &[usize],
@@ -98,7 +100,8 @@ fn row_before(
     Ok(Some(found))
 }
 
-/// The splitters of so many ranks in any order, from the last rank, which is this one, to the first.
+/// The splitters of so many ranks, from the last one, which is given, to the first, each rank in any order. None where
+/// one doesn't come from two.
 fn ranks_before(
     alloc: Global,
     last: &[usize],
@@ -123,7 +126,8 @@ fn label_at(labels: &[usize], splitter: usize) -> usize {
     labels.get(splitter).copied().unwrap_or(usize::MAX)
 }
 
-/// The labels of splitters of ranks, which are listed from the last to the first: those of the first rank are given.
+/// A label for each splitter of these ranks, which are listed from the last to the first: in the first rank that of
+/// `first`, in each later one the lesser of the two that it comes from.
 fn labels_of(
     alloc: Global,
     ranks: &[Vec<usize>],
@@ -147,7 +151,8 @@ fn labels_of(
     Ok(labels)
 }
 
-/// The two splitters from which both at these places of a row come, first that of the half with the lesser label.
+/// The two splitters from which both at these places of a row come, first that of the half with the lesser label. None
+/// where they don't come from the same two.
 fn sources(
     row: &[usize],
     places: (usize, usize),
@@ -164,14 +169,15 @@ fn sources(
     }
 }
 
-/// Writes a splitter's number to a place of a row.
+/// Writes a splitter's number to a place of a row, where the row has it.
 fn write(row: &mut [usize], place: usize, splitter: usize) {
     if let Some(number) = row.get_mut(place) {
         *number = splitter;
     }
 }
 
-/// The row under one that consists of blocks of twice so many splitters, each over two halves side by side.
+/// The row under one whose blocks have twice `half` splitters, each over two halves side by side, of which that with
+/// the lesser labels stands to the left. None where two splitters don't come from the same two, as they should.
 fn row_under(
     alloc: Global,
     row: &[usize],
@@ -205,7 +211,7 @@ fn block_start(pair: usize, half: usize) -> usize {
     (pair / half.max(1)).saturating_mul(half).saturating_mul(2)
 }
 
-/// The rows of so many ranks, of which the last is this one.
+/// The rows of a butterfly, from its last one, which is given, to its first. None where a row isn't one of a butterfly.
 fn rows_under(
     alloc: Global,
     last: Vec<usize>,
@@ -238,7 +244,8 @@ struct Way<'a> {
     labels: &'a [usize],
 }
 
-/// The rows of a butterfly of so many ranks that begins with this splitter's.
+/// The rows of a butterfly of so many ranks, from the last to the first, that has this splitter in its first one. None
+/// where there is no such butterfly.
 fn butterfly_from(
     alloc: Global,
     way: Way,
@@ -264,7 +271,7 @@ fn numbers(alloc: Global, count: usize) -> Result<Vec<usize>, AllocError> {
     Ok(labels)
 }
 
-/// A label for each splitter of a row: its place.
+/// A label for each of so many splitters: its place in a row, or the greatest number where it isn't there.
 fn places(alloc: Global, row: &[usize], count: usize) -> Result<Vec<usize>, AllocError> {
     let mut labels = vec![in alloc; usize::MAX; count]?;
     for (place, splitter) in row.iter().enumerate() {
@@ -273,7 +280,8 @@ fn places(alloc: Global, row: &[usize], count: usize) -> Result<Vec<usize>, Allo
     Ok(labels)
 }
 
-/// The rows of a butterfly that is followed along its edges, from the splitter of this number in its first row on.
+/// The rows of a butterfly that is followed along its edges, where this splitter stands in its first one; none where it
+/// is no butterfly.
 fn rows_onward(
     alloc: Global,
     wiring: &Wiring,
@@ -289,7 +297,8 @@ fn rows_onward(
     butterfly_from(alloc, way, first, ranks)
 }
 
-/// The rows of a butterfly against the edges, which begins with this row.
+/// The rows of a butterfly that is followed against its edges from the row `shared` on. None where it is no butterfly,
+/// or its first row doesn't come out in the order of `shared`.
 fn rows_against(
     alloc: Global,
     wiring: &Wiring,
@@ -342,7 +351,8 @@ impl Shape {
     }
 }
 
-/// What a network of so many splitters may be.
+/// What a network of so many splitters may be: `ranks` rows of 2^(`ranks` - 1) are a butterfly, and twice as many rows
+/// but one a Benes network. None for other numbers.
 pub fn shape_of(splitters: usize) -> Option<Shape> {
     let mut across = 1usize;
     for ranks in 1..=MOST_RANKS {
@@ -358,7 +368,9 @@ pub fn shape_of(splitters: usize) -> Option<Shape> {
     None
 }
 
-/// The rows of a Benes network of two butterflies of so many ranks.
+/// The rows of a Benes network of two butterflies of so many ranks each, where `first` has an input: the upper one
+/// begins with the rank to which `first` leads, and the lower one goes back from there. None where it is no such
+/// network.
 fn benes_from(
     alloc: Global,
     wiring: &Wiring,

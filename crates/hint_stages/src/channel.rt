@@ -37,7 +37,8 @@ fn push_text(text: &mut Vec<u8>, piece: &str) -> Result<(), AllocError> {
     Ok(())
 }
 
-/// Adds the edges from a lower splitter to those of the upper row.
+/// Adds the edges of the lower splitter with this number: from two inputs, and to two of the upper row; and the edges
+/// from the upper one with this number to two outputs.
 fn push_lower(alloc: Global, text: &mut Vec<u8>, half: u32, lower: u32) -> Result<(), AllocError> {
     let first = lower % half.max(1);
     let second = first.saturating_add(half);
@@ -77,7 +78,7 @@ fn text_of(alloc: Global, half: u32) -> Result<Vec<u8>, AllocError> {
     Ok(text)
 }
 
-/// The network of two ranks that a channel joins.
+/// The network of two ranks that a channel joins; none where it is too large to be read.
 fn net_of(alloc: Global, half: u32) -> Result<Option<Net>, AllocError> {
     let text = text_of(alloc, half)?;
     match read(alloc, Admitted::Nothing, &text) {
@@ -95,7 +96,7 @@ fn is_grid(rect: Rect) -> bool
     width >= 1 && width <= MOST_ACROSS && height >= 1 && height <= MOST_ACROSS
 }
 
-/// The request for the two ranks of a channel with so many rows.
+/// The request for the two ranks of a channel with so many rows between; none where its rectangle is no grid.
 fn request_of(
     alloc: Global,
     tier: Tier,
@@ -118,7 +119,7 @@ fn request_of(
     }
 }
 
-/// The cell beside the first one of a row, so many rows down.
+/// The first cell of the row that is so many rows under the topmost one.
 fn row_start(rows: u32) -> Cell {
     let mut cell = Cell { x: 0, y: 0 };
     for _ in 0..rows {
@@ -127,7 +128,7 @@ fn row_start(rows: u32) -> Cell {
     cell
 }
 
-/// Adds the stands of a row of so many splitters side by side.
+/// Adds the stands of `count` splitters side by side that look to the north, of which the first begins with this cell.
 fn push_stands(stands: &mut Vec<Stand>, first: Cell, count: u32) -> Result<(), AllocError> {
     let mut cell = first;
     for _ in 0..count {
@@ -180,8 +181,8 @@ fn channel_of(
     }
 }
 
-/// A channel of blocks with so many splitters in each half, in at most so many rows: one that is kept as a drawing, or else
-/// in as few rows as the router comes to.
+/// A channel of blocks with so many splitters in each half: one that is kept as a drawing, or else in as few rows as
+/// the router comes to. None where that has more than `most` rows, or none is found.
 pub fn find_channel(
     alloc: Global,
     tier: Tier,

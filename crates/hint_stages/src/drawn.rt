@@ -1,4 +1,5 @@
-//! Channels, and those that a router found once, as drawings: so they need no search, and have fewer rows than one has time to look for.
+//! Channels, and those that a router found once, as drawings: so they need no search, and have fewer rows than one has
+//! time to look for.
 use crate::eight::piece;
 use bt_parts::{Cell, Dir, Kind};
 use hint_routing::{Chain, Step, ahead};
@@ -92,14 +93,14 @@ fn drawing_of(lines: u32) -> Option<Drawing> {
     }
 }
 
-/// What stands on a cell of a drawing, whose rows are counted from 1.
+/// What stands on a cell of a drawing, whose rows are counted from 1; none where it is free, or lies outside.
 fn piece_at(drawing: Drawing, cell: Cell) -> Option<(Kind, Dir)> {
     let row = usize::try_from(cell.y.wrapping_sub(1)).ok()?;
     let column = usize::try_from(cell.x).ok()?;
     piece(*drawing.get(row)?.as_bytes().get(column)?)
 }
 
-/// How far ahead the exit is of an entrance on this cell.
+/// How far ahead the exit is of an entrance on this cell; none where it isn't within `FARTHEST` cells.
 fn length_of_pair(drawing: Drawing, entrance: Cell, dir: Dir) -> Option<u32> {
     let mut cell = entrance;
     for length in 1..=FARTHEST {
@@ -111,7 +112,7 @@ fn length_of_pair(drawing: Drawing, entrance: Cell, dir: Dir) -> Option<u32> {
     None
 }
 
-/// The step that a drawing shows on a cell.
+/// The step that a drawing shows on a cell: a belt, or an entrance with its exit. None where neither is there.
 fn step_at(drawing: Drawing, cell: Cell) -> Option<Step> {
     match piece_at(drawing, cell)? {
         (Kind::Belt, dir) => Some(Step::Belt(cell, dir)),
@@ -131,7 +132,8 @@ fn end_of(step: Step) -> Cell {
     }
 }
 
-/// The chain that begins on this cell of a drawing with so many cells.
+/// The chain that begins on this cell of a drawing, its last step first. It has at most as many steps as the drawing
+/// has cells, which are `cells`.
 fn chain_from(
     alloc: Global,
     drawing: Drawing,

@@ -1,6 +1,6 @@
-//! A butterfly of eight lines in eight columns and eleven rows, without the belts of its ends, which a search of a placement
-//! formula found: with its channels alone it would have eighteen rows. Its first rank is its last row, and its last rank its
-//! first row.
+//! The core: a butterfly of eight lines in eight columns and eleven rows, without the belts of its ends, which a search
+//! of a placement formula found: with its channels alone it would have eighteen rows. Its first rank is its last row,
+//! and its last rank its first row.
 use crate::sense::Sense;
 use bt_parts::{Cell, Dir, Kind};
 use hint_routing::Stand;
@@ -134,7 +134,7 @@ const AGAINST_SEATS: [Stand; 12] = [
     },
 ];
 
-/// The rows of its drawing.
+/// The rows of the core's drawing, from the north to the south.
 pub fn drawing(sense: Sense) -> &'static [&'static str] {
     match sense {
         Sense::Onward => &ONWARD,
@@ -142,7 +142,7 @@ pub fn drawing(sense: Sense) -> &'static [&'static str] {
     }
 }
 
-/// Where the splitter at a place of a rank stands, of which 0 is the first.
+/// Where the splitter at a place of a rank of the core stands, both counted from 0; none where it has no such.
 pub fn seat(sense: Sense, rank: usize, place: usize) -> Option<Stand> {
     let number = rank.saturating_mul(CORE_ACROSS).saturating_add(place);
     match sense {

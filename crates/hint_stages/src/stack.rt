@@ -24,7 +24,8 @@ fn shifted(cell: Cell, first: Cell) -> Cell {
     }
 }
 
-/// The cell in a block that begins with this one: of a block that is turned upside down, so many rows high, that in its mirror.
+/// Where a cell of a block that begins with the cell `first` stands. In one that is turned upside down its row is
+/// counted from `last_row` back.
 fn placed(cell: Cell, first: Cell, sense: Sense, last_row: i32) -> Cell {
     match sense {
         Sense::Onward => shifted(cell, first),
@@ -38,8 +39,9 @@ fn placed(cell: Cell, first: Cell, sense: Sense, last_row: i32) -> Cell {
     }
 }
 
-/// How a belt is turned to which a chain comes in this direction, and which it leaves in that one. Against the chain it leads
-/// to where the chain came from, and upside down north is south.
+/// The direction of a belt to which a chain comes in the direction `came`, and which it leaves in the direction
+/// `leaves`. Against the chain it leads to where that came from, and as north is south upside down, only east and west
+/// change places.
 fn turned(came: Dir, leaves: Dir, sense: Sense) -> Dir {
     match (sense, came) {
         (Sense::Onward, _) => leaves,
@@ -74,7 +76,7 @@ impl Stack {
         Ok(())
     }
 
-    /// Adds a row of belts to the north.
+    /// Adds a row of belts that look to the north, one for each of so many lines.
     pub fn push_belts(&mut self, lines: u32) -> Result<(), AllocError> {
         let mut cell = self.cell;
         for _ in 0..lines {
@@ -85,7 +87,7 @@ impl Stack {
         Ok(())
     }
 
-    /// Adds a row of splitters with these numbers.
+    /// Adds a row of splitters that look to the north, side by side, with these numbers.
     pub fn push_splitters(&mut self, row: &[usize]) -> Result<(), AllocError> {
         let (mut cell, tier) = (self.cell, self.tier);
         for splitter in row {
@@ -102,7 +104,8 @@ impl Stack {
         Ok(())
     }
 
-    /// Adds the parts of a chain of a channel, whose block begins with this cell and is so many rows high but one.
+    /// Adds the parts of a chain of a channel, whose block begins with the cell `first` and has rows from 0 to
+    /// `last_row`.
     fn push_chain(
         &mut self,
         chain: &Chain,
@@ -171,7 +174,7 @@ impl Stack {
         Ok(())
     }
 
-    /// Adds the belts of a row of the core's drawing.
+    /// Adds the belts, entrances and exits of a row of the core's drawing, which begins with this cell.
     fn push_drawn(&mut self, first: Cell, line: &str) -> Result<(), AllocError> {
         let mut cell = first;
         for sign in line.as_bytes() {
@@ -207,8 +210,8 @@ impl Stack {
         Ok(())
     }
 
-    /// Adds the core in the block with this number, which begins with this cell: its ranks have these rows, from the first one
-    /// of them that is not there yet.
+    /// Adds the core in the block with this number, which begins with this cell. Its ranks have these rows, from its
+    /// last rank on; where there are fewer, its first rank gets no splitters.
     fn push_core(
         &mut self,
         seat: (Cell, usize),

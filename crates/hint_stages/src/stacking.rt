@@ -26,7 +26,8 @@ struct Channels {
     list: Vec<Channel>,
 }
 
-/// The channels of a network with so many splitters in a row, of at most so many rows in all.
+/// The channels of a network with so many splitters in a row, of at most so many rows in all; none where one of them
+/// isn't found.
 fn channels_of(
     alloc: Global,
     tier: Tier,
@@ -255,13 +256,10 @@ fn stack_with_loops(
 
 /// How many lines a network has that is arranged so.
 fn lines_of(arranged: &Arranged) -> u32 {
-    let mut lines = 0u32;
-    if let Some(row) = arranged.upper.last() {
-        for _ in row {
-            lines = lines.saturating_add(2);
-        }
+    match arranged.upper.last() {
+        Some(row) => u32::try_from(row.len()).unwrap_or(0).saturating_mul(2),
+        None => 0,
     }
-    lines
 }
 
 /// Whether a network may have a plan: with the edges that lead back it has as many inputs as outputs, and as many lines as its

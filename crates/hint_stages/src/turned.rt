@@ -7,7 +7,8 @@ use hint_placement::Sketch;
 use hint_routing::ahead;
 use std::alloc::{AllocError, Global};
 
-/// Whether a demand lets all go in a direction: inputs come in at the side behind, and outputs leave at the side ahead.
+/// Whether a demand lets all lines go in a direction: inputs come in at the side behind, and outputs leave at the side
+/// ahead. A row lets them go in each, a pin in none.
 fn lets_go(demand: &Demand, dir: Dir) -> bool {
     let side = match demand {
         Demand::Pin(_) => return false,
@@ -46,7 +47,7 @@ fn turned_rect(rect: Rect) -> Rect {
     }
 }
 
-/// A cell of a rectangle so high, when that is a quarter turned to the right.
+/// Where a cell of a rectangle of this height lies after that is turned a quarter to the right.
 fn turned_cell(cell: Cell, height: u32) -> Cell {
     let far = ahead(Cell { x: 0, y: 0 }, Dir::East, height);
     Cell {
@@ -55,7 +56,8 @@ fn turned_cell(cell: Cell, height: u32) -> Cell {
     }
 }
 
-/// A part of a rectangle so high, when that is a quarter turned to the right.
+/// A part of a rectangle of this height after that is turned a quarter to the right. A splitter's cell is that of its
+/// lesser half, which may be the other half then.
 fn turned_part(part: Part, height: u32) -> Part {
     let lesser = match (part.kind, part.dir) {
         (Kind::Splitter, Dir::East) | (Kind::Splitter, Dir::West) => part.cell.next(Dir::South),

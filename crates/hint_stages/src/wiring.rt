@@ -1,4 +1,4 @@
-//! Which splitters those of a network come from and lead to.
+//! From which splitters those of a network come, and to which they lead.
 use bt_model::Request;
 use bt_net::{Edge, Net, Start};
 use hint_numbering::{from, joined, to};
@@ -18,7 +18,7 @@ const NONE: Beside = Beside {
 };
 
 impl Beside {
-    /// These and one more. A third one is left out.
+    /// These and one more. A third one takes the second's place.
     fn with(self, splitter: usize) -> Beside {
         match self.first {
             None => Beside {
@@ -80,7 +80,8 @@ enum Toward {
 }
 
 impl Toward {
-    /// The splitter of which an edge tells how far it is, and the next one on the way; none where an end comes next.
+    /// The splitter of which an edge tells how far it is, and the next one on the way, or none where that is an end.
+    /// None where the edge has no such splitter.
     fn step(self, edge: &Edge) -> Option<(usize, Option<usize>)> {
         match self {
             Toward::Inputs => Some((to(edge)?, from(edge))),
@@ -89,12 +90,12 @@ impl Toward {
     }
 }
 
-/// The distance of a splitter.
+/// What is known of the distance of a splitter; `NOWHERE` where nothing is.
 fn distance(distances: &[usize], splitter: usize) -> usize {
     distances.get(splitter).copied().unwrap_or(NOWHERE)
 }
 
-/// Shortens what is known of distances by an edge.
+/// Lowers the distance that is known of a splitter, where the way along this edge is shorter.
 fn shorten(distances: &mut [usize], toward: Toward, edge: &Edge) {
     if let Some((splitter, next)) = toward.step(edge) {
         let over = match next {
@@ -107,7 +108,8 @@ fn shorten(distances: &mut [usize], toward: Toward, edge: &Edge) {
     }
 }
 
-/// How many splitters lie between each splitter and the nearest end, as far as so many.
+/// How many splitters lie between each splitter and the nearest end, where they are fewer than `most`; else at least
+/// `most`.
 fn distances_of(
     alloc: Global,
     net: &Net,
@@ -139,7 +141,8 @@ fn ranks_of(alloc: Global, net: &Net, ranks: usize) -> Result<Vec<usize>, AllocE
     Ok(found)
 }
 
-/// Adds an edge.
+/// Notes an edge that joins two splitters: with them where it leads from one rank to the next, else as one that leads
+/// back. The first edge from an input to a splitter tells the splitter that has one.
 fn add_edge(wiring: &mut Wiring, ranks: &[usize], edge: &Edge) -> Result<(), AllocError> {
     if let Some((from, to)) = joined(edge) {
         if distance(ranks, from).saturating_add(1) == distance(ranks, to) {

@@ -6,7 +6,9 @@ use std::alloc::{AllocError, Global};
 /// The level of a splitter that is as near to the outputs as can be, where 0 is that of one near to the inputs.
 pub const LAST_LEVEL: u64 = 5040;
 
-/// The part of the way that lies before a splitter, of which there are at least so many up to it and from it on.
+/// The level of a splitter up to which the shortest way from an input passes so many splitters, and the shortest way
+/// from it to an output so many, itself included: the part of the whole way that lies before it. In the middle where it
+/// is alone.
 fn level(up_to: u32, from_it: u32) -> u64 {
     let before = u64::from(up_to).saturating_sub(1);
     let all = before + u64::from(from_it).saturating_sub(1);
@@ -16,7 +18,7 @@ fn level(up_to: u32, from_it: u32) -> u64 {
     before * LAST_LEVEL / all
 }
 
-/// The level of each splitter.
+/// The level of each splitter, from 0 next to the inputs to `LAST_LEVEL` next to the outputs.
 pub fn levels(alloc: Global, edges: &[Edge], splitters: usize) -> Result<Vec<u64>, AllocError> {
     let first = from_inputs(alloc, edges, splitters)?;
     let last = to_outputs(alloc, edges, splitters)?;

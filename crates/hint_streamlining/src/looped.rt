@@ -27,7 +27,7 @@ fn seats_by(alloc: Global, levels: &[u64], middles: &[u64]) -> Result<Vec<Seat>,
     Ok(seats)
 }
 
-/// The places of the splitters that stand next to the inputs and the outputs, or of the others.
+/// Adds the places of the splitters that stand next to the inputs and the outputs, or else of the others.
 fn add_all_places(
     alloc: Global,
     choices: &mut Vec<Choice>,
@@ -52,14 +52,16 @@ fn levels_of(alloc: Global, request: &Request) -> Result<Vec<u64>, AllocError> {
     looped_levels(alloc, net.edges(), net.splitters() as usize)
 }
 
-/// That all but what leads back goes from the south to the north.
+/// The choices of `rows_by` in the whole rectangle, by the levels of a network with loops: all but what leads back goes
+/// from the south to the north.
 pub fn looped_rows(alloc: Global, request: &Request) -> Result<Vec<Choice>, AllocError> {
     let levels = levels_of(alloc, request)?;
     rows_by(alloc, request, request.rect(), &levels)
 }
 
 /// Where the splitters of a network with loops stand, those of a level spread over so many columns in one of several
-/// orders: first those at both ends of the network, then the ways back between them, and then the other splitters.
+/// orders: first those at both ends of the network, then the ways back between splitters, and then the other splitters.
+/// The longest pair of a way back comes last where the order's number is odd.
 pub fn looped_places(
     alloc: Global,
     request: &Request,

@@ -44,7 +44,8 @@ pub fn has_loop(alloc: Global, edges: &[Edge], splitters: usize) -> Result<bool,
     Ok(greatest(&lengths) as usize >= splitters.max(1))
 }
 
-/// For each splitter, how much nearer to the outputs it is than the one that is furthest from them.
+/// The stage of each splitter: how much nearer to the outputs it is than the one that is furthest from them; 0 too
+/// where no way leads from it to an output.
 fn stages(alloc: Global, edges: &[Edge], splitters: usize) -> Result<Vec<u32>, AllocError> {
     let distances = to_outputs(alloc, edges, splitters)?;
     let mut most = 0u32;
@@ -60,7 +61,8 @@ fn stages(alloc: Global, edges: &[Edge], splitters: usize) -> Result<Vec<u32>, A
     Ok(stages)
 }
 
-/// The stage of a splitter, or the one behind those from which edges come, where all of these lead back.
+/// The stage of a splitter. Where every edge to it comes from a splitter of its own stage or a later one, its stage is
+/// instead the one after the last of theirs.
 fn lifted(edges: &[Edge], stages: &[u32], splitter: usize) -> u32 {
     let own = at(stages, splitter);
     let mut after = own;
@@ -101,7 +103,8 @@ fn different_below(sorted: &[u32], number: u32) -> u64 {
     count
 }
 
-/// The level of each splitter of a network with loops, by how far it is from the outputs.
+/// The level of each splitter of a network with loops: the stages that occur lie evenly from 0 to `LAST_LEVEL`, and a
+/// stage alone lies in the middle.
 pub fn looped_levels(
     alloc: Global,
     edges: &[Edge],

@@ -26,8 +26,8 @@ fn add_pair(
     draft.add(&given, &[])
 }
 
-/// The two pieces of a pair aren't next to one another; and where a belt may stand on any cell, it passes one that
-/// isn't empty.
+/// A pair from this cell whose pieces are at most so far apart passes a cell that isn't empty; so its pieces aren't
+/// next to one another.
 fn add_pairs(
     alloc: Global,
     draft: &mut Draft,
@@ -41,7 +41,8 @@ fn add_pairs(
     Ok(())
 }
 
-/// No belt turns to a side and back to where the first one could have turned at once, unless an input begins there.
+/// No belts turn to a side and then back, to a belt beside the first of them to which that could have turned at once,
+/// unless an input begins there.
 fn add_turn(draft: &mut Draft, cell: Cell, dir: Dir, side: Dir) -> Result<(), AllocError> {
     let next = cell.next(dir);
     let given = [
@@ -131,7 +132,7 @@ fn add_endings(
     Ok(())
 }
 
-/// Of twins the one with the lesser number doesn't stand in a later row.
+/// Where the twin with the lesser number stands in this row, the other one stands in no row above.
 fn add_rows(draft: &mut Draft, one: usize, other: usize, row: usize) -> Result<(), AllocError> {
     for above in 0..row {
         draft.add(&[Fact::Row(one, row), Fact::Row(other, above)], &[])?;
@@ -139,7 +140,7 @@ fn add_rows(draft: &mut Draft, one: usize, other: usize, row: usize) -> Result<(
     Ok(())
 }
 
-/// In one row, it doesn't stand in a later column.
+/// Of twins in one row the one with the lesser number stands in an earlier column.
 fn add_columns(
     draft: &mut Draft,
     one: usize,
@@ -179,7 +180,7 @@ struct RequestTraits {
     most: u32,
     /// Whether two edges leave each splitter, and no cell is blocked.
     is_free: bool,
-    /// Whether no end is pinned.
+    /// Whether nothing is asked of where ends stand.
     is_unpinned: bool,
 }
 
@@ -244,9 +245,9 @@ fn add_all_twins(alloc: Global, draft: &mut Draft, request: &Request) -> Result<
     Ok(())
 }
 
-/// Rules over the facts of a request that a layout keeps which has few underground pieces and belts, and whose splitters
-/// stand as near to the front and, of those that may change places, in the order of their numbers. They may speak of cells
-/// that the request doesn't have.
+/// Rules over the facts of a request that a layout keeps which has few underground pieces and belts, and whose
+/// splitters stand as far to the front as can be and, of those that may change places, in the order of their numbers.
+/// They may speak of cells that the request doesn't have.
 pub fn narrowings(alloc: Global, request: &Request) -> Result<Draft, AllocError> {
     let mut draft = Draft::new(alloc)?;
     add_around(alloc, &mut draft, request)?;

@@ -7,7 +7,7 @@ use bt_net::Edge;
 use bt_parts::{Cell, Dir, Rect};
 use hint_numbering::{from, to};
 use std::alloc::{AllocError, Global};
-/// The fewest cells of a pair in a column that aren't next to one another.
+/// The fewest cells that a pair in a column takes with what lies between its pieces, which aren't next to one another.
 const LEAST_LENGTH: u64 = 3;
 
 /// Where edges lead back from a splitter: in a column, from a row on to the south.
@@ -18,7 +18,7 @@ struct WayBack {
     row: u64,
 }
 
-/// The cell in a column and a row.
+/// The one of these cells that lies in a column and a row, if any.
 fn cell_at(cells: &[Cell], column: u64, row: u64) -> Option<Cell> {
     for cell in cells {
         if u64::from(cell.x.unsigned_abs()) == column && u64::from(cell.y.unsigned_abs()) == row {
@@ -28,7 +28,8 @@ fn cell_at(cells: &[Cell], column: u64, row: u64) -> Option<Cell> {
     None
 }
 
-/// How many of so many cells a pair takes that has at most this length: so many that the others have room for a pair.
+/// How many of so many cells of a column a pair takes, at most `most`: fewer where what is left would be too short for
+/// a pair.
 fn next_length(cells: u64, most: u64) -> u64 {
     let rest = cells.saturating_sub(most);
     if rest > 0 && rest < LEAST_LENGTH {
@@ -38,7 +39,8 @@ fn next_length(cells: u64, most: u64) -> u64 {
     }
 }
 
-/// The lengths of pairs that take so many cells together, the longest one first, or last.
+/// The lengths of pairs that take so many cells together, the longest one first, or last; none where the cells are too
+/// few for a pair.
 fn lengths(
     alloc: Global,
     cells: u64,
@@ -60,7 +62,8 @@ fn lengths(
     Ok(lengths)
 }
 
-/// Adds that a pair of this length leads south, which carries the edges that leave a splitter.
+/// Adds that a pair leads south from where the way is, over so many cells with both pieces, and carries what leaves its
+/// splitter. Adds nothing where a piece would lie outside.
 fn add_pair(
     choices: &mut Vec<Choice>,
     cells: &[Cell],
@@ -108,7 +111,7 @@ fn add_pairs(
     Ok(())
 }
 
-/// Whether a column of so many isn't taken.
+/// Whether a column is one of so many, and isn't taken.
 fn is_free(taken: &[u64], width: u64, column: u64) -> bool {
     for other in taken {
         if *other == column {
@@ -118,7 +121,7 @@ fn is_free(taken: &[u64], width: u64, column: u64) -> bool {
     column < width
 }
 
-/// How far it is from the middle of a column to this place.
+/// How far it is from the middle of a column to this place, both in `PARTS` of a column.
 fn distance(column: u64, middle: u64) -> u64 {
     column
         .saturating_mul(PARTS)
@@ -126,7 +129,8 @@ fn distance(column: u64, middle: u64) -> u64 {
         .abs_diff(middle)
 }
 
-/// The column beside where a splitter should stand that isn't taken, the one nearer to the other end of an edge.
+/// The free column next to where the splitter should stand to which a way leads back: of two the one nearer to where it
+/// starts. None where both are taken or outside.
 fn column_beside(taken: &[u64], width: u64, start: Seat, target: Seat) -> Option<u64> {
     let left = target.left() / PARTS;
     let east = left.saturating_add(2);
@@ -177,7 +181,7 @@ pub struct Returning {
 }
 
 impl Returning {
-    /// Adds the way back from one splitter to another, down a column.
+    /// Adds the way back from the row of one splitter to that of another, down a column.
     fn add_way(
         &self,
         alloc: Global,

@@ -24,8 +24,8 @@ fn count_before(levels: &[u64], before: usize, level: u64) -> u64 {
     count
 }
 
-/// Where the middles of splitters are from the west, where those of a level are spread over the width in the order of
-/// their numbers.
+/// Where the middles of splitters are from the west, in parts of which `LAST_LEVEL` make a column, where those of a
+/// level are spread over so many columns in the order of their numbers.
 fn spread_out(alloc: Global, levels: &[u64], width: u32) -> Result<Vec<u64>, AllocError> {
     let mut middles = Vec::new(alloc);
     for (splitter, level) in levels.iter().enumerate() {
@@ -38,7 +38,7 @@ fn spread_out(alloc: Global, levels: &[u64], width: u32) -> Result<Vec<u64>, All
     Ok(middles)
 }
 
-/// Lets two splitters of one level change places. Whether they have one level.
+/// Lets two splitters change places where they have one level. Whether they have.
 fn exchange(middles: &mut [u64], levels: &[u64], one: usize, other: usize) -> bool {
     let is_one_level = match (levels.get(one), levels.get(other)) {
         (Some(one), Some(other)) => one == other,
@@ -137,7 +137,8 @@ fn cost(alloc: Global, edges: &[Edge], levels: &[u64], middles: &[u64]) -> Resul
     Ok(sum)
 }
 
-/// Lets two splitters of one level change places, where that costs less. Gives what the places cost then.
+/// Lets two splitters of one level change places, where all then costs less than `least`. Gives what the places cost
+/// then.
 fn try_exchange(
     alloc: Global,
     edges: &[Edge],
@@ -180,8 +181,9 @@ fn improve(
     Ok(())
 }
 
-/// Where the middles of splitters should be from the west, those of a level spread over so many columns: one of several
-/// orders.
+/// Where the middles of splitters should be from the west, in parts of which `LAST_LEVEL` make a column, those of a
+/// level spread over so many columns: in the order that exchanges come to from that of their numbers, where `order` is
+/// 0, or else from one by chance.
 pub fn middles(
     alloc: Global,
     edges: &[Edge],

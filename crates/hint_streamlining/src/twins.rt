@@ -12,7 +12,8 @@ fn are_joined(edges: &[Edge], one: usize, other: usize) -> bool {
         || joining(edges, other, other) > 0
 }
 
-/// Whether as many edges join the one and the other splitter to this one, or to the ends of the network.
+/// Whether as many edges lead from a third splitter to the one as to the other, and as many from the one as from the
+/// other to the third; where no third is named, from and to the ends of the network.
 fn is_alike(edges: &[Edge], one: usize, other: usize, third: Option<usize>) -> bool {
     let (one, other) = (Some(one), Some(other));
     joining(edges, third, one) == joining(edges, third, other)
@@ -32,7 +33,7 @@ fn are_twins(edges: &[Edge], splitters: usize, one: usize, other: usize) -> bool
     true
 }
 
-/// The first twin of a splitter among those after it.
+/// The first twin of a splitter among those with greater numbers; none where there is none.
 fn twin_of(edges: &[Edge], splitters: usize, one: usize) -> Option<usize> {
     for other in one..splitters {
         if other > one && are_twins(edges, splitters, one, other) {

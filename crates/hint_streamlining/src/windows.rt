@@ -74,7 +74,7 @@ fn likely_window(alloc: Global, request: &Request) -> Result<Rect, AllocError> {
     })
 }
 
-/// Adds a window, where it is one of a rectangle.
+/// Adds a window, where it has a row at least and isn't larger than a rectangle.
 fn push_within(windows: &mut Vec<Rect>, rect: Rect, window: Rect) -> Result<(), AllocError> {
     if window.width <= rect.width && window.height >= 1 && window.height <= rect.height {
         windows.push(window)?;
@@ -88,7 +88,7 @@ fn is_free(request: &Request) -> bool {
 }
 
 /// The windows of a request in which a layout is likely, the most likely one first. None where there is no splitter, or
-/// where the request names cells.
+/// where the request names cells or other sides than windows have.
 fn windows(alloc: Global, request: &Request) -> Result<Vec<Rect>, AllocError> {
     let mut windows = Vec::new(alloc);
     if !is_free(request) {
@@ -170,8 +170,9 @@ fn may_be_looped(alloc: Global, request: &Request) -> Result<bool, AllocError> {
     Ok(is_free(request) && has_loop(alloc, net.edges(), net.splitters() as usize)?)
 }
 
-/// The searches for a layout of a request, with at most so many steps together: in each window a short one, then a longer
-/// one, and then one in the whole rectangle. Where the network has loops, one for a layout with ways back comes first.
+/// The searches for a layout of a request, with at most `learnt` steps together: a short one in each window, then a
+/// longer one in each, and then one in the whole rectangle with the steps that are left. Where the network has loops,
+/// one for a layout with ways back comes first.
 pub fn attempts(alloc: Global, request: &Request, learnt: u64) -> Result<Vec<Attempt>, AllocError> {
     let windows = windows(alloc, request)?;
     let mut attempts = Vec::new(alloc);

@@ -27,7 +27,8 @@ pub struct Base {
 }
 
 impl Base {
-    /// What a network's formula says, the scopes of whose splitters come from the inputs on or from the outputs back.
+    /// What a network's formula says. With `farthest_first` the scopes of its splitters begin with the farthest from
+    /// the outputs, and else with the nearest.
     pub fn of(
         alloc: Global,
         net: &Net,
@@ -46,7 +47,7 @@ impl Base {
         list_at(&self.alone, edge)
     }
 
-    /// The place of a splitter's scope.
+    /// The place of a splitter's scope, `usize::MAX` where there is no such splitter.
     fn place(&self, splitter: usize) -> usize {
         self.places.get(splitter).copied().unwrap_or(usize::MAX)
     }
@@ -81,7 +82,8 @@ impl<'a> Dealing<'a> {
         Ok(())
     }
 
-    /// Adds what is true of an edge that is cut, whatever its mark.
+    /// Adds of an edge that is cut, whatever its mark: what begins there is at most what fills it and at least its
+    /// flow, and it is what fills it where the edge is full.
     fn add_counted(
         &self,
         alloc: Global,
@@ -131,6 +133,7 @@ impl<'a> Dealing<'a> {
         Ok(())
     }
 
+    /// Adds that where this edge into a splitter is backed, each edge out of it carries at least its mean.
     fn add_passed_by(
         &self,
         alloc: Global,
@@ -164,6 +167,7 @@ impl<'a> Dealing<'a> {
         Ok(())
     }
 
+    /// Adds that an edge carries at least its mean where it is full.
     fn add_mean_where_full(
         &self,
         alloc: Global,
@@ -178,6 +182,7 @@ impl<'a> Dealing<'a> {
         self.add_full(alloc, line, edge, carries, place)
     }
 
+    /// Adds that an edge carries at least its mean where nothing hinders that, by the scope at a place.
     fn add_mean(
         &self,
         alloc: Global,
@@ -212,7 +217,7 @@ impl<'a> Dealing<'a> {
         Ok(rows)
     }
 
-    /// The rows of a splitter, and the comparisons of its edges.
+    /// The rows of a splitter, the comparisons of its edges, and that of all that begins.
     pub fn at_splitter(
         &self,
         alloc: Global,
@@ -240,6 +245,8 @@ impl<'a> Dealing<'a> {
         Ok(())
     }
 
+    /// Adds that the splitter of the last stage at a place gets at least its share, where less begins than fills all of
+    /// them.
     fn add_share(&self, alloc: Global, line: &mut Line, place: usize) -> Result<(), AllocError> {
         let splitter = self.halves().last_at(place);
         let Some(share) = self.sharing.share(place) else {
@@ -277,8 +284,8 @@ impl<'a> Dealing<'a> {
         Ok(())
     }
 
-    /// Adds that an edge carries its mean or is backed, in the other order. What was learned of it leads from the mark to the
-    /// mean alone: it has one more literal, which follows of the mark.
+    /// Adds that an edge carries its mean or is backed, with the two literals turned round. What was learned of it
+    /// leads from the mark to the mean alone: it has one more literal, which follows of the mark.
     fn add_turned(&self, alloc: Global, line: &mut Line, edge: usize) -> Result<(), AllocError> {
         match self.sharing.carries(edge) {
             Some(carries) => {
@@ -307,7 +314,7 @@ impl<'a> Dealing<'a> {
         Ok(())
     }
 
-    /// Adds that no less begins at ends than ends at the others.
+    /// Adds that no less flows at the ends where flows begin than at the ends of the other side.
     pub fn add_law(
         &self,
         alloc: Global,

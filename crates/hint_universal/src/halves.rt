@@ -42,7 +42,7 @@ pub enum Spare {
     BesideAny,
 }
 
-/// For each edge whether it is cut.
+/// For each edge whether it is cut, as one that is spare in this sense.
 pub fn spare_edges(alloc: Global, graph: &Graph, spare: Spare) -> Result<Vec<bool>, AllocError> {
     let mut cut = Vec::new(alloc);
     for edge in 0..graph.edges() {
@@ -66,7 +66,7 @@ fn is_spare(graph: &Graph, edge: usize, spare: Spare) -> bool {
     }
 }
 
-/// Whether an edge is preferred, and it is another one.
+/// Whether some edge is preferred, and it isn't this one.
 fn is_other(preferred: Option<usize>, edge: usize) -> bool {
     match preferred {
         Some(preferred) => preferred != edge,
@@ -85,7 +85,7 @@ fn edges_of(alloc: Global, cut: &[bool]) -> Result<Vec<usize>, AllocError> {
     Ok(edges)
 }
 
-/// For each edge that is cut a column from one on.
+/// For each edge that is cut a column of its own, from the first on. Those of other edges say nothing.
 fn columns_from(alloc: Global, cut: &[bool], first: usize) -> Result<Vec<usize>, AllocError> {
     let mut columns = Vec::new(alloc);
     let mut next = first;
@@ -98,6 +98,7 @@ fn columns_from(alloc: Global, cut: &[bool], first: usize) -> Result<Vec<usize>,
     Ok(columns)
 }
 
+/// So many empty lists: no edge has a mean yet.
 fn no_means(alloc: Global, count: usize) -> Result<Vec<Vec<Term>>, AllocError> {
     let mut means = Vec::new(alloc);
     for _ in 0..count {
@@ -135,7 +136,7 @@ impl<'a> Halves<'a> {
         }
     }
 
-    /// The edges of a splitter through which flows come.
+    /// The edges of a splitter through which flows come to it, seen from this side.
     pub fn before(&self, splitter: usize) -> &[usize] {
         if self.from_outputs {
             self.graph.outs(splitter)
@@ -144,7 +145,7 @@ impl<'a> Halves<'a> {
         }
     }
 
-    /// Its other edges.
+    /// The edges of a splitter through which flows leave it, seen from this side.
     pub fn behind(&self, splitter: usize) -> &[usize] {
         if self.from_outputs {
             self.graph.ins(splitter)
@@ -158,7 +159,7 @@ impl<'a> Halves<'a> {
         is_set(self.is_cut, edge)
     }
 
-    /// The number of the end at which an edge lies behind all splitters.
+    /// The number of the end on the other side at which an edge lies; none where it lies at none there.
     pub fn end(&self, edge: usize) -> Option<usize> {
         self.graph.end(edge, !self.from_outputs)
     }
@@ -188,7 +189,7 @@ impl<'a> Halves<'a> {
         }
     }
 
-    /// Whether an edge lies at an end before all splitters.
+    /// Whether an edge lies at an end of this side, where flows begin.
     pub fn begins(&self, edge: usize) -> bool {
         self.graph.end(edge, self.from_outputs).is_some()
     }
@@ -198,12 +199,12 @@ impl<'a> Halves<'a> {
         self.is_cut(edge) || self.end(edge).is_some()
     }
 
-    /// The column of what begins at a cut edge.
+    /// The column of what begins at a cut edge. For another edge it says nothing.
     pub fn column(&self, edge: usize) -> usize {
         self.columns.get(edge).copied().unwrap_or(usize::MAX)
     }
 
-    /// The cut edge whose column this is, where it is that of one.
+    /// The cut edge whose column this is; none where it is the flow of an edge or no such column.
     pub fn cut_of(&self, column: usize) -> Option<usize> {
         if column < self.graph.edges() {
             return None;
@@ -217,7 +218,7 @@ impl<'a> Halves<'a> {
         self.cut_edges.first().copied()
     }
 
-    /// The splitter of the last stage at a place.
+    /// The splitter of the last stage at a place, `usize::MAX` where there is none.
     pub fn last_at(&self, place: usize) -> usize {
         self.last.get(place).copied().unwrap_or(usize::MAX)
     }
@@ -244,7 +245,9 @@ impl<'a> Halves<'a> {
         Ok(self.is_even() && self.prefers_ends())
     }
 
-    /// Finds the means behind the splitter after so many in the order. It tells whether its edges there are all alike.
+    /// Finds the means behind the splitter after `step` others in the order, or adds it to the last stage where flows
+    /// end behind it. False where flows end with some of its edges alone, or it doesn't get what the others of the last
+    /// stage do.
     fn weigh_at(&mut self, alloc: Global, step: usize) -> Result<bool, AllocError> {
         let splitter = self.order.get(step).copied().unwrap_or(usize::MAX);
         let sum = self.sum_into(alloc, splitter)?;
@@ -273,7 +276,7 @@ impl<'a> Halves<'a> {
         merged(alloc, &mut terms)
     }
 
-    /// Deals a sum to edges.
+    /// Gives each of some edges its share of a sum as its mean.
     fn deal(&mut self, alloc: Global, edges: &[usize], sum: &[Term]) -> Result<(), AllocError> {
         for edge in edges {
             let mean = shared(alloc, sum, edges.len())?;
@@ -284,7 +287,8 @@ impl<'a> Halves<'a> {
         Ok(())
     }
 
-    /// Whether a sum is that of the first splitter of the last stage.
+    /// Whether a splitter that was just added to the last stage gets what the first one there does: that is kept as the
+    /// share.
     fn is_share(&mut self, sum: Vec<Term>) -> bool {
         if self.last.len() == 1 {
             self.share = sum;
@@ -293,7 +297,8 @@ impl<'a> Halves<'a> {
         self.share == sum
     }
 
-    /// Whether the shares of the last stage are all that begins.
+    /// Whether the share of the last stage is the same part of each thing that begins: one of as many as that stage has
+    /// splitters.
     fn is_even(&self) -> bool {
         let parts = self.last.len() as u64;
         let all = self.share.iter().all(|term| term.is_part_of(parts));

@@ -47,23 +47,26 @@ impl<'a> Sharing<'a> {
         }))
     }
 
-    /// An edge has the mark with which it may carry less than the other edge of its splitter: seen from the inputs it
-    /// is backed, since of two out edges a free one carries no less; seen from the outputs it is free.
+    /// The literal that says that an edge has the mark with which it may carry less than the other edge of its
+    /// splitter: seen from the inputs it is backed, since of two out edges a free one carries no less; seen from the
+    /// outputs it is free.
     pub fn hindered(&self, edge: usize) -> NamedLit {
         named(edge, !self.halves.from_outputs)
     }
 
-    /// An edge has the other mark, with which it carries no less than the other edge of its splitter, or is full.
+    /// The literal that says that an edge has the other mark, with which it carries no less than the other edge of its
+    /// splitter, or is full.
     pub fn unhindered(&self, edge: usize) -> NamedLit {
         named(edge, self.halves.from_outputs)
     }
 
-    /// What begins at an edge that is cut.
+    /// What begins at an edge that is cut; none for another edge.
     pub fn counted(&self, edge: usize) -> Option<Chosen> {
         *self.counted.get(edge)?
     }
 
-    /// An edge carries at least the mean of what it comes of; one that is cut what begins there.
+    /// The literal that says that an edge carries at least the mean of what it comes of or, where it is cut, at least
+    /// what begins there. None where nothing is compared at the edge.
     pub fn carries(&self, edge: usize) -> Option<NamedLit> {
         match self.counted(edge) {
             Some(counted) => Some(counted.at_most_second()),
@@ -82,7 +85,7 @@ impl<'a> Sharing<'a> {
         }
     }
 
-    /// The splitter of the last stage at a place gets at least its share.
+    /// The comparison of what the splitter of the last stage at a place gets with its share.
     pub fn share(&self, place: usize) -> Option<Compared> {
         *self.shares.get(place)?
     }
@@ -97,22 +100,22 @@ impl<'a> Sharing<'a> {
         Ok(())
     }
 
-    /// Less begins than fills the ends behind the last stage.
+    /// The literal that says that less begins than fills the ends behind the last stage.
     pub fn is_small(&self) -> NamedLit {
         self.enough.is_less()
     }
 
-    /// The opposite: it isn't true that less begins.
+    /// The opposite of [`Sharing::is_small`].
     pub fn is_not_small(&self) -> NamedLit {
         negated(self.enough.is_less())
     }
 
-    /// Adds the rows of what begins.
+    /// Adds the rows that compare all that begins with what fills the ends behind the last stage.
     pub fn add_enough(&self, rows: &mut Vec<usize>) -> Result<(), AllocError> {
         self.enough.add_rows(rows)
     }
 
-    /// As much begins at ends as ends at the others, or more.
+    /// The comparison of what flows at the ends where flows begin with what flows at the other ends.
     pub fn law(&self) -> Option<Compared> {
         self.law
     }
@@ -123,7 +126,8 @@ pub fn negated(lit: NamedLit) -> NamedLit {
     named(lit.var, !lit.positive)
 }
 
-/// All that begins, and as its number how many splitters the last stage has.
+/// The form of all that begins, whose number is how many splitters the last stage has: so much fills the ends that
+/// these prefer.
 fn enough_form(alloc: Global, halves: &Halves) -> Result<Option<Form>, AllocError> {
     let mut terms = Vec::new(alloc);
     for term in &halves.share {
@@ -149,7 +153,7 @@ fn define_counted(
     Ok(counted)
 }
 
-/// Defines what begins at an edge: as much as fills it where it has the mark, and else its flow.
+/// Defines what begins at an edge: 1, which fills it, where it is backed or free as `backed` tells, and else its flow.
 fn choose(
     alloc: Global,
     line: &mut Line,
@@ -199,7 +203,8 @@ fn define_shares(
     Ok(shares)
 }
 
-/// What a splitter of the last stage gets.
+/// What a splitter of the last stage gets: what begins at the cut edges behind it, and the flows of the other edges
+/// there.
 fn got_by(alloc: Global, halves: &Halves, splitter: usize) -> Result<Vec<Term>, AllocError> {
     let mut terms = Vec::new(alloc);
     for edge in halves.behind(splitter) {

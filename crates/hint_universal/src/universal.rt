@@ -89,7 +89,8 @@ fn spares_of(alloc: Global, graph: &Graph, spare: Spare) -> Result<Vec<bool>, Al
     }
 }
 
-/// Defines what is compared from one side, where all is dealt evenly and the ends behind the last stage are preferred.
+/// Defines what is compared from one side. None where not all is dealt evenly from there or the ends behind the last
+/// stage aren't preferred.
 fn sharing_of<'a>(
     alloc: Global,
     graph: &'a Graph<'a>,
@@ -104,7 +105,8 @@ fn sharing_of<'a>(
     }
 }
 
-/// A network seen from one side, where an edge is cut, all is dealt evenly and the ends behind the last stage are preferred.
+/// A network seen from one side. None where no edge is cut, not all is dealt evenly or the ends behind the last stage
+/// aren't preferred.
 fn halves_of<'a>(
     alloc: Global,
     graph: &'a Graph<'a>,
@@ -144,7 +146,7 @@ fn last_ends(alloc: Global, halves: &Halves) -> Result<Vec<LastEnd>, AllocError>
     Ok(ends)
 }
 
-/// Adds the rows of a comparison.
+/// The rows, and behind them those of a comparison, where there is one.
 fn with_rows(rows: Vec<usize>, compared: Option<Compared>) -> Result<Vec<usize>, AllocError> {
     let mut rows = rows;
     if let Some(compared) = compared {
@@ -153,7 +155,7 @@ fn with_rows(rows: Vec<usize>, compared: Option<Compared>) -> Result<Vec<usize>,
     Ok(rows)
 }
 
-/// Adds the row of a variable.
+/// Adds the row of the variable at a place, where it is an atom.
 fn add_row_of(rows: &mut Vec<usize>, formula: &Formula, place: usize) -> Result<(), AllocError> {
     if let Some(var) = formula.var_at(place) {
         if let Some(row) = formula.row_of(var) {
@@ -163,7 +165,7 @@ fn add_row_of(rows: &mut Vec<usize>, formula: &Formula, place: usize) -> Result<
     Ok(())
 }
 
-/// The literals of the clause after which so many more come.
+/// The literals of the clause after which so many more come; none where there is no such clause.
 fn clause_before(formula: &Formula, more: usize) -> &[Lit] {
     let place = formula.clauses().saturating_sub(1).saturating_sub(more);
     match formula.clause_at(place) {
@@ -172,7 +174,7 @@ fn clause_before(formula: &Formula, more: usize) -> &[Lit] {
     }
 }
 
-/// Adds the aim of one literal, where there is one.
+/// Adds the aim of some literals and a last one, where there is a last one.
 fn add_with(
     alloc: Global,
     line: &mut Line,
@@ -247,6 +249,7 @@ fn level_column(net: &Net) -> usize {
 }
 
 impl<'a> Fair<'a> {
+    /// Adds the aims, in the order in which they follow.
     fn add_all(&self, alloc: Global, line: &mut Line) -> Result<(), AllocError> {
         self.dealing.add_dealt(alloc, line)?;
         for end in &last_ends(alloc, self.dealing.halves())? {
@@ -301,7 +304,7 @@ impl<'a> Fair<'a> {
             .saturating_add(end.number)
     }
 
-    /// The variable that says that it is short.
+    /// The variable that says that an end is short: it carries less than its load or its room.
     fn short(&self, end: LastEnd) -> usize {
         self.below(end).saturating_add(self.count)
     }
@@ -477,6 +480,7 @@ fn add_even_by<'a>(
 }
 
 impl<'a> Even<'a> {
+    /// Adds the aims, in the order in which they follow.
     fn add_all(&self, alloc: Global, line: &mut Line) -> Result<(), AllocError> {
         add_side(alloc, self.formula, line, self.dealing, &self.ends)?;
         let of_ends = self.dealing.rows_of_ends(alloc)?;
@@ -509,7 +513,7 @@ impl<'a> Even<'a> {
         add_with(alloc, line, &not_small, compared.at_most(), at_splitter)
     }
 
-    /// An end doesn't reach what it may carry.
+    /// The literal that says that an end doesn't reach its load or its room, where there is one.
     fn not_met(&self, end: LastEnd) -> Option<NamedLit> {
         Some(negated(self.dealing.base.literals.meets(end.edge)?))
     }
@@ -530,7 +534,8 @@ impl<'a> Even<'a> {
         add_aim(alloc, &mut line.aims, &[], NOTHING_TO_SHOW)
     }
 
-    /// The rows of the ends, compared with shares and with each other.
+    /// The rows that speak of one of the ends alone, of their comparisons with shares, and of the last clause, which
+    /// compares them with each other.
     fn rows_of_last(&self, alloc: Global) -> Result<Vec<usize>, AllocError> {
         let mut rows = Vec::new(alloc);
         for (end, compared) in self.ends.iter().zip(&self.compared) {

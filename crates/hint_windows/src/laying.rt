@@ -7,7 +7,7 @@ use hint_boards::{BARE, Board, Chain, Piece, Tile, aside};
 use hint_solver::{Answer, Literal};
 use std::alloc::{AllocError, Global};
 
-/// So many scores are raised by chance before a trial.
+/// How many variables' scores are raised by chance before a trial, so that trials come to different tiles.
 const RAISED: usize = 40;
 
 /// How a chain passes a place.
@@ -41,7 +41,7 @@ struct Reading<'a> {
 }
 
 impl Reading<'_> {
-    /// Whether a fact is so.
+    /// Whether a fact is so: on the board where it is known there, else in what the solver found.
     fn has(self, fact: Fact) -> bool {
         match self.window.term(self.board, fact) {
             Term::Known(known) => known,
@@ -67,7 +67,8 @@ impl Reading<'_> {
         Piece::Empty
     }
 
-    /// The chain that leaves a place, where what stands there hands on or goes down.
+    /// The chain that leaves the place where this piece stands. None where the piece would hand on to a neighbour, but
+    /// nothing goes there.
     fn goes(self, place: usize, piece: Piece) -> Option<Chain> {
         if let Some(dir) = piece.hands() {
             if !self.has(Fact::Goes(place, dir)) {
@@ -77,7 +78,7 @@ impl Reading<'_> {
         self.first(place, Way::Leaves)
     }
 
-    /// The chain that passes a place in some way.
+    /// The first chain of the window that passes a place in this way; none where none does.
     fn first(self, place: usize, way: Way) -> Option<Chain> {
         for chain in &self.window.chains {
             if self.has(way.fact(place, *chain)) {
@@ -87,7 +88,7 @@ impl Reading<'_> {
         None
     }
 
-    /// Whether something comes to a place in a direction.
+    /// Whether something comes to a place above the ground in a direction; nothing comes from outside the board.
     fn comes(self, place: usize, dir: Dir) -> bool {
         match self.board.ahead(place, dir.opposite()) {
             Some(behind) => self.has(Fact::Goes(behind, dir)),
@@ -95,7 +96,8 @@ impl Reading<'_> {
         }
     }
 
-    /// The splitter whose half stands at a place.
+    /// The number of the splitter that has this piece, at a place, as a half. None where it is no half, or no splitter
+    /// of the window stands so.
     fn splitter(self, place: usize, piece: Piece) -> Option<usize> {
         let (place, dir) = match piece {
             Piece::Lesser(dir) => (place, dir),
@@ -113,7 +115,7 @@ impl Reading<'_> {
         None
     }
 
-    /// The tile at a place.
+    /// The tile at a place, as the solver found it.
     fn tile(self, place: usize) -> Tile {
         let piece = self.piece(place);
         let mut tile = Tile { piece, ..BARE };
@@ -145,7 +147,8 @@ pub struct Trial {
 }
 
 impl Trial {
-    /// The window of the marked cells of a board; none where it has none, or more than so many.
+    /// The window of a board's marked cells, with its clauses. None where it has no cells or more than `most`, or where
+    /// its clauses contradict each other at once.
     pub fn new(
         alloc: Global,
         board: &Board,
@@ -172,12 +175,13 @@ impl Trial {
         &self.window.cells
     }
 
-    /// How many conflicts there were.
+    /// How many conflicts the solver has met in all trials of this window.
     pub fn conflicts(&self) -> u64 {
         self.draft.solver.conflicts()
     }
 
-    /// The tiles that were found where this piece stands at a place, or where it doesn't.
+    /// Searches for tiles of the window's cells, in their order, with at most so many conflicts. Each piece of `wanted`
+    /// stands at its place where the third is true, or else doesn't. None where no tiles are found.
     pub fn tiles(
         &mut self,
         alloc: Global,
@@ -203,7 +207,7 @@ impl Trial {
     }
 }
 
-/// The tiles that were found for a window.
+/// The tiles of a window's cells, in their order, as the solver found them.
 fn tiles_of(
     alloc: Global,
     board: &Board,
@@ -222,7 +226,7 @@ fn tiles_of(
     Ok(tiles)
 }
 
-/// Puts tiles down.
+/// Puts these tiles on these cells of a board, in the same order.
 pub fn put_tiles(board: &mut Board, cells: &[usize], tiles: &[Tile]) {
     for (place, tile) in cells.iter().zip(tiles.iter()) {
         if let Some(old) = board.tiles.get_mut(*place) {

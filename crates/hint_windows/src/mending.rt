@@ -5,13 +5,13 @@ use bt_random::Random;
 use hint_boards::{Board, mark};
 use std::alloc::{AllocError, Global};
 
-/// The most conflicts of a spot.
+/// The most conflicts of the search for one spot, which is the window around some damaged cells.
 const CONFLICTS: u64 = 1_000;
 
 /// The most cells of a spot.
 const MOST_CELLS: usize = 140;
 
-/// Whether some place is marked.
+/// The first place that is marked; none where none is.
 fn first_marked(marks: &[bool]) -> Option<usize> {
     for (place, mark) in marks.iter().enumerate() {
         if *mark {
@@ -21,7 +21,8 @@ fn first_marked(marks: &[bool]) -> Option<usize> {
     None
 }
 
-/// The cells around the first damaged place, with all damaged places that are near one of them.
+/// Marks the cells at most `radius` away, each way, from the first damaged place and from all damaged ones that hang
+/// together with it by steps of at most `radius` + 1. With them, how many damaged places those are.
 fn spot(
     alloc: Global,
     board: &Board,
@@ -52,7 +53,9 @@ fn spot(
     Ok((around(alloc, board, &own, radius)?, count))
 }
 
-/// Lays all that is damaged anew, with the cells so far around. How many conflicts it took, and whether all was.
+/// Lays all damaged cells anew, spot by spot, each with the cells at most `radius` from its damaged ones. Whether none
+/// is damaged in the end: false where a spot is too large or no tiles are found. Each spot adds its conflicts and 20 to
+/// `effort`.
 pub fn mend(
     alloc: Global,
     board: &mut Board,

@@ -41,7 +41,7 @@ fn pieces(alloc: Global) -> Result<Vec<Piece>, AllocError> {
 }
 
 impl Draft {
-    /// Without clauses.
+    /// The solver with the variables of a window, without clauses.
     pub fn new(alloc: Global, window: &Window) -> Result<Draft, AllocError> {
         Ok(Draft {
             solver: Solver::new(alloc, window.variables())?,
@@ -49,7 +49,8 @@ impl Draft {
         })
     }
 
-    /// Adds that one of these is so.
+    /// Adds the clause that one of these facts is so, or isn't, as each says. One that is known makes the clause
+    /// needless where it holds, and is left out where it doesn't.
     fn add(&mut self, scene: Scene, said: &[Said]) -> Result<(), AllocError> {
         self.clause.clear();
         for (fact, holds) in said {
@@ -80,7 +81,8 @@ impl Draft {
 }
 
 impl Scene<'_> {
-    /// Whether something comes to a place in a direction: a fact, or what is known.
+    /// The fact that something comes to a place above the ground in a direction. As an error the answer itself, where
+    /// the place lies outside the window or nothing lies behind it.
     fn into(self, place: usize, dir: Dir) -> Result<Fact, bool> {
         if self.window.index(place).is_none() {
             return Err(self.board.tile(place).from == Some(dir));
@@ -91,7 +93,8 @@ impl Scene<'_> {
         }
     }
 
-    /// Adds a clause of these, and that something comes to a place in a direction, or that it doesn't.
+    /// Adds the clause that one of `said` is so, or that something comes to a place in a direction where `holds`, or
+    /// else that nothing does. `list` is room for the clause.
     fn add_into(
         self,
         draft: &mut Draft,
@@ -114,7 +117,8 @@ impl Scene<'_> {
         draft.add(self, list)
     }
 
-    /// Adds that one piece stands at a place.
+    /// Adds that exactly one piece stands at a place, of which the empty one is one, and that `Passes` is so just where
+    /// that is a belt or an entrance.
     fn add_piece(self, alloc: Global, draft: &mut Draft, place: usize) -> Result<(), AllocError> {
         let (mut facts, mut said) = (Vec::new(alloc), Vec::new(alloc));
         for piece in &pieces(alloc)? {
@@ -140,7 +144,8 @@ impl Scene<'_> {
         draft.add(self, &said)
     }
 
-    /// Adds which piece hands on in a direction, and that what is there takes it.
+    /// Adds that belts and exits hand on in their direction, and else only halves of splitters do; that nothing is
+    /// handed on out of the board; and that a neighbour outside the window is fed from here just where it is now.
     fn add_goes(self, draft: &mut Draft, place: usize, dir: Dir) -> Result<(), AllocError> {
         let goes = Fact::Goes(place, dir);
         let at = |piece| Fact::Stands(place, piece);
@@ -166,7 +171,8 @@ impl Scene<'_> {
         }
     }
 
-    /// Adds what follows where something comes to a cell in a direction, and where nothing does.
+    /// Adds that where something comes to a cell in a direction, a piece stands there that takes it: an entrance or a
+    /// half in that direction, or a belt that doesn't look against it.
     fn add_comes(self, draft: &mut Draft, place: usize, dir: Dir) -> Result<(), AllocError> {
         let Some(behind) = self.board.ahead(place, dir.opposite()) else {
             return Ok(());
@@ -195,7 +201,7 @@ impl Scene<'_> {
         draft.add(self, &taking)
     }
 
-    /// Adds that a half that faces a cell and hands nothing on faces nothing.
+    /// Adds that a half of a splitter that hands nothing on has an empty cell ahead, or the border.
     fn add_idle(self, draft: &mut Draft, place: usize, dir: Dir) -> Result<(), AllocError> {
         let Some(next) = self.board.ahead(place, dir) else {
             return Ok(());
@@ -213,7 +219,8 @@ impl Scene<'_> {
         Ok(())
     }
 
-    /// Adds that a chain that leaves a place in a direction comes to the next, and no other.
+    /// Adds that where a place hands on in a direction, this chain leaves it just where it comes to the neighbour
+    /// there. Adds nothing at the border.
     fn add_step(
         self,
         draft: &mut Draft,
@@ -230,7 +237,8 @@ impl Scene<'_> {
         draft.add(self, &[goes, (comes, false), (leaves, true)])
     }
 
-    /// Adds from where a cell is fed, by the piece that stands there.
+    /// Adds that a cell is fed from at most one direction, an entrance from behind, and a belt from behind or from a
+    /// side.
     fn add_feeders(self, alloc: Global, draft: &mut Draft, place: usize) -> Result<(), AllocError> {
         let mut list = Vec::new(alloc);
         let mut facts = Vec::new(alloc);
@@ -257,7 +265,8 @@ impl Scene<'_> {
         Ok(())
     }
 
-    /// Adds which chains come to a cell and leave it.
+    /// Adds that at most one chain comes to a cell and at most one leaves it; that a belt or an entrance has one that
+    /// comes and leaves; that an empty cell has none; and that none comes to an exit above the ground.
     fn add_chains(self, alloc: Global, draft: &mut Draft, place: usize) -> Result<(), AllocError> {
         let (mut leaves, mut comes) = (Vec::new(alloc), Vec::new(alloc));
         let mut said = Vec::new(alloc);
@@ -293,7 +302,8 @@ impl Scene<'_> {
         draft.add_at_most_one(self, &comes)
     }
 
-    /// Adds how a chain moves below the ground in a direction, to a cell and from it.
+    /// Adds how a chain moves below the ground in a direction: from an entrance just where it leaves there, to an exit
+    /// just where it leaves that, and through all other cells.
     fn add_way(
         self,
         draft: &mut Draft,
@@ -319,7 +329,7 @@ impl Scene<'_> {
         draft.add(self, &[(enters, true), (moves, false), (came, true)])
     }
 
-    /// Adds that no piece of an axis stands on a cell where something moves along it below the ground.
+    /// Adds that no entrance and no exit in this direction stands at a place where `moves` is so.
     fn add_clear(
         self,
         draft: &mut Draft,
@@ -336,7 +346,8 @@ impl Scene<'_> {
         Ok(())
     }
 
-    /// Adds which pieces stand where something moves below the ground to a cell in a direction, or from it.
+    /// Adds that something moves below the ground in a direction from an entrance but not to it, and to an exit but not
+    /// from it. Where it moves, nothing moves back, and no entrance or exit that looks against it stands.
     fn add_pieces(self, draft: &mut Draft, place: usize, dir: Dir) -> Result<(), AllocError> {
         let (enters, exits) = (
             Fact::Stands(place, Piece::Entrance(dir)),
@@ -356,7 +367,8 @@ impl Scene<'_> {
         self.add_clear(draft, place, back, came)
     }
 
-    /// Adds what moves below the ground in a direction, to a cell and from it.
+    /// Adds the rules of what moves below the ground in a direction, to a cell and from it: it is a chain, nothing
+    /// moves against it, and it comes up in time.
     fn add_below(
         self,
         alloc: Global,
@@ -379,7 +391,8 @@ impl Scene<'_> {
         self.add_reach(alloc, draft, place, dir)
     }
 
-    /// The steps in a direction from so many cells behind a place to as many ahead.
+    /// For each of twice `most` steps and one more in a direction that nothing moves there below the ground: from
+    /// `most` cells behind a place, or from the border behind it, on. Fewer steps where they come to the border ahead.
     fn steps(
         self,
         alloc: Global,
@@ -402,7 +415,8 @@ impl Scene<'_> {
         Ok(steps)
     }
 
-    /// Adds that nothing moves below the ground for longer than pairs are, on the ways whose first open step this is.
+    /// Adds that nothing moves below the ground for more steps than the greatest distance of pairs, on the ways whose
+    /// first open step begins at this place: so each way is told once.
     fn add_reach(
         self,
         alloc: Global,
@@ -422,7 +436,7 @@ impl Scene<'_> {
         Ok(())
     }
 
-    /// The place of the first step that is open.
+    /// The place where the first step that is open begins; none where all are known.
     fn first_open(self, way: &[Said]) -> Option<usize> {
         for (fact, _) in way {
             if let (Fact::Moves(place, _), Term::Open(_)) = (
@@ -435,7 +449,8 @@ impl Scene<'_> {
         None
     }
 
-    /// Adds that the halves of splitters stand beside each other.
+    /// Adds that a lesser half at a place is that of exactly one splitter of the window, and that each half has the
+    /// other one beside it, in the window.
     fn add_halves(
         self,
         alloc: Global,
@@ -486,7 +501,7 @@ impl Scene<'_> {
         }
     }
 
-    /// Adds that a half takes a chain only where it comes from behind.
+    /// Adds that a chain comes to a half of a splitter only where something comes there from behind.
     fn add_taken(
         self,
         alloc: Global,
@@ -507,7 +522,9 @@ impl Scene<'_> {
         Ok(())
     }
 
-    /// Adds that what comes to a half of a splitter is one of its chains, and so is what leaves.
+    /// Adds for one half of a splitter with these chains, at the place `half`: what comes there is a chain that the
+    /// splitter takes, what leaves is one that it gives, and the half hands on where one of these leaves. `at` says
+    /// that the splitter doesn't stand there.
     fn add_half(
         self,
         alloc: Global,
@@ -540,7 +557,8 @@ impl Scene<'_> {
         self.add_into(draft, &takes, half, dir, false, &mut list)
     }
 
-    /// Adds that of two facts one is so, and not both, where a splitter stands at a place.
+    /// Adds that of two facts one is so, and not both, unless `at` holds, which says that a splitter doesn't stand at a
+    /// place.
     fn add_one(
         self,
         draft: &mut Draft,
@@ -552,7 +570,9 @@ impl Scene<'_> {
         draft.add(self, &[at, (one, false), (other, false)])
     }
 
-    /// Adds what chains a splitter takes and gives where it stands at a place.
+    /// Adds that where a splitter's lesser half stands at a place, each chain that it takes comes to one of its halves,
+    /// and each that it gives leaves one. Adds nothing where the other half would lie outside the window: it can't
+    /// stand so.
     fn add_joint(
         self,
         alloc: Global,
@@ -615,7 +635,8 @@ impl Scene<'_> {
         Ok(())
     }
 
-    /// Adds the rules of a cell in a direction.
+    /// Adds the rules of a cell that speak of a direction, and how chains step to it from a neighbour behind that lies
+    /// outside the window.
     fn add_towards(
         self,
         alloc: Global,
@@ -649,7 +670,7 @@ impl Scene<'_> {
     }
 }
 
-/// The clauses of a window.
+/// The clauses of a window, with the wish that its cells be empty.
 pub fn draft_of(alloc: Global, scene: Scene) -> Result<Draft, AllocError> {
     let mut draft = Draft::new(alloc, scene.window)?;
     for place in &scene.window.cells {

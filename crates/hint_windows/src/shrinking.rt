@@ -69,7 +69,7 @@ fn copy(alloc: Global, board: &Board) -> Result<Board, AllocError> {
 }
 
 impl Narrowing {
-    /// Begins with a layout, whose ends are led to the border.
+    /// Begins with a layout, whose ends are led to the border, and with random numbers that follow from `number`.
     pub fn new(alloc: Global, own: &Own, number: u64) -> Result<Narrowing, AllocError> {
         let mut narrowing = Narrowing {
             board: Board::of(alloc, own.rect, own.tier, &own.plan)?,
@@ -81,7 +81,8 @@ impl Narrowing {
         Ok(narrowing)
     }
 
-    /// Cuts out a seam of the board, or of the board turned over. Whether one was.
+    /// Cuts a seam from left to right out of the board, or where `is_upright` one from top to bottom, and mends what
+    /// that damages, with more and more cells around. Whether that was done; else the board stays as it was.
     pub fn cut(&mut self, alloc: Global, is_upright: bool) -> Result<bool, AllocError> {
         let whole = if is_upright {
             turned(alloc, &self.board)?
@@ -116,7 +117,7 @@ impl Narrowing {
         Ok(false)
     }
 
-    /// Takes away rings, to which no chain leads.
+    /// Takes away the parts that no chain passes, but for splitters: those of rings.
     fn clean(&mut self, alloc: Global) -> Result<(), AllocError> {
         let plan = self.board.plan(alloc)?;
         let rect = self.rect();
@@ -132,7 +133,7 @@ impl Narrowing {
         Ok(())
     }
 
-    /// The rectangle.
+    /// The rectangle of the board.
     pub fn rect(&self) -> Rect {
         Rect {
             width: u32::try_from(self.board.width).unwrap_or(0),
@@ -140,7 +141,7 @@ impl Narrowing {
         }
     }
 
-    /// A beginning and an end by chance in so many cells.
+    /// The first and the last of some columns or rows that lie side by side, by chance, in a board that has so many.
     fn stretch(&mut self, cells: usize) -> (usize, usize) {
         let size = LEAST
             .saturating_add(self.random.below(SIZES))
@@ -151,7 +152,7 @@ impl Narrowing {
         (first, first.saturating_add(size).saturating_sub(1))
     }
 
-    /// Lays a window by chance anew.
+    /// Chooses a window by chance and makes `TRIALS` trials to lay it anew; none where no window can be made there.
     pub fn lay_anew(&mut self, alloc: Global) -> Result<(), AllocError> {
         let (left, right) = self.stretch(self.board.width);
         let (top, bottom) = self.stretch(self.board.height);
@@ -168,7 +169,8 @@ impl Narrowing {
         self.clean(alloc)
     }
 
-    /// One trial in a window.
+    /// Lays a window anew without one of its pieces, or one time in four with nothing there. The tiles are taken where
+    /// they fill no more cells than before, and by chance where one more, as a search that only gains gets stuck.
     fn try_once(&mut self, alloc: Global, trial: &mut Trial) -> Result<(), AllocError> {
         let mut full = Vec::new(alloc);
         for place in trial.cells() {
@@ -194,7 +196,7 @@ impl Narrowing {
         Ok(())
     }
 
-    /// Cuts out one of some seams. Whether one was.
+    /// Cuts out the first of some seams along these lines after which the board can be mended. Whether one was.
     fn cut_one(&mut self, alloc: Global, lines: Lines) -> Result<bool, AllocError> {
         for _ in 0..SEAMS {
             let is_upright = match lines {
@@ -231,8 +233,8 @@ fn lines_of(rect: Rect, most: Rect) -> Lines {
     }
 }
 
-/// Makes a layout smaller that lies in a rectangle, for about as long as so many conflicts take: as small as is found, and
-/// at first so small that it lies in the greatest rectangle. Other numbers begin other searches.
+/// Makes a layout smaller, for about as long as `effort` conflicts take: first until it lies in the rectangle `most`,
+/// then as far as it goes. Each `number` begins another search.
 pub fn narrow(
     alloc: Global,
     own: &Own,

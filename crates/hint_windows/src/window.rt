@@ -9,7 +9,7 @@ use std::alloc::{AllocError, Global};
 pub enum Fact {
     /// This piece stands at a place.
     Stands(usize, Piece),
-    /// A belt or an entrance does.
+    /// A belt or an entrance stands at a place.
     Passes(usize),
     /// What stands there hands on in a direction above the ground.
     Goes(usize, Dir),
@@ -19,9 +19,9 @@ pub enum Fact {
     Comes(usize, Chain),
     /// Some chain moves below the ground from there to the neighbour in a direction.
     Moves(usize, Dir),
-    /// This chain does.
+    /// This chain moves so.
     Below(usize, Dir, Chain),
-    /// The lesser half of a splitter stands there, in a direction.
+    /// The lesser half of this splitter stands at a place, in a direction.
     At(usize, usize, Dir),
 }
 
@@ -46,7 +46,7 @@ pub struct Window {
     orders: Vec<Option<usize>>,
 }
 
-/// The number of a direction.
+/// The number of a direction, from 0.
 fn number_of(dir: Dir) -> usize {
     match dir {
         Dir::North => 0,
@@ -56,7 +56,7 @@ fn number_of(dir: Dir) -> usize {
     }
 }
 
-/// The number of a piece.
+/// The number of a piece, from 0, which is the empty one, to 20.
 fn number_of_piece(piece: Piece) -> usize {
     let (shape, dir) = match piece {
         Piece::Empty => return 0,
@@ -72,7 +72,8 @@ fn number_of_piece(piece: Piece) -> usize {
         .saturating_add(1)
 }
 
-/// Which halves may be laid anew: those whose other half may be, too, and those without.
+/// Whether what stands at a marked place may be laid anew: not the end of a layout, and a half of a splitter only where
+/// the other half is marked, too, or is missing.
 fn may_move(board: &Board, marks: &[bool], place: usize) -> bool {
     let tile = board.tile(place);
     if tile.is_end {
@@ -92,7 +93,8 @@ fn may_move(board: &Board, marks: &[bool], place: usize) -> bool {
     }
 }
 
-/// Lists a number, where it isn't listed yet.
+/// Lists a number, where it isn't listed yet, and notes its place in the list. `places` has room for each number that
+/// there is.
 fn list(
     numbers: &mut Vec<usize>,
     places: &mut [Option<usize>],
@@ -110,7 +112,7 @@ fn list(
 }
 
 impl Window {
-    /// The window of the marked cells.
+    /// The window of those of the marked cells that may be laid anew.
     pub fn new(alloc: Global, board: &Board, marks: &[bool]) -> Result<Window, AllocError> {
         let mut window = Window {
             cells: Vec::new(alloc),
@@ -130,7 +132,7 @@ impl Window {
         Ok(window)
     }
 
-    /// Lists the splitters.
+    /// Lists the splitters that stand on the window's cells.
     fn list_splitters(&mut self, board: &Board) -> Result<(), AllocError> {
         for place in &self.cells {
             let tile = board.tile(*place);
@@ -139,7 +141,7 @@ impl Window {
         Ok(())
     }
 
-    /// Lists the chains.
+    /// Lists the chains of the window's splitters, and those that pass between one of its cells and one outside.
     fn list_chains(&mut self, board: &Board) -> Result<(), AllocError> {
         for splitter in &self.splitters {
             if let Some(joint) = board.joints.get(*splitter) {
@@ -169,24 +171,25 @@ impl Window {
         Ok(())
     }
 
-    /// The number of a place among the cells.
+    /// The number of a place among the window's cells; none where it lies outside.
     pub fn index(&self, place: usize) -> Option<usize> {
         self.indices.get(place).copied().flatten()
     }
 
-    /// How many facts are open at each cell.
+    /// How many facts each cell has that may be open.
     fn facts(&self) -> usize {
         30usize
             .saturating_add(self.chains.len().saturating_mul(6))
             .saturating_add(self.splitters.len().saturating_mul(4))
     }
 
-    /// How many facts are open.
+    /// How many facts all cells have, each of which is a variable.
     pub fn variables(&self) -> usize {
         self.facts().saturating_mul(self.cells.len())
     }
 
-    /// The place of a fact and its number there; none where it names what has none.
+    /// The place of a fact and its number among those of that place. None where it names a chain or a splitter that the
+    /// window lacks.
     fn numbered(&self, fact: Fact) -> Option<(usize, usize)> {
         let chains = self.chains.len();
         let (place, number) = match fact {
@@ -223,12 +226,12 @@ impl Window {
         Some((place, number))
     }
 
-    /// The number of a chain.
+    /// The number of a chain among the window's; none where it has no such.
     fn rank(&self, chain: Chain) -> Option<usize> {
         self.ranks.get(chain).copied().flatten()
     }
 
-    /// The literal of a fact of a cell.
+    /// The literal of a fact; none where its place, its chain or its splitter isn't the window's.
     fn literal(&self, fact: Fact) -> Option<Literal> {
         let (place, number) = self.numbered(fact)?;
         let index = self.index(place)?;
@@ -238,7 +241,7 @@ impl Window {
         )
     }
 
-    /// What is known of a fact.
+    /// What is known of a fact: a literal where it is open, or else whether it is so on the board.
     pub fn term(&self, board: &Board, fact: Fact) -> Term {
         match fact {
             Fact::Moves(place, dir) => self.moving(board, fact, place, dir, None),
@@ -250,7 +253,9 @@ impl Window {
         }
     }
 
-    /// What is known of what moves below the ground.
+    /// What is known of `fact`: that this chain, or some chain where none is named, moves below the ground from a place
+    /// to its neighbour in a direction. The board tells it where one of the two lies outside the window; where no
+    /// neighbour does, it isn't so.
     fn moving(
         &self,
         board: &Board,
@@ -279,7 +284,8 @@ impl Window {
     }
 }
 
-/// Whether a fact is so on a board.
+/// Whether a fact is so on a board, outside of the window. That something passes or moves below the ground, or that a
+/// splitter stands, isn't asked there, and counts as not so.
 fn is_so(board: &Board, fact: Fact) -> bool {
     match fact {
         Fact::Stands(place, piece) => board.tile(place).piece == piece,
@@ -312,7 +318,8 @@ pub fn around(
     Ok(near)
 }
 
-/// Marks the cells of a box from a corner to another, both with it.
+/// Marks the cells of a box from its north-western corner to its south-eastern one, both with it; each is a column and
+/// a row. What lies beyond the board is left out.
 pub fn mark_box(board: &Board, marks: &mut [bool], first: (usize, usize), last: (usize, usize)) {
     for y in first.1..last.1.saturating_add(1).min(board.height) {
         for x in first.0..last.0.saturating_add(1).min(board.width) {

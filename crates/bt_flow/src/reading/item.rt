@@ -11,7 +11,7 @@ pub trait Item: Drop {
     // The word for the value.
     ghost word: { Self → List ℕ };
 
-    /// The value for which these bytes are the word.
+    /// The value for which these bytes are the word. None where they are no such word.
     fn read(bytes: &[u8]) -> Option<Self>
         ensures some { IfSome result (λ x. can_stand x × (bytes.now ≡ word x)) }
         ensures none { IfNone result ((x : Self) → can_stand x → bytes.now ≡ word x → ⊥) };

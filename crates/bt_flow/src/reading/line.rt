@@ -26,7 +26,8 @@ pub const FLOWS: usize = 4;
 /// The number of the last line.
 pub const END: usize = 6;
 
-/// The next line, which has this number, and what follows it.
+/// The line behind the line feed with which a text begins, and what follows it. Where the text begins otherwise, the
+/// line is missing, and `CertLine` names its number.
 pub fn next_line(text: &[u8], number: usize) -> Result<(&[u8], &[u8]), StateFault>
     ensures ok { IfOk result (λ parts. LeadsTo 10 text.now parts.0.now parts.1.now) }
     ensures err { IfErr result (IsLineFault number ((rest : List ℕ) → text.now ≡ 10 ∷ rest → ⊥)) }
@@ -37,7 +38,8 @@ pub fn next_line(text: &[u8], number: usize) -> Result<(&[u8], &[u8]), StateFaul
     }
 }
 
-/// What follows the first line of a text, which says that the property is broken.
+/// What follows the first line of a text, which says that the property is broken. `CertLine` names that line where it
+/// doesn't.
 pub fn after_title(text: &[u8], property: Property) -> Result<&[u8], StateFault>
     ensures ok { IfOk result (λ rest. IsTitled (codes "no " ++ property_name property) text.now rest.now) }
     ensures err { IfErr result

@@ -10,8 +10,8 @@ use crate::reading::line::next_line;
 use bt_text::{after_word, next_piece};
 use std::alloc::Global;
 
-/// The list on the next line of a text, which has this number, begins with this word and has so many
-/// items; and what follows the line.
+/// The list on the next line of a text, which has this number, begins with this word and has `count` items; and what
+/// follows the line. `CertLine` names the line where it isn't so or is missing.
 pub fn read_list<'a, T: Item>(
     alloc: Global,
     text: &'a [u8],
@@ -28,7 +28,7 @@ pub fn read_list<'a, T: Item>(
     Ok((items, rest))
 }
 
-/// The items of a line after its word.
+/// The `count` items of a line after its word. `CertLine` names the line's number where it isn't so.
 fn named_items<T: Item>(
     alloc: Global,
     line: &[u8],
@@ -47,7 +47,7 @@ fn named_items<T: Item>(
     }
 }
 
-/// So many items, each after a space, and nothing more.
+/// `count` items, each after a space, and nothing more. `CertLine` names the line's number where it isn't so.
 fn read_items<T: Item>(
     alloc: Global,
     text: &[u8],
@@ -75,7 +75,7 @@ fn read_items<T: Item>(
     }
 }
 
-/// The item whose word comes next, and what follows the word.
+/// The item whose word comes next behind a space, and what follows it. None where the text begins otherwise.
 fn next_item<T: Item>(text: &[u8]) -> Option<(T, &[u8])>
     ensures some { IfSome result (λ parts. LeadsToItem T.can_stand T.word text.now parts.0 parts.1.now) }
     ensures none { IfNone result ((x : T) (rest : List ℕ) →

@@ -20,8 +20,8 @@ impl Short {
     }
 }
 
-/// The line of one position with the number 1, in the room of a list whose terms are dropped. None where the
-/// position doesn't fit.
+/// The line of one position with the number 1, in the room of a list whose terms are dropped. None where the position
+/// doesn't fit 32 bits.
 pub fn lone_short(room: Room, position: usize) -> Result<Option<Short>, AllocError>
     requires { position < 2 ^ 64 - 1 }
     ensures { IfOk result (λ o. IfSome o (λ line. line ≡ (position, one) ∷ [])) }

@@ -33,7 +33,7 @@ impl Entry {
         }
     }
 
-    /// The entry of a position and a small number, where the position fits.
+    /// The entry of a position and a small number. None where the position doesn't fit 32 bits.
     pub fn fitting(position: usize, number: i64) -> Option<Entry>
         requires { IsSmall number }
         ensures { IfSome result (λ entry. entry ≡ (position, number)) }

@@ -41,8 +41,9 @@ pub enum Change {
 }
 
 impl Short {
-    /// Puts what a position stands for, by a line that is 0, in place of it, where the line names it. A room
-    /// is taken for the new terms, and that of the old ones is left.
+    /// Puts what the position `enters` stands for in place of it, where the line names it: adds the multiple of `zero`,
+    /// a line that is 0 and has -1 there, that removes it. Nothing is changed, and the answer says so, where a number
+    /// of the sum isn't small. The new terms take the memory of `room`, which gets that of the old ones.
     pub fn substitute(
         &mut self,
         alloc: Global,
@@ -70,8 +71,8 @@ impl Short {
     }
 }
 
-/// The sum of a line and a number times another, by their scales, in the room of a list whose terms are
-/// dropped. None where a number isn't small.
+/// The sum of two lines' numbers, each line's times its scale, in the room of a list whose terms are dropped. None
+/// where a number of the sum isn't small.
 pub(super) fn merged_in(
     room: Vec<Entry>,
     left: &[Entry],
@@ -91,8 +92,8 @@ pub(super) fn merged_in(
     Ok(merged(terms, left, right, scales))
 }
 
-/// The scales for the sum of a line and a number, itself over the line's denominator, times another line.
-/// None where one isn't small.
+/// The scales for the sum of a line over `left_under` and a number, which is `factor` over `left_under`, times a line
+/// over `right_under`. None where the denominator of the sum isn't small.
 pub(super) fn scales_of(left_under: u32, factor: i64, right_under: u32) -> Option<Scales>
     requires left_some { 0 < left_under }
     requires left_fits { left_under < 2 ^ 31 }
@@ -131,8 +132,8 @@ pub(super) fn quotient(number: i64, by: u32) -> i64
     if number < 0 { -size } else { size }
 }
 
-/// The sum of a line and a number times another, by their scales, in a list with room for all their terms.
-/// None where a number isn't small.
+/// The sum of two lines' numbers, each line's times its scale, in an empty list with places for all terms of both. None
+/// where a number of the sum isn't small.
 pub(super) fn merged(
     room: Vec<Entry>,
     left: &[Entry],
@@ -187,7 +188,8 @@ pub(super) fn merged(
     Some(terms)
 }
 
-/// The first term of the sum of what is left of two lines, which may be 0, and what is left after it.
+/// The first term of the sum of what is left of two lines, from `first` on of the left and from `second` on of the
+/// right, and the places from which on they are left after it. The term's number may be 0.
 fn first_step(left: &[Entry], first: usize, right: &[Entry], second: usize, scales: &Scales) -> Step
     requires left_within { first < length left.now }
     requires right_within { second < length right.now }

@@ -12,11 +12,12 @@ use super::merging::{merged_in, quotient, scales_of};
 use super::{Entry, Short, common_divisor, whole_at};
 use std::alloc::AllocError;
 
-/// The line that is 0 wherever a line holds of its position: 1 over the line's number at the position that
-/// enters, times the position less the line. None where the line has no such number.
+/// The line that is 0 wherever a line gives what stands at `position`: 1 over the line's number at the position that
+/// enters, times the position less the line. None where the line has no such number, a number of the result isn't
+/// small, or the position doesn't fit 32 bits.
 ///
-/// Its numbers and its denominator are divided by what all of them have in common: without this they grow
-/// with each pivot. It is formed in the room of a list whose terms are dropped.
+/// Its numbers and its denominator are divided by what all of them have in common: without this they grow with each
+/// pivot. It is formed in the room of a list whose terms are dropped.
 pub fn zero_line(
     room: Vec<Entry>,
     position: usize,
@@ -37,8 +38,9 @@ pub fn zero_line(
     }
 }
 
-/// The line of the position that enters: the position itself and the zero line, which has its number -1
-/// there. It is formed in the room of a list whose terms are dropped.
+/// The line that gives what stands at the position that enters: the position itself plus `zero`, a line that is 0 and
+/// has the number -1 there. It is formed in the room of a list whose terms are dropped. None where a number or the
+/// denominator of the sum isn't small, or the position doesn't fit 32 bits.
 pub fn entering_line(
     room: Vec<Entry>,
     enters: usize,
@@ -50,9 +52,9 @@ pub fn entering_line(
     lone_sum(room, enters, 1, 1, 1, zero)
 }
 
-/// The sum of a number times a position and a factor times a line, where both are over this denominator,
-/// in the room of a list whose terms are dropped. None where a number of the sum isn't small, or the position
-/// doesn't fit.
+/// The sum of a position times `number` and a line times `factor`, where both of these are over `under`, in the room of
+/// a list whose terms are dropped. None where a number or the denominator of the sum isn't small, or the position
+/// doesn't fit 32 bits.
 fn lone_sum(
     room: Vec<Entry>,
     position: usize,
@@ -87,7 +89,7 @@ fn lone_sum(
     }
 }
 
-/// The denominator, with the sign of the number.
+/// The denominator as a number that has the sign of `number`.
 fn share_over(under: u32, number: i64) -> i64
     requires { under < 2 ^ 31 }
     ensures size { unsigned_abs result ≡ under }
@@ -120,7 +122,7 @@ fn lowered(line: Short) -> Short
     }
 }
 
-/// A common divisor of the numbers and a denominator: the greatest.
+/// The greatest common divisor of a denominator and the numbers over it.
 fn common_divisor_of(terms: &[Entry], under: u32) -> u32
     requires some { 0 < under }
     requires small { All (λ t. IsSmall t.1) terms.now }

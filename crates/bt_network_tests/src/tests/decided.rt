@@ -95,7 +95,7 @@ fn letter_of_outcome(outcome: &Outcome) -> u8 {
     }
 }
 
-/// The same of a search without definitions, scopes, goals and choosers.
+/// The letter of the outcome of a search without definitions, scopes, goals and choosers.
 fn searched(alloc: Global, net: &Net, property: Property) -> Result<u8, AllocError> {
     let formula = encode(alloc, net, property)?;
     let choosers: Vec<Lowest> = Vec::new(alloc);

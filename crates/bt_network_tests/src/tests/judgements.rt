@@ -43,6 +43,7 @@ fn text_named(name: &str) -> &'static str {
     }
 }
 
+/// The judgement of a row's words: the test that fails and the place, or that the state passes.
 fn judgement_named(name: &str) -> Judgement {
     let (test, place) = match name {
         "passes" => return Judgement::Passes,

@@ -39,6 +39,7 @@ fn has_edges(made: &Result<Net, GenFault>, order: u32, field: &str) -> bool {
     }
 }
 
+/// Whether the butterfly and the chain of a row's order have as many edges as the row says.
 fn is_order(alloc: Global, row: &str) -> bool {
     let [order, in_butterfly, in_chain, ..] = fields(row, '|');
     let order = order.parse::<u32>().unwrap_or(0);

@@ -60,12 +60,14 @@ fn side_named(name: &str) -> Side {
     }
 }
 
+/// Whether a row's tier has the reach and the speed of the row.
 fn has_reach_and_speed(row: &str) -> bool {
     let [tier, reach, speed, ..] = fields(row, '|');
     let tier = tier_named(tier);
     tier.reach() as usize == number_of(reach) && tier.speed() as usize == number_of(speed)
 }
 
+/// Whether a splitter has the cells of a row, as it lies in the row's direction.
 fn lies(row: &str) -> bool {
     let [direction, greater, ahead, behind, ..] = fields(row, '|');
     let part = part_at(Kind::Splitter, direction_named(direction));
@@ -76,6 +78,7 @@ fn lies(row: &str) -> bool {
         && back(&part, lesser) == cell_of(behind)
 }
 
+/// Whether the kinds of parts take from a row's giver as the row says.
 fn takes(row: &str) -> bool {
     let [giver, from, answers, ..] = fields(row, '|');
     let [belt, entrance, exit, splitter, ..] = fields(answers, ' ');
@@ -87,6 +90,7 @@ fn takes(row: &str) -> bool {
         && accepts(Kind::Splitter, from) == (splitter == "yes")
 }
 
+/// Whether a row's cell is in the rectangle of two by three, or isn't, as the row says.
 fn is_inside(row: &str) -> bool {
     let [cell, answer, ..] = fields(row, '|');
     let rect = Rect {

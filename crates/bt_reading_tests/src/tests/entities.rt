@@ -68,6 +68,7 @@ const BEHIND_A_BELT: &str =
 /// The number of a fault, and its entity and member.
 type Told = (u8, usize, Option<Member>);
 
+/// The number of a fault, and its entity and member, as rows tell them.
 fn told_fault(fault: &EntityFault) -> Told {
     match fault {
         EntityFault::NotBlueprint => (20, 0, None),
@@ -81,6 +82,7 @@ fn told_fault(fault: &EntityFault) -> Told {
     }
 }
 
+/// The member that a row names; none where it names none.
 fn member_named(name: &str) -> Option<Member> {
     match name {
         "entity" => Some(Member::Entity),

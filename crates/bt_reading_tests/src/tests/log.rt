@@ -1,3 +1,4 @@
+//! Logs of a few steps: how they are printed, and what is left of them when steps that nothing needs are left out.
 use bt_cnf::{Formula, Lit};
 use bt_frac::Frac;
 use bt_io::MemSink;
@@ -7,10 +8,10 @@ use std::test::Fail;
 
 const TEXT: &[u8] = b"f -9 12 0 -1/2 3\nr 0 1 13 0\nend\n";
 
-// What is left of five steps over two clauses.
+/// What is left of five steps over two clauses.
 const LEFT: &[u8] = b"f -9 12 0 -1/2 3\nr -9 12 0 2 3 0\nr 0 1 4 0\nend\n";
 
-// A negative and a positive literal; none where the formula lacks their variables.
+/// A negative and a positive literal; none where the formula lacks their variables.
 fn literals_of(formula: &Formula) -> Option<[Lit; 2]> {
     let first = Lit {
         var: formula.var_at(8)?,
@@ -23,19 +24,20 @@ fn literals_of(formula: &Formula) -> Option<[Lit; 2]> {
     Some([first, second])
 }
 
+/// Two literals of a formula of 13 variables.
 fn literals(alloc: Global) -> Result<Option<[Lit; 2]>, AllocError> {
     let formula = Formula::new(alloc, 13)?;
     Ok(literals_of(&formula))
 }
 
-// Adds a lemma and a learnt clause.
+/// Adds a lemma and a learnt clause.
 fn add_steps(log: &mut Log, lits: &[Lit]) -> Result<(), AllocError> {
     let half = Frac::read(b"-1/2").unwrap_or(Frac::whole(0));
     log.add_lemma(lits, &[half, Frac::whole(3)])?;
     log.add_learnt(&[], &[0, 12])
 }
 
-// Whether so much room is enough for the log's text, or isn't, and this is written.
+/// Whether so much room is enough for the log's text, or isn't, and this is written.
 fn is_printed(
     alloc: Global,
     log: &Log,
@@ -48,6 +50,7 @@ fn is_printed(
     Ok(is_whole == whole && sink.held() == text)
 }
 
+/// Whether a log has two steps, and the second one is the empty clause with these hints.
 fn ends_with_hints(log: &Log, numbers: &[u32]) -> bool {
     if log.len() != 2 {
         return false;
@@ -58,7 +61,7 @@ fn ends_with_hints(log: &Log, numbers: &[u32]) -> bool {
     }
 }
 
-// Whether a log of the two steps has them, and is printed.
+/// Whether a log of the two steps has them, and is printed.
 fn is_kept(alloc: Global, log: &Log) -> Result<bool, AllocError> {
     Ok(
         ends_with_hints(log, &[0, 12])
@@ -76,7 +79,7 @@ fn prints_its_steps(rt: HostRuntime) -> Result<(), Fail> {
     Ok(())
 }
 
-// Adds five steps, of which the last needs the third, and that the second.
+/// Adds five steps, of which the last needs the third, and that the second.
 fn add_more(log: &mut Log, lits: &[Lit]) -> Result<(), AllocError> {
     let half = Frac::read(b"-1/2").unwrap_or(Frac::whole(0));
     log.add_learnt(lits, &[0])?;

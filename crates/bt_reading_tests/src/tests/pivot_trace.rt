@@ -15,6 +15,7 @@ const WIDE: &[&str] = &[
     "lemma|mul|wide lemma 4 1\nstart 3 4 10\nbound 0\nturn 3 1\nnumbers mul 1/3 -2\nend\n",
 ];
 
+/// A trace of these pivots from the basis 3, 4 and 10, where row 0 is bound.
 fn trace(alloc: Global, steps: &[Pivot]) -> Result<PivotTrace, AllocError> {
     Ok(PivotTrace {
         start: vec![in alloc; 3, 4, 10]?,
@@ -23,6 +24,7 @@ fn trace(alloc: Global, steps: &[Pivot]) -> Result<PivotTrace, AllocError> {
     })
 }
 
+/// The place of this name, or that of a lemma.
 fn place_named(name: &str) -> WidePlace {
     match name {
         "entry" => WidePlace::Entry,
@@ -32,6 +34,7 @@ fn place_named(name: &str) -> WidePlace {
     }
 }
 
+/// The operation of this name, or a sum.
 fn operation_named(name: &str) -> Operation {
     match name {
         "div" => Operation::Div,

@@ -131,6 +131,7 @@ formula --tier fast|none
 formula full --learnt 1|none
 formula --grid 5x8 --learnt 1|none";
 
+/// The property of this name, or `full`.
 fn property(name: &str) -> Property {
     match name {
         "balanced" => Property::Balanced,
@@ -142,6 +143,7 @@ fn property(name: &str) -> Property {
     }
 }
 
+/// The kind of network of this name, or butterflies.
 fn family(name: &str) -> NetworkFamily {
     match name {
         "chain" => NetworkFamily::Chain,

@@ -8,7 +8,7 @@ use std::alloc::{AllocError, Global};
 use std::process::Abort;
 use std::test::Fail;
 
-// A formula as a text: how many variables are no atoms, the rows of the atoms behind them, and the clauses.
+/// A formula as a text: how many variables are no atoms, the rows of the atoms behind them, and the clauses.
 #[derive(Clone, Copy)]
 pub struct FormulaText {
     pub vars: usize,
@@ -16,14 +16,15 @@ pub struct FormulaText {
     pub clauses: &'static str,
 }
 
-// Two variables, no atoms, and the clauses `1 2`, `-1` and `-2`.
+/// Two variables, no atoms, and the clauses `1 2`, `-1` and `-2`.
 const THREE_CLAUSES: FormulaText = FormulaText {
     vars: 2,
     rows: &[],
     clauses: "1 2,-1,-2",
 };
 
-// What is answered to a head and a source that gives at most so many bytes a call.
+/// What is answered to a certificate that begins with a head and of which a source gives the rest, at most so many
+/// bytes a call and within a limit of its bytes.
 fn answer(
     alloc: Global,
     formula: FormulaText,
@@ -41,7 +42,7 @@ fn answer(
     Ok(check_log(alloc, formula, head, &mut source, limit))
 }
 
-// Texts, the line of the fault that is answered to them, or 0, and its name.
+/// Texts, the line of the fault that is answered to them, or 0, and its name.
 const TEXTS: &[&str] = &[
     "r 0 2 3 1 0\nend\n|0|accepted",
     "r 2 2 0 2 1 0\nr 0 4 3 0\nend\n|0|accepted",
@@ -75,7 +76,7 @@ const TEXTS: &[&str] = &[
     "r 1000000000000000000 0 2 0\nend\n|2|line",
 ];
 
-// The line of a fault, or 0.
+/// The line of a fault, or 0.
 fn line_of(told: &Result<(), CertFault>) -> usize {
     match told {
         Err(CertFault::CertLine(line)) => *line,
@@ -85,6 +86,7 @@ fn line_of(told: &Result<(), CertFault>) -> usize {
     }
 }
 
+/// The name of a cause in a row.
 fn name_of_cause(cause: Cause) -> &'static str {
     match cause {
         Cause::Literal => "literal",
@@ -95,6 +97,7 @@ fn name_of_cause(cause: Cause) -> &'static str {
     }
 }
 
+/// The name of a fault in a row.
 fn name_of_fault(fault: &CertFault) -> &'static str {
     match fault {
         CertFault::CertLine(_) => "line",
@@ -107,7 +110,7 @@ fn name_of_fault(fault: &CertFault) -> &'static str {
     }
 }
 
-// Whether this was answered: the line of the fault, or 0, and its name.
+/// Whether this was answered: the line of the fault, or 0, and its name.
 fn is_told(told: &Result<(), CertFault>, line: usize, name: &str) -> bool {
     let named = match told {
         Ok(()) => "accepted",
@@ -116,7 +119,7 @@ fn is_told(told: &Result<(), CertFault>, line: usize, name: &str) -> bool {
     line == line_of(told) && name == named
 }
 
-// Whether the text of a row is answered as it says, whatever number of bytes the source gives a call.
+/// Whether the text of a row is answered as it says, whatever number of bytes the source gives a call.
 fn is_answered(alloc: Global, formula: FormulaText, row: &str) -> Result<bool, AllocError> {
     let [text, line, name, ..] = fields(row, '|');
     for most in [1, 2, 7, 99] {
@@ -130,7 +133,7 @@ fn is_answered(alloc: Global, formula: FormulaText, row: &str) -> Result<bool, A
 
 const CERTIFICATE: &[u8] = b"r 1 0 3 1 0\nr 0 2 4 0\nend\n";
 
-// Whether what is answered to so many bytes of the certificate alone names the first line that lacks bytes.
+/// Whether what is answered to so many bytes of the certificate alone names the first line that lacks bytes.
 fn is_cut(told: &Result<(), CertFault>, length: usize) -> bool {
     match length {
         0..11 => is_told(told, 2, "line"),
@@ -140,7 +143,7 @@ fn is_cut(told: &Result<(), CertFault>, length: usize) -> bool {
     }
 }
 
-// Whether a head of this length and a source of the rest are one text, and the source's limit and the end are seen.
+/// Whether a head of this length and a source of the rest are one text, and the source's limit and the end are seen.
 fn is_joined(alloc: Global, formula: FormulaText, length: usize) -> Result<bool, AllocError> {
     let (head, bytes) = CERTIFICATE.split_at(length.min(CERTIFICATE.len()));
     let whole = answer(alloc, formula, head, bytes, 3, bytes.len())?;
@@ -156,7 +159,7 @@ fn is_joined(alloc: Global, formula: FormulaText, length: usize) -> Result<bool,
     Ok(is_told(&whole, 0, "accepted") && is_told(&short, 0, "too long") && is_cut(&cut, length))
 }
 
-// Whether the certificate is refused where a bit of a byte is changed.
+/// Whether the certificate is refused where a bit of a byte is changed.
 fn is_refused(alloc: Global, formula: FormulaText, at: usize, bit: u8) -> Result<bool, AllocError> {
     let mut text = Vec::from_slice(alloc, CERTIFICATE)?;
     if let Some(byte) = text.get_mut(at) {
@@ -165,7 +168,7 @@ fn is_refused(alloc: Global, formula: FormulaText, at: usize, bit: u8) -> Result
     Ok(answer(alloc, formula, &text, b"", 1, 0)?.is_err())
 }
 
-// Whether the fault of a source that fails at this call is told, where the text's first line isn't read before.
+/// Whether the fault of a source that fails at this call is told, where the text's first line isn't read before.
 fn is_fault_told(alloc: Global, formula: FormulaText, call: u64) -> Result<bool, AllocError> {
     let bytes = Vec::from_slice(alloc, b"x\nend\n")?;
     let mut source = MemSource::new(bytes, vec![in alloc; call]?, 2);
@@ -178,7 +181,7 @@ fn is_fault_told(alloc: Global, formula: FormulaText, call: u64) -> Result<bool,
     })
 }
 
-// Whether each place where the certificate may be cut is as it is to be.
+/// Whether each place where the certificate may be cut is as it is to be.
 fn are_joined(alloc: Global, formula: FormulaText) -> Result<bool, AllocError> {
     for length in 0..CERTIFICATE.len() {
         if !is_joined(alloc, formula, length)? {
@@ -188,7 +191,7 @@ fn are_joined(alloc: Global, formula: FormulaText) -> Result<bool, AllocError> {
     Ok(true)
 }
 
-// Whether the fault of a source is told at each of the first calls.
+/// Whether the fault of a source is told at each of the first calls.
 fn are_faults_told(alloc: Global, formula: FormulaText) -> Result<bool, AllocError> {
     for call in 1..6 {
         if !is_fault_told(alloc, formula, call)? {
@@ -198,7 +201,7 @@ fn are_faults_told(alloc: Global, formula: FormulaText) -> Result<bool, AllocErr
     Ok(true)
 }
 
-// Whether the certificate is refused wherever one bit is changed.
+/// Whether the certificate is refused wherever one bit is changed.
 fn are_refused(alloc: Global, formula: FormulaText) -> Result<bool, AllocError> {
     for at in 0..CERTIFICATE.len() {
         for bit in [1, 2, 4, 8, 16, 32, 64, 128] {
@@ -210,7 +213,7 @@ fn are_refused(alloc: Global, formula: FormulaText) -> Result<bool, AllocError> 
     Ok(true)
 }
 
-// Whether the certificate is accepted whole, however it comes, and refused where it is cut or changed.
+/// Whether the certificate is accepted whole, however it comes, and refused where it is cut or changed.
 fn are_right(alloc: Global, formula: FormulaText) -> Result<bool, AllocError> {
     Ok(
         are_joined(alloc, formula)?
@@ -219,7 +222,7 @@ fn are_right(alloc: Global, formula: FormulaText) -> Result<bool, AllocError> {
     )
 }
 
-// Judges rows of certificates for a formula.
+/// Judges rows of certificates for a formula.
 pub fn judge(
     rt: &impl Abort,
     alloc: Global,

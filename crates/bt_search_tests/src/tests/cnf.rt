@@ -6,7 +6,7 @@ use bt_frac::{Frac, Relation, Row};
 use std::alloc::Global;
 use std::test::Fail;
 
-// Picks the last variable, and tells the clauses.
+/// Picks the last variable, and keeps the clauses that it is told of.
 #[derive(Drop)]
 struct Listing {
     clauses: Vec<Vec<Lit>>,
@@ -105,7 +105,7 @@ fn names_no_row_of_a_larger_formula(rt: HostRuntime) -> Result<(), Fail> {
     Ok(())
 }
 
-/// A variable.
+/// The second variable of a formula of three.
 fn some_variable(alloc: Global) -> Result<Option<Var>, Memory> {
     let formula = Formula::new(alloc, 3)?;
     Ok(formula.var_at(1))

@@ -125,7 +125,7 @@ fn parts(fraction: Option<Frac>) -> Option<(i128, i128)> {
     Some((fraction.numerator(), fraction.denominator()))
 }
 
-/// The two numbers that fields spell.
+/// The two numbers that fields spell. None where one of them spells none.
 fn pair(first: &str, second: &str) -> Option<(i128, i128)> {
     match (first.parse::<i128>(), second.parse::<i128>()) {
         (Ok(first), Ok(second)) => Some((first, second)),
@@ -133,6 +133,7 @@ fn pair(first: &str, second: &str) -> Option<(i128, i128)> {
     }
 }
 
+/// The quotient of two fractions. None where the second is 0, or a number leaves 128 bits.
 fn divided(left: &Frac, right: &Frac) -> Option<Frac> {
     if right.numerator() == 0 {
         return None;
@@ -140,6 +141,7 @@ fn divided(left: &Frac, right: &Frac) -> Option<Frac> {
     left.div(right)
 }
 
+/// What an operation makes of two fractions: their sum, difference, product or quotient. None where there is none.
 fn computed(left: &Frac, operation: &str, right: &Frac) -> Option<Frac> {
     match operation {
         "+" => left.add(right),
@@ -149,6 +151,7 @@ fn computed(left: &Frac, operation: &str, right: &Frac) -> Option<Frac> {
     }
 }
 
+/// Whether an operation makes of two fractions what a row says, or nothing where it says so.
 fn is_computed(row: &str) -> bool {
     let [left, operation, right, _, wanted] = fields(row, ' ');
     match (Frac::read(left.as_bytes()), Frac::read(right.as_bytes())) {
@@ -159,6 +162,7 @@ fn is_computed(row: &str) -> bool {
     }
 }
 
+/// Whether two fractions have the order that a row says.
 fn is_ordered(row: &str) -> bool {
     let [left, order, right, ..] = fields(row, ' ');
     let wanted = match order {
@@ -172,6 +176,7 @@ fn is_ordered(row: &str) -> bool {
     }
 }
 
+/// Whether two numbers have the quotient that a row says, or none where it says so.
 fn is_quotient(row: &str) -> bool {
     let [over, under, numerator, denominator, ..] = fields(row, ' ');
     match pair(over, under) {
@@ -189,6 +194,7 @@ fn is_spelled(fraction: Frac, text: &str) -> bool {
     &buf[..length] == text.as_bytes()
 }
 
+/// Whether a text spells the fraction that a row says and is its own spelling, or spells none where the row says so.
 fn is_spelling(row: &str) -> bool {
     let [text, numerator, denominator, ..] = fields(row, '|');
     let wanted = pair(numerator, denominator);
@@ -198,6 +204,7 @@ fn is_spelling(row: &str) -> bool {
     }
 }
 
+/// Whether a word spells the whole number that a row says, or none where it says so.
 fn is_whole(row: &str) -> bool {
     let [word, number, ..] = fields(row, '|');
     read_whole(word.as_bytes()) == number.parse::<u128>().ok()

@@ -11,6 +11,7 @@ const DELTAS: &[&str] = &[
     "0 0|0 0|0 0|0 0|=",
 ];
 
+/// The delta of a field: its fraction and the multiple of the infinitesimal.
 fn delta_of(field: &str) -> Delta {
     let [value, tiny, ..] = fields(field, ' ');
     Delta {
@@ -19,6 +20,7 @@ fn delta_of(field: &str) -> Delta {
     }
 }
 
+/// The sign that stands for an order.
 fn mark_of(order: Ordering) -> &'static str {
     match order {
         Ordering::Less => "<",
@@ -27,6 +29,7 @@ fn mark_of(order: Ordering) -> &'static str {
     }
 }
 
+/// Whether two deltas have the sum, the difference and the order that a row says.
 fn is_so(row: &str) -> bool {
     let [first, second, sum, difference, order] = fields(row, '|');
     let first = delta_of(first);

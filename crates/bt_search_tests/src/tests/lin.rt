@@ -29,7 +29,7 @@ const SUMS: &[&str] = &[
     "0 4 0|1/85070591730234615865843651857942052864 1 1/3|2 0",
 ];
 
-/// The answer of a field.
+/// The answer that a field spells: yes or no, or the row and the column where a number is too wide.
 fn answer_of(field: &str) -> Result<bool, WideAt> {
     match field {
         "yes" => Ok(true),

@@ -48,7 +48,7 @@ fn clause_over(
     Ok(lits)
 }
 
-/// Adds a clause of so many literals.
+/// Adds a clause of so many literals over the first so many variables, as the numbers without a pattern say.
 fn add_clause(
     alloc: Global,
     chance: &mut Chance,

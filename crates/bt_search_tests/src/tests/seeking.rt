@@ -49,7 +49,7 @@ fn are_true(solver: &Solver, literals: &[Literal]) -> bool {
     literals.iter().all(|literal| solver.is_true(*literal))
 }
 
-/// The name of what a search comes to, where what it finds is as it should be; or else none.
+/// The name of what a search comes to, empty where what it finds isn't as it should be.
 fn name_of(answer: Answer, is_right: bool) -> &'static str {
     match answer {
         Answer::Found => { if is_right { "found" } else { "" } }
@@ -58,7 +58,7 @@ fn name_of(answer: Answer, is_right: bool) -> &'static str {
     }
 }
 
-/// What a trial comes to, and whether what it finds has these literals.
+/// The name of what a trial comes to, empty where what it finds lacks a literal that is wished.
 fn outcome(
     alloc: Global,
     solver: &mut Solver,

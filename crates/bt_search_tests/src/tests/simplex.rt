@@ -71,7 +71,7 @@ fn bound_tableau(
     Ok(Some(tableau))
 }
 
-/// Requires a row, or requires it no longer.
+/// Requires a row, or requires it no longer. Does nothing where there is no such row.
 fn bind(tableau: &mut Tableau, row: usize, bound: bool) {
     if row >= tableau.rows().len() {
         return;
@@ -186,6 +186,7 @@ fn ends(alloc: Global, fields: &[&str], has_values: bool) -> Result<bool, AllocE
     }
 }
 
+/// The place of a number that is too wide, by its name in a row.
 fn place_named(name: &str) -> WidePlace {
     match name {
         "entry" => WidePlace::Entry,
@@ -195,6 +196,7 @@ fn place_named(name: &str) -> WidePlace {
     }
 }
 
+/// The operation whose number is too wide, by its name in a row.
 fn operation_named(name: &str) -> Operation {
     match name {
         "mul" => Operation::Mul,
@@ -220,7 +222,7 @@ fn meets_wide(alloc: Global, tableau: &mut Tableau, row: &str) -> Result<bool, A
     }
 }
 
-/// Whether a number is too wide where a row says so.
+/// Whether a check of the two rows of a row meets a number that is too wide where it says so.
 fn is_wide(alloc: Global, row: &str) -> Result<bool, AllocError> {
     let [first, second, ..] = fields(row, '|');
     let rows = rows_of(alloc, &[first, second])?;

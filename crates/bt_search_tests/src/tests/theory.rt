@@ -47,6 +47,7 @@ const CASES: &[&str] = &[
     "1 2,1 -2|0 1|000|9 9|sat",
 ];
 
+/// The scope that a text is: the places of rows, or none where it is `-`.
 fn scope_of(alloc: Global, text: &str) -> Result<Vec<usize>, AllocError> {
     let mut scope = Vec::new(alloc);
     if text != "-" {
@@ -57,6 +58,7 @@ fn scope_of(alloc: Global, text: &str) -> Result<Vec<usize>, AllocError> {
     Ok(scope)
 }
 
+/// The scopes of a text, between which commas stand; none where it is empty.
 fn scopes_of(alloc: Global, text: &str) -> Result<Vec<Vec<usize>>, AllocError> {
     let mut scopes = Vec::new(alloc);
     if !text.is_empty() {
@@ -67,6 +69,7 @@ fn scopes_of(alloc: Global, text: &str) -> Result<Vec<Vec<usize>>, AllocError> {
     Ok(scopes)
 }
 
+/// The guess that a text is: 1 for each variable that is true, or no variable where it is `-`.
 fn guess_of(alloc: Global, text: &str) -> Result<Vec<bool>, AllocError> {
     let mut guess = Vec::new(alloc);
     if text != "-" {
@@ -77,6 +80,7 @@ fn guess_of(alloc: Global, text: &str) -> Result<Vec<bool>, AllocError> {
     Ok(guess)
 }
 
+/// The guesses of a text, between which spaces stand; none where it is empty.
 fn guesses_of(alloc: Global, text: &str) -> Result<Vec<Vec<bool>>, AllocError> {
     let mut guesses = Vec::new(alloc);
     if !text.is_empty() {
@@ -100,6 +104,7 @@ fn name_of(outcome: &Outcome) -> &'static str {
     }
 }
 
+/// The limits of a text: the most steps and the most turns.
 fn limits_of(text: &str) -> Limits {
     let [learnt, pivots, ..] = fields(text, ' ');
     Limits {

@@ -116,7 +116,8 @@ fn steered(
     )
 }
 
-/// The same, where two of a kind steer.
+/// The status with which a row's words and input are answered, where two choosers of a kind steer, which count in
+/// `asked` how often they are asked.
 fn steered_by(
     alloc: Global,
     row: &str,
@@ -135,8 +136,8 @@ fn is_told(row: &str, status: u8, text: &[u8]) -> bool {
     is_status(status, wanted) && text.starts_with(begins.as_bytes())
 }
 
-/// Whether these are the status and the text where a chooser was asked, or wasn't. One who finds no memory may end the
-/// run.
+/// Whether a status and a text are a row's, and a chooser was asked where the row says so. One that finds no memory may
+/// end the run in place of that.
 fn is_told_by(row: &str, steering: Steering, is_asked: bool, status: u8, text: &[u8]) -> bool {
     let [_, _, _, _, asks, ..] = fields(row);
     match steering {

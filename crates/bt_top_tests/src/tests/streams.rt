@@ -87,6 +87,7 @@ fn told_by(row: &str) -> (usize, usize) {
     (number_of(status), text.len())
 }
 
+/// A source of a text that gives at most so many bytes at a call, and fails where the streams say so.
 fn source_of(alloc: Global, input: &str, streams: Streams) -> Result<MemSource, AllocError> {
     let input = Vec::from_slice(alloc, input.as_bytes())?;
     let fails = vec![in alloc; streams.source_fails]?;
@@ -105,13 +106,13 @@ fn status_of(
     asked_alone(alloc, words, &mut source, sink)
 }
 
-/// Whether these bytes are so much of a row's text.
+/// Whether these bytes are the first ones of a row's text, so many.
 fn is_front(row: &str, written: &[u8], length: usize) -> bool {
     let [_, _, _, text, ..] = fields(row);
     text.as_bytes().get(..length) == Some(written)
 }
 
-/// Whether a row's words and input end with a status, and so much of its text.
+/// Whether a row's run ends with a status, and has written so many of the first bytes of its text.
 fn ends_with(
     alloc: Global,
     row: &str,

@@ -78,7 +78,7 @@ fn answer_behind(
     Ok(answer(alloc, &bytes))
 }
 
-/// Whether the byte behind the front goes on, and the text is cut behind it, or it is the bad byte.
+/// Whether the text is bad behind the byte that follows a front, where that goes on, or else at it.
 fn is_at(alloc: Global, front: &[u8], byte: u8, goes_on: bool) -> Result<bool, AllocError> {
     let at = front.len().saturating_add(usize::from(goes_on));
     Ok(answer_behind(alloc, front, byte)? == Err(JsonFault::Json(at)))

@@ -69,7 +69,7 @@ fn is_kept(alloc: Global, tree: &Tree, front: &str, number: u64) -> Result<bool,
     Ok(has_text(tree.member(&name), &name) && answer(alloc, twice.as_bytes()) == wanted)
 }
 
-/// Whether an object has so many names.
+/// Whether an object has each number below `count` as a name.
 fn are_kept(alloc: Global, tree: &Tree, front: &str, count: u64) -> Result<bool, AllocError> {
     for number in 0..count {
         if !is_kept(alloc, tree, front, number)? {
@@ -113,7 +113,7 @@ const LEVELS: &[&str] = &[
     "1}]|bad|163",
 ];
 
-/// So many levels.
+/// A text that opens `MOST_LEVELS` levels.
 fn opened(alloc: Global) -> Result<Vec<u8>, AllocError> {
     let mut front = Vec::new(alloc);
     for _ in 0..MOST_LEVELS / 2 {
@@ -139,7 +139,7 @@ fn is_refused(alloc: Global, front: &[u8], row: &str) -> Result<bool, AllocError
     Ok(answer(alloc, &bytes) == Err(fault_of(name, place)))
 }
 
-/// Whether the most levels are read.
+/// Whether a front with the most levels is read where they are closed again.
 fn is_read(alloc: Global, front: &[u8]) -> Result<bool, AllocError> {
     let mut closed = Vec::from_slice(alloc, front)?;
     closed.push(b'1')?;

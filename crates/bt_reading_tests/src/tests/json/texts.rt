@@ -147,6 +147,7 @@ fn told_or_dash<N: Display + Drop>(alloc: Global, number: Option<N>) -> Result<S
     }
 }
 
+/// What is told of a value, as the lines spell it.
 pub fn told_value(alloc: Global, tree: &Tree) -> Result<String, AllocError> {
     match tree {
         Tree::Null => format!(in alloc; "null"),
@@ -168,6 +169,7 @@ fn told_at(alloc: Global, tree: &Tree, after: usize) -> Result<String, AllocErro
     format!(in alloc; "{value} to {after}")
 }
 
+/// What is told of a text: the value at its front and where it ends, or what is wrong and where.
 fn told(alloc: Global, text: &str) -> Result<String, AllocError> {
     match read(alloc, text.as_bytes()) {
         Ok((tree, after)) => told_at(alloc, &tree, after),
