@@ -7,9 +7,6 @@ use bt_net::Edge;
 use bt_parts::Rect;
 use std::alloc::{AllocError, Global};
 
-/// So many edges are opened at most.
-const MOST_OPENED: usize = 3;
-
 /// So many networks with equally many edges opened are looked at.
 const MOST_NETWORKS: usize = 2_500;
 
@@ -77,16 +74,17 @@ fn push_opened(
     Ok(has_loops)
 }
 
-/// The request in a rectangle of which as few edges as can be are opened so that it has no loops, and of each colour of
-/// its structure as many splitters as make pairs. None, where that takes too many edges.
+/// The request in a rectangle of which as few edges as can be are opened so that it has no loops, and an even number of
+/// splitters has each colour of its structure. None where that takes more than `most` edges, or too many networks.
 pub fn open_loops(
     alloc: Global,
     request: &Request,
     rect: Rect,
+    most: usize,
 ) -> Result<Option<Request>, AllocError> {
     let mut list = Vec::new(alloc);
     let _ = push_opened(alloc, &mut list, request, rect, 0)?;
-    for _ in 0..MOST_OPENED {
+    for _ in 0..most {
         let mut further = Vec::new(alloc);
         for opened in list {
             let has_loops = push_opened(alloc, &mut further, &opened.request, rect, opened.next)?;

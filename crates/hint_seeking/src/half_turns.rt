@@ -5,18 +5,33 @@ use crate::room::{cells_in, names_cells, taken_in};
 use bt_model::Request;
 use bt_parts::Rect;
 use hint_placement::Sketch;
-use hint_shrinking::{Shrunk, find_turned};
+use hint_shrinking::{Shrunk, Turning, find_turned};
 use std::alloc::{AllocError, Global};
 
 /// For about so many conflicts of a light search a layout is looked for that half a turn maps onto itself: it takes few
 /// or very many.
 const TURN_EFFORT: u64 = 40_000;
 
-/// How many such searches there are in the rectangle of a request: where it has few cells for each splitter hardly
-/// anything else finds a layout.
-const NARROW_SEARCHES: u64 = 2;
+/// So many edges of loops are opened at most where other searches find layouts of looped networks sooner.
+const FEW_OPENED: usize = 1;
 
-const OTHER_SEARCHES: u64 = 1;
+/// How often such a layout is looked for in the rectangle of a request, with at most so many edges of loops opened.
+#[derive(Clone, Copy)]
+struct Searches {
+    count: u64,
+    opened: usize,
+}
+
+/// Where a rectangle is narrow hardly anything else finds a layout.
+const NARROW_SEARCHES: Searches = Searches {
+    count: 2,
+    opened: 3,
+};
+
+const OTHER_SEARCHES: Searches = Searches {
+    count: 1,
+    opened: FEW_OPENED,
+};
 
 /// With fewer cells for each splitter a rectangle is narrow.
 const NARROW_ROOM: u64 = 9;
@@ -38,8 +53,8 @@ fn is_upright(rect: Rect) -> bool {
     width <= height && height <= width.saturating_mul(2)
 }
 
-/// How many searches there are in a rectangle.
-fn searches_in(request: &Request, rect: Rect) -> u64 {
+/// Which searches there are in a rectangle.
+fn searches_in(request: &Request, rect: Rect) -> Searches {
     let narrow = u64::from(request.net().splitters()).saturating_mul(NARROW_ROOM);
     if cells_in(rect) < narrow {
         NARROW_SEARCHES
@@ -48,8 +63,18 @@ fn searches_in(request: &Request, rect: Rect) -> u64 {
     }
 }
 
-/// Looks for a layout of a request that half a turn maps onto itself, or does but for its last rows: where halves of
-/// splitters and ends take at most two thirds of the cells.
+/// A search with at most so many edges of loops opened. Each number begins another one.
+fn turning_by(opened: usize, number: u64) -> Turning {
+    Turning {
+        effort: TURN_EFFORT,
+        opened,
+        number,
+    }
+}
+
+/// Looks for a layout of a request that half a turn maps onto itself, or does but for its border, where halves of
+/// splitters and ends take at most two thirds of the cells. None where a request names cells, its rectangle is wider
+/// than high or more than twice as high as wide, or none is found.
 pub fn seek_by_turning(alloc: Global, request: &Request) -> Result<Option<Sketch>, AllocError> {
     let rect = great_rect(request);
     if names_cells(request) || !is_upright(rect) || !take_at_most(request, rect, 2, 3) {
@@ -58,8 +83,10 @@ pub fn seek_by_turning(alloc: Global, request: &Request) -> Result<Option<Sketch
     let Some(great) = ground_in(alloc, request, rect)? else {
         return Ok(None);
     };
-    for number in 0..searches_in(request, rect) {
-        if let Some(shrunk) = find_turned(alloc, great.request(), rect, TURN_EFFORT, number)? {
+    let Searches { count, opened } = searches_in(request, rect);
+    for number in 0..count {
+        let turning = turning_by(opened, number);
+        if let Some(shrunk) = find_turned(alloc, great.request(), rect, turning)? {
             return Ok(Some(great.told(alloc, &shrunk.sketch)?));
         }
     }
@@ -119,23 +146,21 @@ fn greatest_narrow(requests: &[Request], end: usize, turn: u64) -> Option<&Reque
     last
 }
 
-/// Looks for a layout of one of the first requests that half a turn maps onto itself. Other numbers begin other
-/// searches.
+/// Looks for a layout of one of the first `end` requests that half a turn maps onto itself, or does but for its border.
+/// Each number begins another search. None where no rectangle of these is squarish and wide or narrow, or none is found.
 pub fn seek_turned_below(
     alloc: Global,
     requests: &[Request],
     end: usize,
     number: u64,
 ) -> Result<Option<Shrunk>, AllocError> {
-    if let Some(request) = least_wide(requests, end, number % TURNS) {
-        let rect = request.rect();
-        return find_turned(alloc, request, rect, TURN_EFFORT, number / TURNS);
-    }
-    match greatest_narrow(requests, end, number % NARROW_TURNS) {
-        Some(request) => {
-            let rect = request.rect();
-            find_turned(alloc, request, rect, TURN_EFFORT, number / NARROW_TURNS)
-        }
-        None => Ok(None),
-    }
+    let (request, turn) = match least_wide(requests, end, number % TURNS) {
+        Some(request) => (request, number / TURNS),
+        None => match greatest_narrow(requests, end, number % NARROW_TURNS) {
+            Some(request) => (request, number / NARROW_TURNS),
+            None => return Ok(None),
+        },
+    };
+    let turning = turning_by(FEW_OPENED, turn);
+    find_turned(alloc, request, request.rect(), turning)
 }

@@ -25,4 +25,4 @@ mod window;
 pub use goal::Goal;
 pub use shrinking::{Shrunk, shrink};
 pub use std::alloc::AllocError as Memory;
-pub use turning::find_turned;
+pub use turning::{Turning, find_turned};

@@ -15,14 +15,25 @@ use std::alloc::{AllocError, Global};
 /// In how many rectangles opened networks are laid by turns.
 const PLACES: u64 = 3;
 
+/// How a layout is looked for that half a turn maps onto itself.
+#[derive(Clone, Copy)]
+pub struct Turning {
+    /// As long as so many conflicts take.
+    pub effort: u64,
+    /// At most so many edges of loops are opened.
+    pub opened: usize,
+    /// Each number begins another search.
+    pub number: u64,
+}
+
 /// The field in which a layout of a request was found that half a turn maps onto itself; none where none was.
 fn turned_field(
     alloc: Global,
     request: &Request,
     rect: Rect,
-    effort: u64,
-    number: u64,
+    turning: Turning,
 ) -> Result<Option<Field>, AllocError> {
+    let Turning { effort, number, .. } = turning;
     let likeness = Likeness::Turned(number);
     let mut random = Random::new(number);
     let Some(mut field) = Field::new(alloc, request, rect, likeness)? else {
@@ -59,13 +70,13 @@ fn find_whole(
     alloc: Global,
     request: &Request,
     rect: Rect,
-    effort: u64,
-    number: u64,
+    turning: Turning,
 ) -> Result<Option<Shrunk>, AllocError> {
-    match turned_field(alloc, request, rect, effort, number)? {
+    match turned_field(alloc, request, rect, turning)? {
         Some(mut field) => {
             let board = field.board(alloc)?;
-            shrunk_of(alloc, &mut field, request, &board, &mut Random::new(number))
+            let mut random = Random::new(turning.number);
+            shrunk_of(alloc, &mut field, request, &board, &mut random)
         }
         None => Ok(None),
     }
@@ -94,13 +105,12 @@ fn opened_board(
     request: &Request,
     rect: Rect,
     lesser: Rect,
-    effort: u64,
-    number: u64,
+    turning: Turning,
 ) -> Result<Option<Board>, AllocError> {
-    let Some(opened) = open_loops(alloc, request, lesser)? else {
+    let Some(opened) = open_loops(alloc, request, lesser, turning.opened)? else {
         return Ok(None);
     };
-    match turned_field(alloc, &opened, lesser, effort, number)? {
+    match turned_field(alloc, &opened, lesser, turning)? {
         Some(field) => Ok(Some(field.board(alloc)?.within(alloc, rect)?)),
         None => Ok(None),
     }
@@ -112,12 +122,15 @@ fn find_joined(
     alloc: Global,
     request: &Request,
     rect: Rect,
-    effort: u64,
-    number: u64,
+    turning: Turning,
 ) -> Result<Option<Shrunk>, AllocError> {
+    let number = turning.number;
     let lesser = lesser_rect(rect, number);
-    let turn = number / PLACES;
-    let Some(rest) = opened_board(alloc, request, rect, lesser, effort, turn)? else {
+    let inner = Turning {
+        number: number / PLACES,
+        ..turning
+    };
+    let Some(rest) = opened_board(alloc, request, rect, lesser, inner)? else {
         return Ok(None);
     };
     let Some(mut field) = Field::new(alloc, request, rect, Likeness::Any)? else {
@@ -139,20 +152,18 @@ fn may_turn(request: &Request, rect: Rect) -> bool {
 
 /// A plan of a layout of a request in a rectangle that half a turn of it maps onto itself, where each splitter may be
 /// exchanged with another one; or where that is so once its loops are opened, of one that half a turn so maps but for
-/// its border, at which they are joined. It is looked for as long as so many conflicts take. Other numbers begin other
-/// searches.
+/// its border, at which they are joined. None where the request asks for anything of ends and cells, or none is found.
 pub fn find_turned(
     alloc: Global,
     request: &Request,
     rect: Rect,
-    effort: u64,
-    number: u64,
+    turning: Turning,
 ) -> Result<Option<Shrunk>, AllocError> {
     if !may_turn(request, rect) {
         return Ok(None);
     }
     if are_in_pairs(alloc, request)? {
-        return find_whole(alloc, request, rect, effort, number);
+        return find_whole(alloc, request, rect, turning);
     }
-    find_joined(alloc, request, rect, effort, number)
+    find_joined(alloc, request, rect, turning)
 }
