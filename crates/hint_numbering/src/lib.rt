@@ -1,8 +1,8 @@
-//! Requests with numbers by the structure of their networks, how far splitters are from the ends, and where a request wants
-//! these.
+//! Requests with numbers by the structure of their networks, how far splitters are from the ends, where a request wants
+//! these, which splitters half a turn of a layout could exchange, and networks whose loops are opened.
 //!
-//! Nothing is claimed of any. What they depend on is the structure of a network, never the numbers of its splitters and
-//! edges.
+//! Nothing is claimed of any. What the first three depend on is the structure of a network, never the numbers of its
+//! splitters and edges.
 #![tactic(auto)]
 
 mod distances;
