@@ -12,26 +12,11 @@ use std::alloc::{AllocError, Global};
 /// or very many.
 const TURN_EFFORT: u64 = 40_000;
 
-/// So many edges of loops are opened at most where other searches find layouts of looped networks sooner.
-const FEW_OPENED: usize = 1;
+/// How many such searches there are in the rectangle of a request: where it is narrow hardly anything else finds a
+/// layout.
+const NARROW_SEARCHES: u64 = 2;
 
-/// How often such a layout is looked for in the rectangle of a request, with at most so many edges of loops opened.
-#[derive(Clone, Copy)]
-struct Searches {
-    count: u64,
-    opened: usize,
-}
-
-/// Where a rectangle is narrow hardly anything else finds a layout.
-const NARROW_SEARCHES: Searches = Searches {
-    count: 2,
-    opened: 3,
-};
-
-const OTHER_SEARCHES: Searches = Searches {
-    count: 1,
-    opened: FEW_OPENED,
-};
+const OTHER_SEARCHES: u64 = 1;
 
 /// With fewer cells for each splitter a rectangle is narrow.
 const NARROW_ROOM: u64 = 9;
@@ -53,8 +38,8 @@ fn is_upright(rect: Rect) -> bool {
     width <= height && height <= width.saturating_mul(2)
 }
 
-/// Which searches there are in a rectangle.
-fn searches_in(request: &Request, rect: Rect) -> Searches {
+/// How many searches there are in a rectangle.
+fn searches_in(request: &Request, rect: Rect) -> u64 {
     let narrow = u64::from(request.net().splitters()).saturating_mul(NARROW_ROOM);
     if cells_in(rect) < narrow {
         NARROW_SEARCHES
@@ -63,11 +48,10 @@ fn searches_in(request: &Request, rect: Rect) -> Searches {
     }
 }
 
-/// A search with at most so many edges of loops opened. Each number begins another one.
-fn turning_by(opened: usize, number: u64) -> Turning {
+/// The search with a number.
+fn turning_by(number: u64) -> Turning {
     Turning {
         effort: TURN_EFFORT,
-        opened,
         number,
     }
 }
@@ -83,10 +67,8 @@ pub fn seek_by_turning(alloc: Global, request: &Request) -> Result<Option<Sketch
     let Some(great) = ground_in(alloc, request, rect)? else {
         return Ok(None);
     };
-    let Searches { count, opened } = searches_in(request, rect);
-    for number in 0..count {
-        let turning = turning_by(opened, number);
-        if let Some(shrunk) = find_turned(alloc, great.request(), rect, turning)? {
+    for number in 0..searches_in(request, rect) {
+        if let Some(shrunk) = find_turned(alloc, great.request(), rect, turning_by(number))? {
             return Ok(Some(great.told(alloc, &shrunk.sketch)?));
         }
     }
@@ -161,6 +143,5 @@ pub fn seek_turned_below(
             None => return Ok(None),
         },
     };
-    let turning = turning_by(FEW_OPENED, turn);
-    find_turned(alloc, request, request.rect(), turning)
+    find_turned(alloc, request, request.rect(), turning_by(turn))
 }

@@ -9,10 +9,10 @@ use crate::shrinking::Shrunk;
 use bt_model::Request;
 use bt_parts::Rect;
 use bt_random::Random;
-use hint_numbering::{are_in_pairs, open_loops};
+use hint_numbering::{are_in_pairs, edge_to_open, open_edge};
 use std::alloc::{AllocError, Global};
 
-/// In how many rectangles opened networks are laid by turns.
+/// In how many rectangles an opened network is laid by turns.
 const PLACES: u64 = 3;
 
 /// How a layout is looked for that half a turn maps onto itself.
@@ -20,8 +20,6 @@ const PLACES: u64 = 3;
 pub struct Turning {
     /// As long as so many conflicts take.
     pub effort: u64,
-    /// At most so many edges of loops are opened.
-    pub opened: usize,
     /// Each number begins another search.
     pub number: u64,
 }
@@ -33,7 +31,7 @@ fn turned_field(
     rect: Rect,
     turning: Turning,
 ) -> Result<Option<Field>, AllocError> {
-    let Turning { effort, number, .. } = turning;
+    let Turning { effort, number } = turning;
     let likeness = Likeness::Turned(number);
     let mut random = Random::new(number);
     let Some(mut field) = Field::new(alloc, request, rect, likeness)? else {
@@ -82,7 +80,7 @@ fn find_whole(
     }
 }
 
-/// The rectangle in which the opened network is laid, where edges are joined in one: by turns a row less, the same, and
+/// The rectangle in which the opened network is laid, where its edge is joined in one: by turns a row less, the same, and
 /// a column less.
 fn lesser_rect(rect: Rect, number: u64) -> Rect {
     let Rect { width, height } = rect;
@@ -99,15 +97,17 @@ fn lesser_rect(rect: Rect, number: u64) -> Rect {
     }
 }
 
-/// What cells hold in a layout that half a turn maps onto itself, of the network with its loops opened.
+/// What cells hold in a layout that half a turn maps onto itself, of the network with the edge at a place opened; none
+/// where none is found.
 fn opened_board(
     alloc: Global,
     request: &Request,
+    place: usize,
     rect: Rect,
     lesser: Rect,
     turning: Turning,
 ) -> Result<Option<Board>, AllocError> {
-    let Some(opened) = open_loops(alloc, request, lesser, turning.opened)? else {
+    let Some(opened) = open_edge(alloc, request, lesser, place)? else {
         return Ok(None);
     };
     match turned_field(alloc, &opened, lesser, turning)? {
@@ -116,11 +116,12 @@ fn opened_board(
     }
 }
 
-/// A layout of a network whose loops are joined at its border, and which half a turn maps onto itself without these.
-/// None where none is found.
+/// A layout at whose border the edge at a place is joined, and which half a turn maps onto itself but for that, with the
+/// edge opened. None where none is found.
 fn find_joined(
     alloc: Global,
     request: &Request,
+    place: usize,
     rect: Rect,
     turning: Turning,
 ) -> Result<Option<Shrunk>, AllocError> {
@@ -130,7 +131,7 @@ fn find_joined(
         number: number / PLACES,
         ..turning
     };
-    let Some(rest) = opened_board(alloc, request, rect, lesser, inner)? else {
+    let Some(rest) = opened_board(alloc, request, place, rect, lesser, inner)? else {
         return Ok(None);
     };
     let Some(mut field) = Field::new(alloc, request, rect, Likeness::Any)? else {
@@ -151,8 +152,8 @@ fn may_turn(request: &Request, rect: Rect) -> bool {
 }
 
 /// A plan of a layout of a request in a rectangle that half a turn of it maps onto itself, where each splitter may be
-/// exchanged with another one; or where that is so once its loops are opened, of one that half a turn so maps but for
-/// its border, at which they are joined. None where the request asks for anything of ends and cells, or none is found.
+/// exchanged with another one; or where that is so once an edge is opened, of one that half a turn so maps but for its
+/// border, at which the edge is joined. None where the request asks for anything of ends and cells, or none is found.
 pub fn find_turned(
     alloc: Global,
     request: &Request,
@@ -165,5 +166,8 @@ pub fn find_turned(
     if are_in_pairs(alloc, request)? {
         return find_whole(alloc, request, rect, turning);
     }
-    find_joined(alloc, request, rect, turning)
+    match edge_to_open(alloc, request)? {
+        Some(place) => find_joined(alloc, request, place, rect, turning),
+        None => Ok(None),
+    }
 }

@@ -18,7 +18,8 @@ pub struct Variables {
     standing: Vec<usize>,
 }
 
-/// What tells a list of literals from others, in any order.
+/// A number that tells a clause from others, whatever the order of its literals: of a few hundred thousand clauses hardly
+/// two share one, and a clause that so gets lost costs no more than the time of a search.
 fn mark_of(literals: &[Literal]) -> u64 {
     let mut mark = literals.len() as u64;
     for literal in literals {
@@ -29,7 +30,7 @@ fn mark_of(literals: &[Literal]) -> u64 {
     mark
 }
 
-/// Adds a literal to a clause that hasn't it. Whether the clause hasn't its negation.
+/// Adds a literal to a clause unless this has it. False where the clause has its negation, and so is always true.
 fn push_new(clause: &mut Vec<Literal>, literal: Literal) -> Result<bool, AllocError> {
     for other in clause.iter() {
         if *other == literal {
