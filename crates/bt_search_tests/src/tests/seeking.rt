@@ -108,7 +108,7 @@ fn are_met(alloc: Global, solver: &Solver, clauses: &str) -> Result<bool, AllocE
 
 /// Whether the search of a row comes to what it says, and gives each clause a true literal where it finds a model.
 fn is_searched(alloc: Global, row: &str) -> Result<bool, AllocError> {
-    let [clauses, conflicts, name] = fields(row, '|');
+    let [clauses, conflicts, name, _, _] = fields(row, '|');
     let formula = formula_of(alloc, 6, &[], clauses)?;
     let mut solver = load(alloc, &formula)?;
     let answer = solver.search(alloc, number_of(conflicts) as u64, &mut Random::new(1))?;
