@@ -3,7 +3,7 @@ use crate::clauses::Database;
 use crate::trail::{Number, Trail};
 use crate::watches::{Watch, Watches};
 use bt_cnf::Lbool;
-use hint_solver::{Literal, Visit};
+use hint_clauses::{Literal, Visit};
 use std::alloc::{AllocError, Global};
 
 /// The clauses by which is propagated: the core, which the empty clause needs as far as is known, or the others.

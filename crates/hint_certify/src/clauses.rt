@@ -1,6 +1,6 @@
 //! The clauses of a formula and of a proof, and which of them are there at the moment.
 use crate::trail::Number;
-use hint_solver::{Clauses, Literal, Span, Values};
+use hint_clauses::{Clauses, Literal, Span, Values};
 use std::alloc::{AllocError, Global};
 
 /// A clause: where its literals stand, whether it is there, and whether the empty clause needs it.

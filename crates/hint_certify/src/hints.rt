@@ -1,7 +1,7 @@
 //! The clauses of which a conflict comes.
 use crate::checker::Checker;
 use crate::trail::Number;
-use hint_solver::Literal;
+use hint_clauses::Literal;
 use std::alloc::{AllocError, Global};
 
 /// Traces conflicts back to the clauses of which they come.

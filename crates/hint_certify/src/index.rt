@@ -1,7 +1,7 @@
 //! Clauses found again by their literals, in whatever order these stand.
 use crate::clauses::Database;
 use crate::trail::Number;
-use hint_solver::Literal;
+use hint_clauses::Literal;
 use std::alloc::{AllocError, Global};
 
 /// So many lists of clauses.

@@ -5,7 +5,7 @@ use crate::index::Index;
 use crate::numbers::{Token, Tokens};
 use crate::trail::Number;
 use bt_cnf::Lbool;
-use hint_solver::Literal;
+use hint_clauses::Literal;
 use std::alloc::{AllocError, Global};
 
 /// Why a proof isn't taken.

@@ -2,7 +2,7 @@
 use crate::proof::{Step, Steps};
 use crate::trail::Number;
 use bt_io::{Sink, WriteFault, write_all_of};
-use hint_solver::Literal;
+use hint_clauses::Literal;
 use itoa::Buffer;
 use std::alloc::{AllocError, Global};
 

@@ -1,6 +1,6 @@
 //! What is true, and why.
 use bt_cnf::Lbool;
-use hint_solver::{Literal, Values};
+use hint_clauses::{Literal, Values};
 use std::alloc::{AllocError, Global};
 
 /// The number of a clause among those of the formula and of the proof.

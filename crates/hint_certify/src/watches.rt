@@ -1,6 +1,6 @@
 //! For each literal, the clauses that are to be visited when it becomes false.
 use crate::trail::Number;
-use hint_solver::Literal;
+use hint_clauses::Literal;
 use std::alloc::{AllocError, Global};
 use std::mem::replace;
 

@@ -1,7 +1,7 @@
 //! The state in which all edges are free and each splitter divides evenly what comes, or all are backed and it draws evenly.
+use crate::equations::Equations;
 use crate::part::Part;
 use bt_frac::Frac;
-use hint_equations::Equations;
 use hint_graphs::Graph;
 use std::alloc::{AllocError, Global};
 

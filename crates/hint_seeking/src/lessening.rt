@@ -1,12 +1,12 @@
 //! Layouts that are made smaller until they lie in the rectangle of a request.
 use crate::ground::{great_rect, ground_in};
-use crate::room::{cells_in, taken_in};
+use crate::half_turns::seek_turned_below;
+use crate::room::{cells_in, names_cells};
 use crate::search::Search;
 use bt_model::Request;
-use bt_net::Demand;
 use bt_parts::{Part, Rect};
 use hint_placement::{Sketch, find_sketch};
-use hint_shrinking::{Goal, Shrunk, find_turned, shrink};
+use hint_shrinking::{Goal, Shrunk, shrink};
 use std::alloc::{AllocError, Global};
 
 /// The greatest rectangle in which layouts begin that are made smaller.
@@ -48,13 +48,6 @@ struct Beginning {
     runs: Runs,
 }
 
-/// For about so many conflicts of a light search a layout is looked for that half a turn maps onto itself: it takes few
-/// or very many.
-const TURN_EFFORT: u64 = 40_000;
-
-/// Of how many rectangles such layouts are looked for by turns.
-const TURNS: u64 = 2;
-
 /// The least request of a list that was laid.
 #[derive(Clone, Copy)]
 pub struct Least<'a> {
@@ -76,16 +69,6 @@ fn parts_of(alloc: Global, sketch: &Sketch) -> Result<Vec<Part>, AllocError> {
 /// Whether a rectangle has so many cells for each splitter of a request.
 fn has_room(request: &Request, rect: Rect, room: u64) -> bool {
     cells_in(rect) >= u64::from(request.net().splitters()).saturating_mul(room)
-}
-
-/// Whether a request names cells.
-fn names_cells(request: &Request) -> bool {
-    for demand in request.demands() {
-        if let Demand::Pin(_) = demand {
-            return true;
-        }
-    }
-    !request.blocks().is_empty()
 }
 
 /// A plan of a layout that lies in the rectangle of a request, from the parts of one in a greater rectangle that is
@@ -193,78 +176,6 @@ pub fn seek_by_lessening<S: Search>(
         }
     }
     Ok(None)
-}
-
-/// Whether halves of splitters and ends take at most two thirds of the cells of a request's rectangle, which is no
-/// wider than high and at most twice as high.
-fn may_be_turned(request: &Request, rect: Rect) -> bool {
-    let Rect { width, height } = rect;
-    width <= height
-        && height <= width.saturating_mul(2)
-        && taken_in(request).saturating_mul(3) <= cells_in(rect).saturating_mul(2)
-}
-
-/// Looks for a layout of a request that half a turn maps onto itself, or does but for its last rows.
-pub fn seek_by_turning(alloc: Global, request: &Request) -> Result<Option<Sketch>, AllocError> {
-    let rect = great_rect(request);
-    if names_cells(request) || !may_be_turned(request, rect) {
-        return Ok(None);
-    }
-    let Some(great) = ground_in(alloc, request, rect)? else {
-        return Ok(None);
-    };
-    match find_turned(alloc, great.request(), rect, TURN_EFFORT, 0)? {
-        Some(shrunk) => Ok(Some(great.told(alloc, &shrunk.sketch)?)),
-        None => Ok(None),
-    }
-}
-
-/// Whether the rectangle of a request is as high as wide, or a row higher.
-fn is_squarish(request: &Request) -> bool {
-    let Rect { width, height } = request.rect();
-    width == height || width.saturating_add(1) == height
-}
-
-/// Whether halves of splitters and ends take at most half of the cells of a request's rectangle.
-fn is_wide(request: &Request) -> bool {
-    taken_in(request).saturating_mul(2) <= cells_in(request.rect())
-}
-
-/// Of the first `end` requests one whose rectangle is squarish: by turns, which the number gives, one of the first that
-/// are wide, or the last one where there aren't so many. None where none is squarish.
-fn to_turn(requests: &[Request], end: usize, number: u64) -> Option<&Request> {
-    let mut last = None;
-    let mut left = number % TURNS;
-    for request in requests.iter().take(end) {
-        if !is_squarish(request) {
-            continue;
-        }
-        last = Some(request);
-        if is_wide(request) {
-            if left == 0 {
-                break;
-            }
-            left -= 1;
-        }
-    }
-    last
-}
-
-/// Looks for a layout of one of the first requests that half a turn maps onto itself. Other numbers begin other
-/// searches.
-fn seek_turned_below(
-    alloc: Global,
-    requests: &[Request],
-    end: usize,
-    number: u64,
-) -> Result<Option<Shrunk>, AllocError> {
-    match to_turn(requests, end, number) {
-        Some(request) => {
-            let rect = request.rect();
-            find_turned(alloc, request, rect, TURN_EFFORT, number / TURNS)
-        }
-        None => Ok(None),
-    }
 }
 
 /// A plan of a request in the greatest rectangle, made as small as it gets for about as long as `effort` conflicts

@@ -6,6 +6,7 @@
 #![tactic(auto)]
 
 mod ground;
+mod half_turns;
 mod lessening;
 mod means;
 mod own;

@@ -1,5 +1,6 @@
 //! How much of a rectangle what a request lays takes.
 use bt_model::Request;
+use bt_net::Demand;
 use bt_parts::Rect;
 
 /// The number of cells of a rectangle.
@@ -30,4 +31,14 @@ pub fn is_tight(request: &Request) -> bool {
 /// they do, a layout that there is is found by few steps.
 pub fn is_close(request: &Request) -> bool {
     takes_more(request, 11, 20)
+}
+
+/// Whether a request names cells.
+pub fn names_cells(request: &Request) -> bool {
+    for demand in request.demands() {
+        if let Demand::Pin(_) = demand {
+            return true;
+        }
+    }
+    !request.blocks().is_empty()
 }

@@ -2,7 +2,8 @@
 //! half turn and by making a greater layout smaller.
 
 use crate::ground::{Sought, great_rect, ground_in};
-use crate::lessening::{seek_by_lessening, seek_by_turning};
+use crate::half_turns::seek_by_turning;
+use crate::lessening::seek_by_lessening;
 use crate::room::is_close;
 use crate::search::Search;
 use bt_model::Request;

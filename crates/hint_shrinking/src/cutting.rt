@@ -74,7 +74,7 @@ fn far(
 
 /// A layout of a field that is like a board from which a line was cut out or to which one was added, but for the lines
 /// within a margin of that, which are laid anew. None where none is found.
-pub fn mended(
+fn mended(
     alloc: Global,
     field: &mut Field,
     rest: &Board,

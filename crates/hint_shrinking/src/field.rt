@@ -3,14 +3,16 @@ use crate::around::{cell_of, count};
 use crate::board::Board;
 use crate::contents::contents;
 use crate::pairing::add_pairs;
-use crate::turned::add_turned;
+use crate::turned::share_turned;
+use crate::variables::Variables;
+use bt_cnf::Formula;
 use bt_facts::{Content, Fact};
 use bt_model::Request;
 use bt_parts::{Cell, DIRS, Dir, Rect};
-use bt_place::{Numbers, encode_place};
+use bt_place::encode_place;
 use bt_random::Random;
-use hint_numbering::{Named, name_by_structure};
-use hint_solver::{Answer, Literal, Solver, load};
+use hint_numbering::{Named, exchange_by, name_by_structure};
+use hint_solver::{Answer, Literal, Solver};
 use std::alloc::{AllocError, Global};
 
 /// So many scores are raised by chance before a trial.
@@ -27,15 +29,15 @@ const TRYING: u64 = 5;
 pub enum Likeness {
     /// Any.
     Any,
-    /// Those that half a turn of the rectangle maps onto themselves.
-    Turned,
+    /// Those that half a turn of the rectangle maps onto themselves, by the exchange of splitters for this number.
+    Turned(u64),
 }
 
 /// The placement formula of a request, and a search of it.
 #[derive(Drop)]
 pub struct Field {
     named: Named,
-    numbers: Numbers,
+    variables: Variables,
     solver: Solver,
     contents: Vec<Content>,
     /// What was spent beside conflicts, in conflicts.
@@ -43,46 +45,68 @@ pub struct Field {
 }
 
 /// Has the search choose first that cells are empty.
-fn wish_empty(solver: &mut Solver, numbers: &Numbers, rect: Rect) {
+fn wish_empty(solver: &mut Solver, variables: &Variables, rect: Rect) {
     for place in 0..count(rect) {
         let fact = Fact::Kind(cell_of(rect, place), Content::Empty);
-        if let Some(variable) = numbers.find(fact) {
+        if let Some(variable) = variables.find(fact) {
             solver.wish(variable);
         }
     }
 }
 
-/// The search of a request's placement formula, with the clauses that no pair passes empty cells alone and, where
-/// wanted, that half a turn maps layouts onto themselves.
+/// The variables of a request's facts, of which the formula has `count`, where those that are alike share one. None
+/// where half a turn is asked for and no exchange of splitters leaves the network as it is.
+fn variables_of(
+    alloc: Global,
+    request: &Request,
+    likeness: Likeness,
+    count: usize,
+) -> Result<Option<Variables>, AllocError> {
+    let mut variables = Variables::new(alloc, request)?;
+    if let Likeness::Turned(number) = likeness {
+        let Some(exchange) = exchange_by(alloc, request, number)? else {
+            return Ok(None);
+        };
+        variables.begin_sharing(count)?;
+        share_turned(alloc, &mut variables, request, &exchange)?;
+    }
+    Ok(Some(variables))
+}
+
+/// The search of a request's placement formula, with the clauses that no pair passes empty cells alone. Where half a
+/// turn maps layouts onto themselves no cell is wished empty: few are in the small rectangles where such layouts are
+/// looked for, and the wish takes half as many conflicts again.
 fn solver_of(
     alloc: Global,
     request: &Request,
-    numbers: &Numbers,
+    formula: &Formula,
+    variables: &Variables,
     likeness: Likeness,
 ) -> Result<Solver, AllocError> {
-    let formula = encode_place(alloc, request)?;
-    let mut solver = load(alloc, &formula)?;
+    let mut solver = variables.solver(alloc, formula)?;
     let mut clause = Vec::new(alloc);
-    add_pairs(&mut clause, &mut solver, numbers, request)?;
-    if likeness == Likeness::Turned {
-        add_turned(alloc, &mut solver, numbers, request)?;
+    add_pairs(&mut clause, &mut solver, variables, request)?;
+    if likeness == Likeness::Any {
+        wish_empty(&mut solver, variables, request.rect());
     }
-    wish_empty(&mut solver, numbers, request.rect());
     Ok(solver)
 }
 
 /// The field of a request with numbers by the structure.
-fn field_of(alloc: Global, named: Named, likeness: Likeness) -> Result<Field, AllocError> {
-    let numbers = Numbers::new(alloc, &named.request)?;
-    let solver = solver_of(alloc, &named.request, &numbers, likeness)?;
+fn field_of(alloc: Global, named: Named, likeness: Likeness) -> Result<Option<Field>, AllocError> {
+    let formula = encode_place(alloc, &named.request)?;
+    let Some(variables) = variables_of(alloc, &named.request, likeness, formula.vars())? else {
+        return Ok(None);
+    };
+    let solver = solver_of(alloc, &named.request, &formula, &variables, likeness)?;
     let contents = contents(alloc)?;
-    Ok(Field {
+    Ok(Some(Field {
         named,
-        numbers,
+        variables,
         solver,
         contents,
         beside: 0,
-    })
+    }))
 }
 
 impl Field {
@@ -94,7 +118,7 @@ impl Field {
         likeness: Likeness,
     ) -> Result<Option<Field>, AllocError> {
         match name_by_structure(alloc, request, rect)? {
-            Some(named) => Ok(Some(field_of(alloc, named, likeness)?)),
+            Some(named) => field_of(alloc, named, likeness),
             None => Ok(None),
         }
     }
@@ -116,7 +140,7 @@ impl Field {
 
     /// The literal that is true where a fact holds, or where it doesn't; none where it has no variable.
     fn literal(&self, fact: Fact, holds: bool) -> Option<Literal> {
-        Literal::new(self.numbers.find(fact)?, holds)
+        Literal::new(self.variables.find(fact)?, holds)
     }
 
     /// Adds the literal that says that a cell holds this, or that it doesn't; nothing where it has no variable.
@@ -202,6 +226,17 @@ impl Field {
         let answer = self
             .solver
             .attempt(alloc, literals, conflicts, RAISED, random)?;
+        Ok(answer == Answer::Found)
+    }
+
+    /// Whether there is a layout, as one search with at most so many conflicts shows.
+    pub fn find_layout(
+        &mut self,
+        alloc: Global,
+        conflicts: u64,
+        random: &mut Random,
+    ) -> Result<bool, AllocError> {
+        let answer = self.solver.search(alloc, conflicts, random)?;
         Ok(answer == Answer::Found)
     }
 }

@@ -132,9 +132,9 @@ impl Shrinking {
     }
 }
 
-/// Makes a layout of a request smaller that lies in a rectangle: rows and columns are cut out of it until the goal is met,
-/// for about as long as so many conflicts take. What is found is a plan of the request in the least rectangle that was
-/// come to; none where no line was cut out. Other numbers begin other searches.
+/// Makes a layout of a request smaller that lies in a rectangle: rows and columns are cut out of it until the goal is
+/// met, for about as long as so many conflicts take. What is found is a plan of the request in the least rectangle that
+/// was come to; none where no line was cut out. Other numbers begin other searches.
 pub fn shrink(
     alloc: Global,
     request: &Request,

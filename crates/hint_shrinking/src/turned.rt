@@ -1,18 +1,17 @@
 //! Layouts that half a turn of their rectangle maps onto themselves: half of the cells tell what the others hold, so a
 //! search of the whole formula finds in a small rectangle what no windows come to.
-use crate::around::{cell_of, count};
+use crate::around::{cell_of, count, mate};
 use crate::contents::contents;
-use bt_facts::{Content, Fact, Half, Shape};
+use crate::variables::Variables;
+use bt_facts::{Class, Content, Fact, Half, Shape};
 use bt_model::Request;
 use bt_parts::{Cell, DIRS, Dir, Rect};
-use bt_place::Numbers;
-use hint_solver::{Literal, Solver};
+use hint_numbering::Exchange;
 use std::alloc::{AllocError, Global};
 
-/// The formula of a request, which is given more clauses.
+/// What is turned.
 #[derive(Clone, Copy)]
-struct Given<'a> {
-    numbers: &'a Numbers,
+struct Given {
     rect: Rect,
     /// The greatest distance of pairs.
     most: usize,
@@ -43,15 +42,7 @@ fn turned_content(content: Content) -> Content {
     }
 }
 
-/// Adds that a fact holds where another one does.
-fn add_implied(solver: &mut Solver, one: usize, other: usize) -> Result<(), AllocError> {
-    if let (Some(given), Some(follows)) = (Literal::new(one, false), Literal::new(other, true)) {
-        solver.add(&[given, follows])?;
-    }
-    Ok(())
-}
-
-impl Given<'_> {
+impl Given {
     /// Where a cell comes by half a turn.
     fn turned_cell(self, cell: Cell) -> Cell {
         Cell {
@@ -60,65 +51,91 @@ impl Given<'_> {
         }
     }
 
-    /// Adds that of two facts both hold or neither does; nothing where one of them has no variable.
-    fn add_same(self, solver: &mut Solver, one: Fact, other: Fact) -> Result<(), AllocError> {
-        if let (Some(one), Some(other)) = (self.numbers.find(one), self.numbers.find(other)) {
-            if one != other {
-                add_implied(solver, one, other)?;
-                add_implied(solver, other, one)?;
-            }
-        }
-        Ok(())
-    }
-
-    /// Adds that what leaves a cell in a direction, on the ground and below it, does so after half a turn.
-    fn add_ways(self, solver: &mut Solver, cell: Cell, dir: Dir) -> Result<(), AllocError> {
+    /// Lets what leaves a cell in a direction, on the ground and below it, do so after half a turn.
+    fn share_ways(self, variables: &mut Variables, cell: Cell, dir: Dir) {
         let (turned, back) = (self.turned_cell(cell), dir.opposite());
-        self.add_same(solver, Fact::Goes(cell, dir), Fact::Goes(turned, back))?;
+        variables.share(Fact::Goes(cell, dir), Fact::Goes(turned, back));
+        variables.share(Fact::Tunnel(cell, dir), Fact::Tunnel(turned, back));
         for far in 1..=self.most {
             let pair = Fact::Pair(cell, dir, far);
-            self.add_same(solver, pair, Fact::Pair(turned, back, far))?;
+            variables.share(pair, Fact::Pair(turned, back, far));
         }
-        Ok(())
     }
 
-    /// Adds that a cell holds what another one does after half a turn.
-    fn add_cell(
-        self,
-        solver: &mut Solver,
-        contents: &[Content],
-        cell: Cell,
-    ) -> Result<(), AllocError> {
+    /// Lets a cell hold what another one does after half a turn.
+    fn share_cell(self, variables: &mut Variables, contents: &[Content], cell: Cell) {
         let turned = self.turned_cell(cell);
         for content in contents {
             let other = Fact::Kind(turned, turned_content(*content));
-            self.add_same(solver, Fact::Kind(cell, *content), other)?;
+            variables.share(Fact::Kind(cell, *content), other);
         }
-        self.add_same(solver, Fact::Begins(cell), Fact::Begins(turned))?;
+        variables.share(Fact::Begins(cell), Fact::Begins(turned));
+        variables.share(Fact::HalfOn(cell), Fact::HalfOn(turned));
+        variables.share(Fact::BeltOn(cell), Fact::BeltOn(turned));
         for dir in &DIRS {
-            self.add_ways(solver, cell, *dir)?;
+            self.share_ways(variables, cell, *dir);
         }
-        Ok(())
+    }
+
+    /// Lets a splitter stand, and what comes from it pass, where another one does after half a turn.
+    fn share_splitter(self, variables: &mut Variables, cell: Cell, one: usize, other: usize) {
+        let turned = self.turned_cell(cell);
+        let (class, exchanged) = (Class::Split(one), Class::Split(other));
+        variables.share(Fact::Carries(cell, class), Fact::Carries(turned, exchanged));
+        let (class, exchanged) = (Class::Shared(one, None), Class::Shared(other, None));
+        variables.share(Fact::Carries(cell, class), Fact::Carries(turned, exchanged));
+        for dir in &DIRS {
+            let lesser = self.turned_cell(mate(cell, *dir));
+            let stands = Fact::At(other, lesser, dir.opposite());
+            variables.share(Fact::At(one, cell, *dir), stands);
+        }
+    }
+
+    /// Lets each splitter stand where the one with which it changes places does after half a turn.
+    fn share_splitters(
+        self,
+        variables: &mut Variables,
+        count: usize,
+        exchange: &Exchange,
+        cell: Cell,
+    ) {
+        for one in 0..count {
+            if let Some(other) = exchange.other(one) {
+                self.share_splitter(variables, cell, one, other);
+            }
+        }
     }
 }
 
-/// Adds that half a turn maps the layout onto itself.
-pub fn add_turned(
+/// Lets splitters be turned as those with which they change places are after half a turn.
+fn share_points(variables: &mut Variables, count: usize, exchange: &Exchange) {
+    for one in 0..count {
+        if let Some(other) = exchange.other(one) {
+            for dir in &DIRS {
+                let turned = Fact::Points(other, dir.opposite());
+                variables.share(Fact::Points(one, *dir), turned);
+            }
+        }
+    }
+}
+
+/// Lets facts share variables which half a turn maps onto each other, where splitters change places.
+pub fn share_turned(
     alloc: Global,
-    solver: &mut Solver,
-    numbers: &Numbers,
+    variables: &mut Variables,
     request: &Request,
+    exchange: &Exchange,
 ) -> Result<(), AllocError> {
     let rect = request.rect();
     let most = (request.tier().reach() as usize).saturating_add(1);
-    let given = Given {
-        numbers,
-        rect,
-        most,
-    };
+    let given = Given { rect, most };
     let contents = contents(alloc)?;
+    let splitters = request.net().splitters() as usize;
+    share_points(variables, splitters, exchange);
     for place in 0..count(rect) {
-        given.add_cell(solver, &contents, cell_of(rect, place))?;
+        let cell = cell_of(rect, place);
+        given.share_cell(variables, &contents, cell);
+        given.share_splitters(variables, splitters, exchange, cell);
     }
     Ok(())
 }

@@ -1,9 +1,9 @@
-//! Searches for layouts that half a turn maps onto themselves, or does but for a last row in which an output is led back.
+//! Searches for layouts that half a turn maps onto themselves, or does but for a last row in which an output is led
+//! back.
 use crate::around::count;
 use crate::board::Board;
-use crate::cutting::mended;
 use crate::field::{Field, Likeness};
-use crate::line::{Axis, Line, lines_in};
+use crate::joining::joined_in;
 use crate::plan::plan_of;
 use crate::shrinking::Shrunk;
 use bt_model::Request;
@@ -12,28 +12,16 @@ use bt_random::Random;
 use hint_numbering::{are_in_pairs, edge_to_open, open_edge};
 use std::alloc::{AllocError, Global};
 
-/// The most conflicts until a search begins anew with what it learnt.
-const CONFLICTS: u64 = 2_000;
+/// In how many rectangles an opened network is laid by turns.
+const PLACES: u64 = 3;
 
-/// How many rows before the last one may be laid anew where an output is led back.
-const MARGIN: usize = 2;
-
-/// Looks for a layout, with at most about so many conflicts. Whether one was found.
-fn find(
-    alloc: Global,
-    field: &mut Field,
-    effort: u64,
-    random: &mut Random,
-) -> Result<bool, AllocError> {
-    for _ in 0..effort {
-        if field.effort() >= effort || !field.grant(alloc, &[])? {
-            break;
-        }
-        if field.has_layout(alloc, &[], CONFLICTS, random)? {
-            return Ok(true);
-        }
-    }
-    Ok(false)
+/// How a layout is looked for that half a turn maps onto itself.
+#[derive(Clone, Copy)]
+pub struct Turning {
+    /// As long as so many conflicts take.
+    pub effort: u64,
+    /// Each number begins another search.
+    pub number: u64,
 }
 
 /// The field in which a layout of a request was found that half a turn maps onto itself; none where none was.
@@ -41,13 +29,15 @@ fn turned_field(
     alloc: Global,
     request: &Request,
     rect: Rect,
-    effort: u64,
-    random: &mut Random,
+    turning: Turning,
 ) -> Result<Option<Field>, AllocError> {
-    let Some(mut field) = Field::new(alloc, request, rect, Likeness::Turned)? else {
+    let Turning { effort, number } = turning;
+    let likeness = Likeness::Turned(number);
+    let mut random = Random::new(number);
+    let Some(mut field) = Field::new(alloc, request, rect, likeness)? else {
         return Ok(None);
     };
-    if find(alloc, &mut field, effort, random)? {
+    if field.find_layout(alloc, effort, &mut random)? {
         Ok(Some(field))
     } else {
         Ok(None)
@@ -78,65 +68,78 @@ fn find_whole(
     alloc: Global,
     request: &Request,
     rect: Rect,
-    effort: u64,
-    random: &mut Random,
+    turning: Turning,
 ) -> Result<Option<Shrunk>, AllocError> {
-    match turned_field(alloc, request, rect, effort, random)? {
+    match turned_field(alloc, request, rect, turning)? {
         Some(mut field) => {
             let board = field.board(alloc)?;
-            shrunk_of(alloc, &mut field, request, &board, random)
+            let mut random = Random::new(turning.number);
+            shrunk_of(alloc, &mut field, request, &board, &mut random)
         }
         None => Ok(None),
     }
 }
 
-/// The board of a rectangle whose last row, which is this line, is empty, and before which a layout stands that half a
-/// turn maps onto itself: that of the network whose edge at a place is opened, so that it leads to a new output, and
-/// another edge from a new input to where it led. None where none is found with about so many conflicts, or there is
-/// nothing before the line.
+/// The rectangle in which the opened network is laid, where its edge is joined in one: by turns a row less, the same, and
+/// a column less.
+fn lesser_rect(rect: Rect, number: u64) -> Rect {
+    let Rect { width, height } = rect;
+    match number % PLACES {
+        0 => Rect {
+            width,
+            height: height.saturating_sub(1).max(1),
+        },
+        1 => rect,
+        _ => Rect {
+            width: width.saturating_sub(1).max(1),
+            height,
+        },
+    }
+}
+
+/// What cells hold in a layout that half a turn maps onto itself, of the network with the edge at a place opened; none
+/// where none is found.
 fn opened_board(
     alloc: Global,
     request: &Request,
-    line: Line,
     place: usize,
     rect: Rect,
-    effort: u64,
-    random: &mut Random,
+    lesser: Rect,
+    turning: Turning,
 ) -> Result<Option<Board>, AllocError> {
-    let Some(lesser) = line.cut_from(rect) else {
-        return Ok(None);
-    };
     let Some(opened) = open_edge(alloc, request, lesser, place)? else {
         return Ok(None);
     };
-    match turned_field(alloc, &opened, lesser, effort, random)? {
+    match turned_field(alloc, &opened, lesser, turning)? {
         Some(field) => Ok(Some(field.board(alloc)?.within(alloc, rect)?)),
         None => Ok(None),
     }
 }
 
-/// A layout in whose last rows the edge at a place is joined, and which half a turn maps onto itself without these and
-/// with the edge opened. None where none is found.
+/// A layout at whose border the edge at a place is joined, and which half a turn maps onto itself but for that, with the
+/// edge opened. None where none is found.
 fn find_joined(
     alloc: Global,
     request: &Request,
-    rect: Rect,
     place: usize,
-    effort: u64,
-    random: &mut Random,
+    rect: Rect,
+    turning: Turning,
 ) -> Result<Option<Shrunk>, AllocError> {
-    let line = Line {
-        axis: Axis::Level,
-        number: lines_in(rect, Axis::Level).saturating_sub(1),
+    let number = turning.number;
+    let lesser = lesser_rect(rect, number);
+    let inner = Turning {
+        number: number / PLACES,
+        ..turning
     };
-    let Some(rest) = opened_board(alloc, request, line, place, rect, effort, random)? else {
+    let Some(rest) = opened_board(alloc, request, place, rect, lesser, inner)? else {
         return Ok(None);
     };
     let Some(mut field) = Field::new(alloc, request, rect, Likeness::Any)? else {
         return Ok(None);
     };
-    match mended(alloc, &mut field, &rest, line, MARGIN, random)? {
-        Some(board) => shrunk_of(alloc, &mut field, request, &board, random),
+    let mut random = Random::new(number);
+    match joined_in(alloc, &mut field, &rest, lesser, &mut random)? {
+        Some(board) => shrunk_of(alloc, &mut field, request, &board, &mut random),
         None => Ok(None),
     }
 }
@@ -149,24 +152,22 @@ fn may_turn(request: &Request, rect: Rect) -> bool {
 }
 
 /// A plan of a layout of a request in a rectangle that half a turn of it maps onto itself, where each splitter may be
-/// exchanged with another one; or where that is so without an edge, of one that half a turn so maps but for its last rows,
-/// in which the edge is joined. It is looked for as long as so many conflicts take. Other numbers begin other searches.
+/// exchanged with another one; or where that is so once an edge is opened, of one that half a turn so maps but for its
+/// border, at which the edge is joined. None where the request asks for anything of ends and cells, or none is found.
 pub fn find_turned(
     alloc: Global,
     request: &Request,
     rect: Rect,
-    effort: u64,
-    number: u64,
+    turning: Turning,
 ) -> Result<Option<Shrunk>, AllocError> {
     if !may_turn(request, rect) {
         return Ok(None);
     }
-    let mut random = Random::new(number);
     if are_in_pairs(alloc, request)? {
-        return find_whole(alloc, request, rect, effort, &mut random);
+        return find_whole(alloc, request, rect, turning);
     }
     match edge_to_open(alloc, request)? {
-        Some(place) => find_joined(alloc, request, rect, place, effort, &mut random),
+        Some(place) => find_joined(alloc, request, place, rect, turning),
         None => Ok(None),
     }
 }

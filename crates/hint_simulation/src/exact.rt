@@ -10,7 +10,7 @@ use crate::splitter::{Splitter, splitters_of};
 use bt_flow::{Port, State};
 use bt_frac::Frac;
 use bt_net::{Edge, Net, Start, Target};
-use hint_equations::{Equations, Term};
+use hint_differences::{Equations, Term};
 use std::alloc::{AllocError, Global};
 
 /// By how much flows may differ that a simulation shows as equal, in parts of `UNIT`: by two in a thousand.

@@ -4,21 +4,16 @@
 //! Nothing is claimed of what it answers. Who asks it gives what it finds to a search that shows it.
 #![tactic(auto)]
 
-mod clauses;
 mod dropping;
-mod literal;
 mod loading;
+mod minimizing;
 mod order;
-mod search;
+mod phases;
+mod rounds;
 mod solver;
 mod tracing;
-mod trail;
-mod values;
-mod watches;
 
-pub use clauses::{Clauses, Span, Visit};
-pub use literal::Literal;
+pub use hint_clauses::Literal;
 pub use loading::load;
 pub use solver::{Answer, Solver};
 pub use std::alloc::AllocError as Memory;
-pub use values::Values;

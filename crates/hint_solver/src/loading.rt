@@ -1,7 +1,7 @@
 //! The clauses of a formula.
-use crate::literal::Literal;
 use crate::solver::Solver;
 use bt_cnf::{Formula, Lit};
+use hint_clauses::Literal;
 use std::alloc::{AllocError, Global};
 
 /// Puts literals into a list. Those whose variables have too great numbers are left out, of which there are none.

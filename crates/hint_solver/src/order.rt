@@ -1,12 +1,20 @@
 //! Which variable is chosen next: the one that the most of the latest conflicts had.
+use bt_random::Random;
 use std::alloc::{AllocError, Global};
 use std::collections::BinaryHeap;
 
 /// What a conflict adds to the scores of its variables at first.
 const FIRST_BUMP: u64 = 1 << 10;
 
+/// What chance adds is at most one of so many parts of what a conflict does.
+const STIRRED: u64 = 16;
+
 /// Where more than this is added when a round begins, all scores are scaled down.
 const GREAT_BUMP: u64 = 1 << 32;
+
+/// Within a thorough search they are scaled down where more than this is added: else those that conflicts had would soon
+/// all have the greatest number there is.
+const GREATEST_BUMP: u64 = 1 << 57;
 
 /// By how many bits they are scaled down.
 const SCALE: u32 = 22;
@@ -42,6 +50,13 @@ impl Order {
         self.add(variable, 1);
     }
 
+    /// Gives a variable a part of what a conflict adds, by chance.
+    pub fn stir(&mut self, variable: usize, random: &mut Random) {
+        let most = usize::try_from(self.bump / STIRRED).unwrap_or(0);
+        let more = random.below(most.saturating_add(1)) as u64;
+        self.add(variable, more);
+    }
+
     /// Adds to the score of a variable as a conflict does now.
     pub fn raise(&mut self, variable: usize) {
         self.add(variable, self.bump);
@@ -50,6 +65,11 @@ impl Order {
     /// Lets the next conflict add a twentieth more.
     pub fn grow(&mut self) {
         self.bump = self.bump.saturating_add(self.bump / 20);
+    }
+
+    /// Whether so much is added that scores are to be scaled down within a search.
+    pub fn is_full(&self) -> bool {
+        self.bump > GREATEST_BUMP
     }
 
     /// Lets a variable be chosen, by its present score.

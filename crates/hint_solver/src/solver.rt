@@ -1,11 +1,11 @@
 //! The calls of a search for models.
-use crate::dropping::{Lemma, drop_worse};
-use crate::literal::Literal;
+use crate::dropping::{Lemma, drop_unused, drop_worse};
 use crate::order::Order;
-use crate::search::{Conflict, Search};
+use crate::phases::Phases;
+use crate::rounds::Rounds;
 use crate::tracing::{Lesson, Tracer};
-use crate::trail::Reason;
 use bt_random::Random;
+use hint_clauses::{Conflict, Literal, Reason, Search};
 use std::alloc::{AllocError, Global};
 
 /// So many clauses are learnt at most before the worse half of them is dropped.
@@ -42,14 +42,14 @@ pub struct Solver {
     length: usize,
     /// The literals that turned out to be true for good, and are not yet made so.
     certain: Vec<Literal>,
-    /// For each variable, how it is set where nothing speaks against it; and how it was set last.
-    wishes: Vec<bool>,
-    phases: Vec<bool>,
+    phases: Phases,
     /// The variables that have no value where only what is taken for granted is true.
     open: Vec<usize>,
     /// Whether no contradiction was found.
     is_open: bool,
     conflicts: u64,
+    /// Whether it is searched thoroughly.
+    is_thorough: bool,
 }
 
 impl Solver {
@@ -62,11 +62,11 @@ impl Solver {
             lemmas: Vec::new(alloc),
             length: 0,
             certain: Vec::new(alloc),
-            wishes: vec![in alloc; false; variables]?,
-            phases: vec![in alloc; false; variables]?,
+            phases: Phases::new(alloc, variables)?,
             open: Vec::new(alloc),
             is_open: true,
             conflicts: 0,
+            is_thorough: false,
         })
     }
 
@@ -87,9 +87,7 @@ impl Solver {
     /// Has a variable chosen early, and as true where nothing speaks against it.
     pub fn wish(&mut self, variable: usize) {
         self.order.prefer(variable);
-        if let Some(wish) = self.wishes.get_mut(variable) {
-            *wish = true;
-        }
+        self.phases.wish(variable);
     }
 
     /// How many conflicts there were.
@@ -109,9 +107,7 @@ impl Solver {
             let Some(literal) = self.search.trail.pop(end) else {
                 break;
             };
-            if let Some(phase) = self.phases.get_mut(literal.variable()) {
-                *phase = literal.is_positive();
-            }
+            self.phases.set(literal);
             if level > 0 {
                 self.order.push(literal.variable())?;
             }
@@ -145,7 +141,7 @@ impl Solver {
     /// Lists the variables that have no value.
     fn list_open(&mut self) -> Result<(), AllocError> {
         self.open.clear();
-        for variable in 0..self.wishes.len() {
+        for variable in 0..self.phases.len() {
             if let Some(literal) = Literal::new(variable, true) {
                 let values = self.search.trail.values();
                 if !values.is_true(literal) && !values.is_false(literal) {
@@ -156,15 +152,26 @@ impl Solver {
         Ok(())
     }
 
+    /// Drops lemmas: in a thorough search those that weren't used, and else the worse ones where there are too many.
+    fn drop_lemmas(&mut self, alloc: Global) -> Result<(), AllocError> {
+        let (search, lemmas) = (&mut self.search, &mut self.lemmas);
+        if self.is_thorough {
+            let used = self.tracer.take_used(alloc);
+            drop_unused(alloc, search, lemmas, &used, self.length)
+        } else if lemmas.len() > MOST_LEMMAS {
+            drop_worse(alloc, search, lemmas, self.length)
+        } else {
+            Ok(())
+        }
+    }
+
     /// Takes literals for granted until this is called again. Whether that can be.
     pub fn grant(&mut self, alloc: Global, literals: &[Literal]) -> Result<bool, AllocError> {
         self.go_back(0)?;
         if !self.make_certain(alloc)? {
             return Ok(false);
         }
-        if self.lemmas.len() > MOST_LEMMAS {
-            drop_worse(alloc, &mut self.search, &mut self.lemmas, self.length)?;
-        }
+        self.drop_lemmas(alloc)?;
         self.search.trail.begin()?;
         if !self.make_true(alloc, literals)? {
             return Ok(false);
@@ -181,14 +188,7 @@ impl Solver {
         random: &mut Random,
     ) -> Result<(), AllocError> {
         self.go_back(GRANTED)?;
-        for variable in &self.open {
-            if let (Some(phase), Some(wish)) = (
-                self.phases.get_mut(*variable),
-                self.wishes.get(*variable),
-            ) {
-                *phase = *wish;
-            }
-        }
+        self.phases.reset(&self.open);
         for _ in 0..raised {
             if let Some(variable) = self.open.get(random.below(self.open.len())) {
                 self.order.raise(*variable);
@@ -201,11 +201,7 @@ impl Solver {
     fn next_choice(&mut self) -> Option<Literal> {
         for _ in 0..self.order.len() {
             let variable = self.order.pop()?;
-            let is_positive = match self.phases.get(variable) {
-                Some(phase) => *phase,
-                None => false,
-            };
-            let literal = Literal::new(variable, is_positive)?;
+            let literal = Literal::new(variable, self.phases.get(variable))?;
             let values = self.search.trail.values();
             if !values.is_true(literal) && !values.is_false(literal) {
                 return Some(literal);
@@ -229,7 +225,11 @@ impl Solver {
             [one, ..] => {
                 if let Some(span) = self.search.attach(self.tracer.literals())? {
                     let levels = lesson.levels;
-                    self.lemmas.push(Lemma { span, levels })?;
+                    self.lemmas.push(Lemma {
+                        span,
+                        levels,
+                        is_used: true,
+                    })?;
                     self.search.trail.push(*one, Reason::Clause(span))?;
                 }
                 Ok(())
@@ -237,13 +237,25 @@ impl Solver {
         }
     }
 
+    /// Lets the next conflict add more to scores.
+    fn grow(&mut self, alloc: Global) -> Result<(), AllocError> {
+        self.order.grow();
+        if self.is_thorough && self.order.is_full() {
+            self.order.refill(alloc, &self.open)?;
+        }
+        Ok(())
+    }
+
     /// Learns a clause from a conflict, goes back to where all its literals but the first are false, though not to
     /// before what is wished, and adds the clause.
     fn learn(&mut self, alloc: Global, conflict: Conflict) -> Result<(), AllocError> {
+        if self.is_thorough {
+            self.phases.note(&self.search.trail)?;
+        }
         let lesson = self
             .tracer
             .learn(alloc, &self.search, &mut self.order, conflict)?;
-        self.order.grow();
+        self.grow(alloc)?;
         self.conflicts = self.conflicts.saturating_add(1);
         self.go_back(lesson.back.max(WISHED))?;
         self.keep(lesson)
@@ -276,7 +288,7 @@ impl Solver {
         if self.conflicts >= last {
             return Ok(Some(Answer::Spent));
         }
-        if self.conflicts % RESTART == 0 {
+        if !self.is_thorough && self.conflicts % RESTART == 0 {
             self.go_back(WISHED)?;
         }
         Ok(None)
@@ -284,8 +296,19 @@ impl Solver {
 
     /// The most steps with so many conflicts: before each, and behind the last, every variable is chosen at most once.
     fn most_steps(&self, conflicts: u64) -> u64 {
-        let choices = (self.wishes.len() as u64).saturating_add(1);
+        let choices = (self.phases.len() as u64).saturating_add(1);
         conflicts.saturating_add(1).saturating_mul(choices)
+    }
+
+    /// Goes on with at most so many conflicts.
+    fn run(&mut self, alloc: Global, conflicts: u64) -> Result<Answer, AllocError> {
+        let last = self.conflicts.saturating_add(conflicts);
+        for _ in 0..self.most_steps(conflicts) {
+            if let Some(answer) = self.step(alloc, last)? {
+                return Ok(answer);
+            }
+        }
+        Ok(Answer::Spent)
     }
 
     /// Looks for a model that has what is taken for granted and, too, these literals, with at most so many conflicts.
@@ -303,12 +326,63 @@ impl Solver {
         if !self.make_true(alloc, literals)? {
             return Ok(Answer::Nothing);
         }
-        let last = self.conflicts.saturating_add(conflicts);
-        for _ in 0..self.most_steps(conflicts) {
-            if let Some(answer) = self.step(alloc, last)? {
-                return Ok(answer);
-            }
+        self.run(alloc, conflicts)
+    }
+
+    /// Begins a thorough search.
+    fn begin_thorough(&mut self, alloc: Global, random: &mut Random) -> Result<(), AllocError> {
+        self.is_thorough = true;
+        self.tracer.be_thorough(true);
+        self.phases.begin(self.conflicts);
+        let _ = self.grant(alloc, &[])?;
+        for variable in &self.open {
+            self.order.stir(*variable, random);
         }
-        Ok(Answer::Spent)
+        Ok(())
+    }
+
+    /// Ends it.
+    fn end_thorough(&mut self) {
+        self.is_thorough = false;
+        self.tracer.be_thorough(false);
+    }
+
+    /// A round of a thorough search, with at most so many conflicts.
+    fn search_once(
+        &mut self,
+        alloc: Global,
+        conflicts: u64,
+        random: &mut Random,
+    ) -> Result<Answer, AllocError> {
+        if !self.grant(alloc, &[])? {
+            return Ok(Answer::Nothing);
+        }
+        self.phases.change(self.conflicts, random);
+        self.order.refill(alloc, &self.open)?;
+        self.search.trail.begin()?;
+        self.run(alloc, conflicts)
+    }
+
+    /// Looks for any model with at most so many conflicts, thoroughly: it restarts seldom, keeps of what it learns what
+    /// it uses, and sets variables as where the most were set without a conflict.
+    pub fn search(
+        &mut self,
+        alloc: Global,
+        conflicts: u64,
+        random: &mut Random,
+    ) -> Result<Answer, AllocError> {
+        self.begin_thorough(alloc, random)?;
+        let end = self.conflicts.saturating_add(conflicts);
+        let mut rounds = Rounds::new();
+        let mut answer = Answer::Spent;
+        for _ in 0..conflicts {
+            let left = end.saturating_sub(self.conflicts);
+            if left == 0 || answer != Answer::Spent {
+                break;
+            }
+            answer = self.search_once(alloc, rounds.next().min(left), random)?;
+        }
+        self.end_thorough();
+        Ok(answer)
     }
 }

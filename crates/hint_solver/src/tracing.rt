@@ -1,9 +1,7 @@
 //! Tracing a conflict back to the clause that is learnt from it (the first unique implication point).
-use crate::clauses::Clauses;
-use crate::literal::Literal;
+use crate::minimizing::Minimizer;
 use crate::order::Order;
-use crate::search::{Conflict, Search};
-use crate::trail::{Reason, Trail};
+use hint_clauses::{Clauses, Conflict, Literal, Reason, Search, Span, Trail};
 use std::alloc::{AllocError, Global};
 
 /// What is learnt from a conflict, but for the literals.
@@ -28,6 +26,11 @@ pub struct Tracer {
     /// For each level, the last lesson in which it was counted.
     stamps: Vec<u64>,
     lessons: u64,
+    /// Whether reasons of reasons are looked at, and clauses noted that are.
+    is_thorough: bool,
+    minimizer: Minimizer,
+    /// The clauses that were looked at since a thorough search dropped some last.
+    used: Vec<Span>,
 }
 
 impl Tracer {
@@ -40,12 +43,34 @@ impl Tracer {
             open: 0,
             stamps: vec![in alloc; 0; variables.saturating_add(3)]?,
             lessons: 0,
+            is_thorough: false,
+            minimizer: Minimizer::new(alloc, variables)?,
+            used: Vec::new(alloc),
         })
     }
 
     /// The literals of the clause that was learnt last.
     pub fn literals(&self) -> &[Literal] {
         &self.literals
+    }
+
+    /// Begins or ends a thorough search.
+    pub fn be_thorough(&mut self, is_thorough: bool) {
+        self.is_thorough = is_thorough;
+        self.used.clear();
+    }
+
+    /// The clauses that were looked at in a thorough search, as often as they were; none from now on.
+    pub fn take_used(&mut self, alloc: Global) -> Vec<Span> {
+        std::mem::replace(&mut self.used, Vec::new(alloc))
+    }
+
+    /// Notes that a clause was looked at.
+    fn note(&mut self, span: Span) -> Result<(), AllocError> {
+        if self.is_thorough {
+            self.used.push(span)?;
+        }
+        Ok(())
     }
 
     /// Whether a literal was seen.
@@ -109,6 +134,7 @@ impl Tracer {
         match conflict {
             Conflict::Either(one, other) => self.see_all(&search.trail, order, &[one, other]),
             Conflict::Clause(span) => {
+                self.note(span)?;
                 self.see_all(&search.trail, order, search.clauses.literals(span))
             }
         }
@@ -125,6 +151,7 @@ impl Tracer {
             Reason::Choice => Ok(()),
             Reason::Either(other) => self.see(&search.trail, order, other),
             Reason::Clause(span) => {
+                self.note(span)?;
                 self.see_all(&search.trail, order, search.clauses.literals(span))
             }
         }
@@ -171,19 +198,37 @@ impl Tracer {
         }
     }
 
+    /// Whether a clause that is learnt can do without a literal.
+    fn can_go(&mut self, search: &Search, literal: Literal) -> Result<bool, AllocError> {
+        if self.is_thorough {
+            self.minimizer.is_implied(search, literal)
+        } else {
+            Ok(self.is_redundant(&search.trail, &search.clauses, literal))
+        }
+    }
+
     /// Drops the literals that are redundant; the last one, which comes first then, stays.
     fn shorten(&mut self, alloc: Global, search: &Search) -> Result<(), AllocError> {
-        let mut kept = Vec::new(alloc);
-        if let Some(last) = self.literals.last() {
-            kept.push(*last)?;
+        let literals = std::mem::replace(&mut self.literals, Vec::new(alloc));
+        if let Some(last) = literals.last() {
+            self.literals.push(*last)?;
         }
-        let others = self.literals.len().saturating_sub(1);
-        for literal in self.literals.iter().take(others) {
-            if !self.is_redundant(&search.trail, &search.clauses, *literal) {
-                kept.push(*literal)?;
+        let others = literals.len().saturating_sub(1);
+        for literal in literals.iter().take(others) {
+            if !self.can_go(search, *literal)? {
+                self.literals.push(*literal)?;
             }
         }
-        self.literals = kept;
+        Ok(())
+    }
+
+    /// Drops the literals that are redundant, by what is known of those that were seen.
+    fn minimize(&mut self, alloc: Global, search: &Search) -> Result<(), AllocError> {
+        if self.is_thorough {
+            self.minimizer.begin(&self.seen)?;
+        }
+        self.shorten(alloc, search)?;
+        self.minimizer.clear();
         Ok(())
     }
 
@@ -253,7 +298,7 @@ impl Tracer {
         self.open = 0;
         self.see_conflict(search, order, conflict)?;
         self.trace_back(search, order)?;
-        self.shorten(alloc, search)?;
+        self.minimize(alloc, search)?;
         self.clear();
         let back = self.arrange(&search.trail);
         let levels = self.count_levels(&search.trail);

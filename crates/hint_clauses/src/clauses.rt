@@ -11,6 +11,11 @@ pub struct Span {
 }
 
 impl Span {
+    /// Where its first literal stands.
+    pub fn start(self) -> usize {
+        self.start as usize
+    }
+
     /// Whether the clause stands behind the first `length` literals of all clauses.
     pub fn is_behind(self, length: usize) -> bool {
         self.start as usize >= length
