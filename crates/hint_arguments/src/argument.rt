@@ -2,12 +2,13 @@
 use crate::balancing::aims_of;
 use crate::equalling::{add_equal, is_equalled};
 use crate::lacking::add_lacking;
+use crate::pairing::pairing_of;
 use bt_cnf::Formula;
 use bt_extend::{Definition, Goal};
 use bt_flow::Property;
 use bt_net::Net;
 use hint_averages::add_unlimited;
-use hint_differences::{add_looping, pairing_of};
+use hint_differences::add_looping;
 use hint_graphs::has_no_preference;
 use hint_scopes::{Aim, Line, scopes_of, scopes_of_both};
 use hint_universal::{add_even, add_fair, add_through};

@@ -6,6 +6,7 @@ mod argument;
 mod balancing;
 mod equalling;
 mod lacking;
+mod pairing;
 
 pub use argument::{Argument, argument_of, argument_of_both};
 pub use std::alloc::AllocError as Memory;

@@ -1,5 +1,5 @@
-//! Lines of argument by how much edges carry more or less than others: than in the state in which splitters divide
-//! evenly, or than those beside them in another network. Nothing is claimed of them but that they are safe.
+//! Lines of argument by how much edges carry more or less than in the state in which splitters divide evenly. Nothing is
+//! claimed of them but that they are safe.
 //!
 //! The linear equations by which that state is found are solved sparsely in fractions of 128 bits. Nothing is claimed of
 //! what comes out but that there is a number for each column: who uses the numbers judges them.
@@ -8,12 +8,10 @@
 mod dividing;
 mod equations;
 mod looping;
-mod pairing;
 mod part;
 mod sums;
 
 pub use bt_linear::Term;
 pub use equations::Equations;
 pub use looping::add_looping;
-pub use pairing::pairing_of;
 pub use std::alloc::AllocError as Memory;

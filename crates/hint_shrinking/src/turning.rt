@@ -97,8 +97,9 @@ fn lesser_rect(rect: Rect, number: u64) -> Rect {
     }
 }
 
-/// What cells hold in a layout that half a turn maps onto itself, of the network with the edge at a place opened; none
-/// where none is found.
+/// The board of a rectangle in whose lesser one a layout stands that half a turn maps onto itself: that of the network
+/// whose edge at a place is opened, so that it leads to a new output, and another edge from a new input to where it led.
+/// None where none is found.
 fn opened_board(
     alloc: Global,
     request: &Request,
