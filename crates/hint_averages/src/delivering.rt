@@ -1,23 +1,13 @@
 //! The aims of the argument for `unlimited`, in their order.
+use crate::part::{Part, Totals};
 use crate::side::Side;
 use bt_cnf::Formula;
 use bt_extend::NamedLit;
-use bt_net::Net;
-use hint_graphs::{Flow, is_set, mark};
+use hint_graphs::{Flow, Graph, is_set, mark};
 use hint_scopes::{
-    Compared, FormulaLits, Line, add_aim, add_both, add_rows, add_scope, edges_of_columns,
-    equal_rows, is_of_ends, named,
+    Compared, FormulaLits, Line, add_aim, add_both, add_rows, add_scope, equal_rows, named,
 };
 use std::alloc::{AllocError, Global};
-
-/// What is compared of all that flows.
-#[derive(Clone, Copy)]
-pub struct Totals {
-    /// The flows that begin, with those that end.
-    pub ends: Option<Compared>,
-    /// The flows that begin, with what goes through the centres.
-    pub centres: Option<Compared>,
-}
 
 /// What aims are made of.
 #[derive(Drop)]
@@ -31,46 +21,24 @@ struct Sources<'a> {
     at_ends: usize,
 }
 
-/// Adds the aims of the argument, by what is compared on both sides of the centres and of all that flows.
+/// Adds the aims of a part, by what is compared there and the scope of the ends at a place.
 pub fn argue(
     alloc: Global,
     formula: &Formula,
     line: &mut Line,
-    flow: &Flow,
-    below: &Side,
-    above: &Side,
-    totals: Totals,
+    part: &Part,
+    at_ends: usize,
 ) -> Result<(), AllocError> {
-    let net = flow.graph.net;
+    let net = part.flow.graph.net;
     let sources = Sources {
-        flow,
-        below,
-        above,
+        flow: &part.flow,
+        below: &part.below,
+        above: &part.above,
         literals: FormulaLits::of(alloc, net, formula)?,
-        totals,
-        at_ends: add_ends_scope(alloc, formula, line, net, totals)?,
+        totals: part.totals,
+        at_ends,
     };
     sources.add_all(alloc, formula, line)
-}
-
-/// Adds the scope of the rows that speak of ends alone, and of those that compare what begins with what ends. Tells its
-/// place.
-fn add_ends_scope(
-    alloc: Global,
-    formula: &Formula,
-    line: &mut Line,
-    net: &Net,
-    totals: Totals,
-) -> Result<usize, AllocError> {
-    let columns = edges_of_columns(alloc, net)?;
-    let mut rows = Vec::new(alloc);
-    for (place, row) in formula.rows().iter().enumerate() {
-        if is_of_ends(net, &columns, row) {
-            rows.push(place)?;
-        }
-    }
-    add_rows(&mut rows, totals.ends)?;
-    add_scope(line, rows)
 }
 
 /// Adds the scope of the rows that say that sums are equal, and of those that compare all that flows. Tells its place.
@@ -78,12 +46,36 @@ fn add_sums_scope(
     alloc: Global,
     formula: &Formula,
     line: &mut Line,
+    graph: &Graph,
     totals: Totals,
 ) -> Result<usize, AllocError> {
-    let mut rows = equal_rows(alloc, formula)?;
+    let mut rows = equal_rows_of(alloc, formula, graph)?;
     add_rows(&mut rows, totals.ends)?;
     add_rows(&mut rows, totals.centres)?;
     add_scope(line, rows)
+}
+
+/// The rows that say that sums of edges of a part alone are equal.
+fn equal_rows_of(
+    alloc: Global,
+    formula: &Formula,
+    graph: &Graph,
+) -> Result<Vec<usize>, AllocError> {
+    let mut rows = Vec::new(alloc);
+    let all = equal_rows(alloc, formula)?;
+    for place in &all {
+        if let Some(row) = formula.rows().get(*place) {
+            if row.terms().iter().all(|(column, _)| graph.has(*column)) {
+                rows.push(*place)?;
+            }
+        }
+    }
+    Ok(rows)
+}
+
+/// The opposite of a literal.
+fn opposite(lit: NamedLit) -> NamedLit {
+    named(lit.var, !lit.positive)
 }
 
 /// Adds the aim of some literals and a last one, with the scope at a place.
@@ -126,7 +118,7 @@ impl<'a> Sources<'a> {
     /// Adds that from the outputs back a backed edge carries at least the mean of the outputs that it reaches.
     fn add_below(&self, alloc: Global, line: &mut Line) -> Result<(), AllocError> {
         let flow = self.flow;
-        self.add_joints(alloc, line)?;
+        self.add_joints(alloc, line, self.below)?;
         for step in 0..flow.order.len() {
             let splitter = flow.splitter_at(step, true);
             if self.below.has(splitter) {
@@ -137,36 +129,40 @@ impl<'a> Sources<'a> {
         Ok(())
     }
 
-    /// For each splitter to which both edges are cut, adds that one of these that is full or backed carries at least
-    /// the mean of both.
-    fn add_joints(&self, alloc: Global, line: &mut Line) -> Result<(), AllocError> {
+    /// For each joint that shares what ends on a side, adds that one of the edges that it shares carries at least the mean
+    /// of both where it is full, and where it is backed, or on the side of the inputs free.
+    fn add_joints(&self, alloc: Global, line: &mut Line, side: &Side) -> Result<(), AllocError> {
         let flow = self.flow;
-        for splitter in 0..flow.graph.splitters() {
-            if flow.is_joint(splitter) {
-                for edge in flow.graph.ins(splitter) {
-                    self.add_joint(alloc, line, splitter, *edge)?;
+        if side.has_joints(flow) {
+            for splitter in 0..flow.graph.splitters() {
+                if flow.is_joint(splitter) {
+                    for edge in flow.shared(splitter) {
+                        self.add_joint(alloc, line, side, splitter, *edge)?;
+                    }
                 }
             }
         }
         Ok(())
     }
 
-    /// Adds that an edge to a splitter with two cut in edges carries at least the mean of both, where it is full and
-    /// where it is backed.
+    /// Adds that an edge that a joint shares carries at least the mean of both, where it is full and where its mark makes
+    /// it even.
     fn add_joint(
         &self,
         alloc: Global,
         line: &mut Line,
+        side: &Side,
         splitter: usize,
         edge: usize,
     ) -> Result<(), AllocError> {
-        if let Some(compared) = self.below.compared(edge) {
-            let place = self.below.at_joint(splitter);
+        if let Some(compared) = side.compared(edge) {
+            let place = side.at_joint(splitter);
             let at_least = compared.at_least();
             if let Some(not_full) = self.literals.not_full(edge) {
                 add_both(alloc, &mut line.aims, not_full, at_least, place)?;
             }
-            add_both(alloc, &mut line.aims, named(edge, false), at_least, place)?;
+            let excused = named(edge, !side.is_below);
+            add_both(alloc, &mut line.aims, excused, at_least, place)?;
         }
         Ok(())
     }
@@ -237,6 +233,7 @@ impl<'a> Sources<'a> {
     /// Adds that from the inputs on a free edge carries at least the mean of the inputs that reach it.
     fn add_above(&self, alloc: Global, line: &mut Line) -> Result<(), AllocError> {
         let flow = self.flow;
+        self.add_joints(alloc, line, self.above)?;
         for step in 0..flow.order.len() {
             let splitter = flow.splitter_at(step, false);
             if self.above.has(splitter) {
@@ -302,7 +299,7 @@ impl<'a> Sources<'a> {
         formula: &Formula,
         line: &mut Line,
     ) -> Result<(), AllocError> {
-        let place = add_sums_scope(alloc, formula, line, self.totals)?;
+        let place = add_sums_scope(alloc, formula, line, &self.flow.graph, self.totals)?;
         if let Some(ends) = self.totals.ends {
             add_aim(alloc, &mut line.aims, &[ends.at_least()], place)?;
             add_one(alloc, line, ends.at_most(), place)?;
@@ -378,13 +375,25 @@ impl<'a> Sources<'a> {
         add_scope(line, rows)
     }
 
-    /// Adds that no edge into one centre is backed: else each output gets all that it has room for.
+    /// The literal that says that the end at an edge does all that it may: that an input gives all that it has, that an
+    /// output gets all that it has room for, or that a line to or from another part is full. None where there is no such
+    /// literal.
+    fn served(&self, end: usize) -> Option<NamedLit> {
+        let meets = self.literals.meets(end);
+        if meets.is_some() {
+            return meets;
+        }
+        Some(opposite(self.literals.not_full(end)?))
+    }
+
+    /// Adds that no edge into one centre is backed: else each output gets all that it has room for, and each line to
+    /// another part is full.
     fn add_outputs(&self, alloc: Global, line: &mut Line) -> Result<(), AllocError> {
         let flow = self.flow;
         for edge in flow.graph.ins(flow.centre()) {
             let free = named(*edge, false);
             for end in 0..flow.graph.edges() {
-                if flow.graph.target(end).is_none() {
+                if flow.graph.leaves(end) {
                     self.add_output(alloc, line, free, end)?;
                 }
             }
@@ -393,8 +402,9 @@ impl<'a> Sources<'a> {
         Ok(())
     }
 
-    /// Adds that the output at which the edge `end` ends gets all that it has room for, or `free` holds: that an edge
-    /// into the centre is free. There is nothing to add where no literal says so.
+    /// Adds that the output at which the edge `end` ends gets all that it has room for, or the line that it is to another
+    /// part is full, or `free` holds: that an edge into the centre is free. There is nothing to add where no literal says
+    /// so.
     fn add_output(
         &self,
         alloc: Global,
@@ -403,7 +413,7 @@ impl<'a> Sources<'a> {
         end: usize,
     ) -> Result<(), AllocError> {
         let flow = self.flow;
-        let Some(meets) = self.literals.meets(end) else {
+        let Some(meets) = self.served(end) else {
             return Ok(());
         };
         let way = way_to(alloc, flow, self.below, end)?;
@@ -457,8 +467,8 @@ impl<'a> Sources<'a> {
         Ok(())
     }
 
-    /// Adds that each input gives all that it has, since no edge into the centre is backed, and that nothing breaks the
-    /// property.
+    /// Adds that each input gives all that it has, and that each line from another part is full or free, since no edge
+    /// into the centre is backed.
     fn add_inputs(&self, alloc: Global, line: &mut Line) -> Result<(), AllocError> {
         let flow = self.flow;
         let place = self.above.at_splitter(flow.centre());
@@ -466,18 +476,18 @@ impl<'a> Sources<'a> {
             add_one(alloc, line, at_most(self.above.compared(*edge)), place)?;
         }
         for end in 0..flow.graph.edges() {
-            if flow.graph.start(end).is_none() {
+            if flow.graph.enters(end) {
                 self.add_input(alloc, line, end)?;
             }
         }
-        add_aim(alloc, &mut line.aims, &[], self.at_ends)
+        Ok(())
     }
 
-    /// Adds that the input at which the edge `end` begins gives all that it has. There is nothing to add where no
-    /// literal says so.
+    /// Adds that the input at which the edge `end` begins gives all that it has, or that the line that it is from another
+    /// part is full or free. There is nothing to add where no literal says so.
     fn add_input(&self, alloc: Global, line: &mut Line, end: usize) -> Result<(), AllocError> {
         let flow = self.flow;
-        let Some(meets) = self.literals.meets(end) else {
+        let Some(meets) = self.served(end) else {
             return Ok(());
         };
         let way = way_to(alloc, flow, self.above, end)?;
@@ -486,6 +496,9 @@ impl<'a> Sources<'a> {
             if is_set(&way, splitter) {
                 self.add_back(alloc, line, meets, &way, end, splitter)?;
             }
+        }
+        if flow.graph.end(end, false).is_none() {
+            return add_with(alloc, line, &[meets], named(end, false), usize::MAX);
         }
         add_aim(alloc, &mut line.aims, &[meets], self.at_ends)
     }

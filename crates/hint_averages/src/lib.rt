@@ -3,6 +3,9 @@
 #![tactic(auto)]
 
 mod delivering;
+mod part;
+mod paths;
+mod row;
 mod side;
 mod unlimited;
 

@@ -23,7 +23,7 @@ pub struct Side {
     at_splitters: Vec<usize>,
     /// For each splitter the place of the scope of its edges.
     at_edges: Vec<usize>,
-    /// For each splitter the place of the scope of what ends with the edges to it, where these are cut.
+    /// For each splitter the place of the scope of what ends with the edges that it shares, where it is a joint.
     at_joints: Vec<usize>,
 }
 
@@ -71,6 +71,11 @@ impl Side {
     /// Whether a splitter is the centre at which an argument ends, or lies to this side of it.
     pub fn is_chosen(&self, splitter: usize) -> bool {
         is_set(&self.chosen, splitter)
+    }
+
+    /// Whether joints share what ends on this side.
+    pub fn has_joints(&self, flow: &Flow) -> bool {
+        self.is_below != flow.forks
     }
 
     /// The edges of a splitter that lead to this side.
@@ -143,8 +148,8 @@ impl Side {
         merged(alloc, &mut terms)
     }
 
-    /// The mean of the ends that an edge reaches. None where it is such an end itself, unless on the side of the
-    /// outputs it is one of two cut edges to a splitter: then the mean of both.
+    /// The mean of the ends that an edge reaches. None where it is such an end itself, unless on the side where joints
+    /// share what ends it is one of two edges that a joint shares: then the mean of both.
     pub fn mean_beyond(
         &self,
         alloc: Global,
@@ -155,7 +160,7 @@ impl Side {
             return Ok(Some(Vec::from_slice(alloc, self.mean(next))?));
         }
         match flow.joint(edge) {
-            Some(joint) if self.is_below => Ok(Some(mean_into(alloc, flow, joint)?)),
+            Some(joint) if self.has_joints(flow) => Ok(Some(mean_at(alloc, flow, joint)?)),
             _ => Ok(None),
         }
     }
@@ -209,14 +214,14 @@ impl Side {
         }
     }
 
-    /// Takes in the place of the scope of what ends with the edges to a splitter.
+    /// Takes in the place of the scope of what ends with the edges that a joint shares.
     pub fn place_joint(&mut self, splitter: usize, at_joint: usize) {
         if splitter < self.at_joints.len() {
             self.at_joints[splitter] = at_joint;
         }
     }
 
-    /// The place of the scope of what ends with the edges to a splitter, `usize::MAX` where it has none.
+    /// The place of the scope of what ends with the edges that a joint shares, `usize::MAX` where it has none.
     pub fn at_joint(&self, splitter: usize) -> usize {
         self.at_joints.get(splitter).copied().unwrap_or(usize::MAX)
     }
@@ -235,15 +240,15 @@ impl Side {
     }
 }
 
-/// The mean of the edges to a splitter.
-fn mean_into(alloc: Global, flow: &Flow, splitter: usize) -> Result<Vec<Term>, AllocError> {
-    let ins = flow.graph.ins(splitter);
+/// The mean of the edges that a joint shares.
+fn mean_at(alloc: Global, flow: &Flow, joint: usize) -> Result<Vec<Term>, AllocError> {
+    let edges = flow.shared(joint);
     let mut terms = Vec::new(alloc);
-    for edge in ins {
+    for edge in edges {
         terms.push(single(*edge))?;
     }
     let sum = merged(alloc, &mut terms)?;
-    shared(alloc, &sum, ins.len())
+    shared(alloc, &sum, edges.len())
 }
 
 /// So many empty lists: no splitter has a mean yet.

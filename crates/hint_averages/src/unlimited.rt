@@ -5,12 +5,22 @@
 //! one at least that of the inputs that reach it. So each centre carries at least its share of all that flows, and no more.
 //! Where an edge into a centre is backed, each edge below carries the mean, so each is full or backed, and the outputs get all
 //! that they have room for. Where none is, the inputs give all that they have.
-use crate::delivering::{Totals, argue};
+//!
+//! A network may have no centres and be two others in a row, each of which has some. Where an edge into a centre of the second
+//! is backed, the outputs get all that they have room for. Else each line between the two is full or free, and where an edge
+//! into a centre of the first is backed, each is full or backed: so each is full, and since there are as many as there are
+//! inputs or outputs, no more can flow. Else the inputs give all that they have.
+use crate::delivering::argue;
+use crate::part::{Part, Totals};
+use crate::row::add_in_row;
 use crate::side::Side;
 use bt_cnf::Formula;
 use bt_net::Net;
 use hint_graphs::{Flow, has_no_preference, list_at, places_of};
-use hint_scopes::{Line, Next, Term, add_rows, add_scope, compare, in_order, rows_alone, single};
+use hint_scopes::{
+    Line, Next, Term, add_aim, add_rows, add_scope, compare, edges_of_columns, in_order,
+    is_of_ends, rows_alone, single,
+};
 use std::alloc::{AllocError, Global};
 
 /// Of fewer splitters than this nothing is defined: the logs are shorter so.
@@ -30,8 +40,8 @@ struct Rows {
     places: Vec<usize>,
 }
 
-/// Adds the argument. There is none for a network of few splitters or one input, where a splitter prefers an edge, without
-/// centres, and where the means have too many terms.
+/// Adds the argument. There is none for a network of few splitters or one input, where a splitter prefers an edge, where
+/// neither it has centres nor both of two of which it is a row, and where the means have too many terms.
 pub fn add_unlimited(
     alloc: Global,
     net: &Net,
@@ -41,61 +51,106 @@ pub fn add_unlimited(
     if net.splitters() < LEAST_SPLITTERS || net.inputs() == 1 || !has_no_preference(net) {
         return Ok(());
     }
-    let flow = Flow::of(alloc, net)?;
-    if flow.centres.is_empty() {
+    let mut parts = parts_of(alloc, net)?;
+    if parts.is_empty() || terms_of(&parts) > MOST_TERMS {
         return Ok(());
     }
-    add_sides(alloc, formula, line, &flow)
+    add_parts(alloc, net, formula, line, &mut parts)
 }
 
-/// Adds the argument by what lies to both sides of the centres, unless the means there have too many terms.
-fn add_sides(
-    alloc: Global,
-    formula: &Formula,
-    line: &mut Line,
-    flow: &Flow,
-) -> Result<(), AllocError> {
-    let mut below = Side::of(alloc, flow, true)?;
-    let mut above = Side::of(alloc, flow, false)?;
-    if below.terms().saturating_add(above.terms()) > MOST_TERMS {
-        return Ok(());
+/// The parts of a network that are argued about, those at the outputs first.
+fn parts_of<'a>(alloc: Global, net: &'a Net) -> Result<Vec<Part<'a>>, AllocError> {
+    let mut parts = Vec::new(alloc);
+    for flow in flows_of(alloc, net)? {
+        parts.push(Part::of(alloc, flow)?)?;
     }
-    add_between(alloc, formula, line, flow, &mut below, &mut above)
+    Ok(parts)
 }
 
-/// Adds the argument by both sides of the centres, with nothing compared yet.
-fn add_between(
+/// The flow of a network that has centres, or else the flows of the two of which it is a row.
+fn flows_of<'a>(alloc: Global, net: &'a Net) -> Result<Vec<Flow<'a>>, AllocError> {
+    let mut flows = Vec::new(alloc);
+    flows.push(Flow::of(alloc, net, &[])?)?;
+    if flows.iter().any(|flow| flow.centres.is_empty()) {
+        flows.clear();
+        add_in_row(alloc, net, &mut flows)?;
+    }
+    Ok(flows)
+}
+
+/// How many terms the means of all parts have.
+fn terms_of(parts: &[Part]) -> usize {
+    let mut terms: usize = 0;
+    for part in parts {
+        terms = terms.saturating_add(part.terms());
+    }
+    terms
+}
+
+/// Adds the argument by parts in which nothing is compared yet.
+fn add_parts(
     alloc: Global,
+    net: &Net,
     formula: &Formula,
     line: &mut Line,
-    flow: &Flow,
-    below: &mut Side,
-    above: &mut Side,
+    parts: &mut [Part],
 ) -> Result<(), AllocError> {
-    let totals = define(alloc, formula, line, flow, below, above)?;
-    let rows = Rows::of(alloc, formula, flow.graph.net)?;
-    place(alloc, line, flow, below, &rows)?;
-    place(alloc, line, flow, above, &rows)?;
-    argue(alloc, formula, line, flow, below, above, totals)
+    let mut next = Next::behind(formula);
+    for part in parts.iter_mut() {
+        define(alloc, line, &mut next, part)?;
+    }
+    let rows = Rows::of(alloc, formula, net)?;
+    for part in parts.iter_mut() {
+        place(alloc, line, &part.flow, &mut part.below, &rows)?;
+        place(alloc, line, &part.flow, &mut part.above, &rows)?;
+    }
+    argue_all(alloc, net, formula, line, parts, &rows)
 }
 
-/// Defines the comparisons of the edges of both sides, of what goes through each centre, and of all that flows.
+/// Adds the aims of all parts, and that nothing breaks the property.
+fn argue_all(
+    alloc: Global,
+    net: &Net,
+    formula: &Formula,
+    line: &mut Line,
+    parts: &[Part],
+    rows: &Rows,
+) -> Result<(), AllocError> {
+    let at_ends = rows.at_ends(alloc, net, formula, parts)?;
+    let at_ends = add_scope(line, at_ends)?;
+    for part in parts {
+        argue(alloc, formula, line, part, at_ends)?;
+    }
+    add_aim(alloc, &mut line.aims, &[], at_ends)
+}
+
+/// Defines the comparisons of the edges of both sides of a part, of what goes through each centre, and of all that flows.
 fn define(
     alloc: Global,
-    formula: &Formula,
     line: &mut Line,
-    flow: &Flow,
-    below: &mut Side,
-    above: &mut Side,
-) -> Result<Totals, AllocError> {
-    let mut next = Next::behind(formula);
-    define_edges(alloc, line, flow, &mut next, below)?;
-    define_edges(alloc, line, flow, &mut next, above)?;
+    next: &mut Next,
+    part: &mut Part,
+) -> Result<(), AllocError> {
+    define_edges(alloc, line, &part.flow, next, &mut part.below)?;
+    define_edges(alloc, line, &part.flow, next, &mut part.above)?;
+    define_sums(alloc, line, next, part)?;
+    part.totals = define_totals(alloc, line, &part.flow, next)?;
+    Ok(())
+}
+
+/// Defines the comparisons of what goes through each centre of a part.
+fn define_sums(
+    alloc: Global,
+    line: &mut Line,
+    next: &mut Next,
+    part: &mut Part,
+) -> Result<(), AllocError> {
+    let flow = &part.flow;
     for centre in &flow.centres {
-        define_sum(alloc, line, flow, &mut next, below, *centre)?;
-        define_sum(alloc, line, flow, &mut next, above, *centre)?;
+        define_sum(alloc, line, flow, next, &mut part.below, *centre)?;
+        define_sum(alloc, line, flow, next, &mut part.above, *centre)?;
     }
-    define_totals(alloc, line, flow, &mut next)
+    Ok(())
 }
 
 /// Defines the comparisons of the edges of a side.
@@ -222,25 +277,25 @@ fn place(
             side.place(splitter, at_splitter, at_edges);
         }
     }
-    if side.is_below {
+    if side.has_joints(flow) {
         place_joints(alloc, line, flow, side, rows)?;
     }
     Ok(())
 }
 
-/// Adds the scopes of splitters to which both edges are cut.
+/// Adds the scopes of joints.
 fn place_joints(
     alloc: Global,
     line: &mut Line,
     flow: &Flow,
-    below: &mut Side,
+    side: &mut Side,
     rows: &Rows,
 ) -> Result<(), AllocError> {
     for splitter in 0..flow.graph.splitters() {
         if flow.is_joint(splitter) {
-            let at_joint = rows.at_joint(alloc, line, flow, below, splitter)?;
+            let at_joint = rows.at_joint(alloc, line, flow, side, splitter)?;
             let place = add_scope(line, at_joint)?;
-            below.place_joint(splitter, place);
+            side.place_joint(splitter, place);
         }
     }
     Ok(())
@@ -256,6 +311,39 @@ impl Rows {
             upper,
             places: places_of(alloc, net, false)?,
         })
+    }
+
+    /// The rows that speak of ends alone, those of each line between two parts, and those that compare what begins in each
+    /// part with what ends there.
+    fn at_ends(
+        &self,
+        alloc: Global,
+        net: &Net,
+        formula: &Formula,
+        parts: &[Part],
+    ) -> Result<Vec<usize>, AllocError> {
+        let mut rows = Vec::new(alloc);
+        let columns = edges_of_columns(alloc, net)?;
+        for (place, row) in formula.rows().iter().enumerate() {
+            if is_of_ends(net, &columns, row) {
+                rows.push(place)?;
+            }
+        }
+        for part in parts {
+            self.add_lines(&mut rows, part)?;
+            add_rows(&mut rows, part.totals.ends)?;
+        }
+        Ok(rows)
+    }
+
+    /// Adds the rows of each line that leads from a part to another one.
+    fn add_lines(&self, rows: &mut Vec<usize>, part: &Part) -> Result<(), AllocError> {
+        for edge in 0..part.flow.graph.edges() {
+            if part.leads_on(edge) {
+                rows.extend_from_slice(list_at(&self.alone, edge))?;
+            }
+        }
+        Ok(())
     }
 
     /// The rows of a splitter, and the comparisons of its edges.
@@ -299,20 +387,20 @@ impl Rows {
         Ok(rows)
     }
 
-    /// The rows of a splitter, those of each edge to it, and the comparisons of these edges.
+    /// The rows of a joint, those of each edge that it shares, and the comparisons of these edges.
     fn at_joint(
         &self,
         alloc: Global,
         line: &Line,
         flow: &Flow,
-        below: &Side,
+        side: &Side,
         splitter: usize,
     ) -> Result<Vec<usize>, AllocError> {
         let place = self.places.get(splitter).copied().unwrap_or(0);
         let mut rows = Vec::from_slice(alloc, list_at(&line.scopes, place))?;
-        for edge in flow.graph.ins(splitter) {
+        for edge in flow.shared(splitter) {
             rows.extend_from_slice(list_at(&self.alone, *edge))?;
-            add_rows(&mut rows, below.compared(*edge))?;
+            add_rows(&mut rows, side.compared(*edge))?;
         }
         in_order(&mut rows)?;
         Ok(rows)

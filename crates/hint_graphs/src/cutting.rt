@@ -272,7 +272,7 @@ impl Search {
         cut: &[bool],
     ) -> Result<usize, AllocError> {
         self.looks = self.looks.saturating_add(cut.len());
-        let weighed = weigh(alloc, graph, cut)?;
+        let weighed = weigh(alloc, graph, cut, false)?;
         Ok(weighed.score(graph))
     }
 }

@@ -90,28 +90,43 @@ pub struct Weighed {
     sources: Weight,
 }
 
-/// Weighs the ends that edges reach where some are cut.
-pub fn weigh(alloc: Global, graph: &Graph, cut: &[bool]) -> Result<Weighed, AllocError> {
+/// Weighs the ends that edges reach where some are cut, which joints share: with `forks` those of their out edges.
+pub fn weigh(
+    alloc: Global,
+    graph: &Graph,
+    cut: &[bool],
+    forks: bool,
+) -> Result<Weighed, AllocError> {
     let edges = graph.edges();
+    let apart = graph.with_ends(alloc, cut)?;
     let mut weighed = Weighed {
-        order: ordered(alloc, graph.net, true, cut)?,
+        order: ordered(alloc, graph.net, !graph.is_turned, &apart)?,
         below: vec![in alloc; None; edges]?,
         above: vec![in alloc; None; edges]?,
         sinks: Weight::NONE,
         sources: Weight::NONE,
     };
     weighed.begin(graph, cut);
-    weighed.join(graph, cut);
+    weighed.join(graph, cut, forks);
     weighed.go_up(graph, cut);
     weighed.go_down(graph, cut);
     Ok(weighed)
 }
 
+/// The edges of a splitter that are shared where both are cut: those into it, or with `forks` those out of it.
+pub fn shared_edges<'a>(graph: &'a Graph, splitter: usize, forks: bool) -> &'a [usize] {
+    if forks {
+        graph.outs(splitter)
+    } else {
+        graph.ins(splitter)
+    }
+}
+
 /// Whether a splitter has two in edges, which are cut: it is the last one of what ends with these edges, and the first one of
-/// what begins with them.
-pub fn is_joint(graph: &Graph, cut: &[bool], splitter: usize) -> bool {
-    let ins = graph.ins(splitter);
-    ins.len() == 2 && ins.iter().all(|edge| is_set(cut, *edge))
+/// what begins with them. With `forks` the same of its out edges.
+pub fn is_joint(graph: &Graph, cut: &[bool], splitter: usize, forks: bool) -> bool {
+    let edges = shared_edges(graph, splitter, forks);
+    edges.len() == 2 && edges.iter().all(|edge| is_set(cut, *edge))
 }
 
 /// The sum of the weights of edges, where all have one.
@@ -145,37 +160,43 @@ fn give(
     }
 }
 
+/// Gives each of some edges its share of the weights of all of them, where that is whole.
+fn join_at(weights: &mut [Option<Weight>], edges: &[usize]) {
+    if let Some(all) = sum(weights, edges) {
+        if let Some(weight) = all.shared(edges.len()) {
+            for edge in edges {
+                put(weights, *edge, weight);
+            }
+        }
+    }
+}
+
 impl Weighed {
     /// Weighs the edges at ends and those that are cut.
     fn begin(&mut self, graph: &Graph, cut: &[bool]) {
         for edge in 0..graph.edges() {
             let weight = Weight::of(edge, graph.cap(edge));
-            if is_set(cut, edge) || graph.target(edge).is_none() {
+            if is_set(cut, edge) || graph.leaves(edge) {
                 put(&mut self.below, edge, weight);
                 self.sinks = self.sinks.plus(weight);
             }
-            if is_set(cut, edge) || graph.start(edge).is_none() {
+            if is_set(cut, edge) || graph.enters(edge) {
                 put(&mut self.above, edge, weight);
                 self.sources = self.sources.plus(weight);
             }
         }
     }
 
-    /// Shares what ends with the in edges of joints between these: it doesn't matter which of them brings it.
-    fn join(&mut self, graph: &Graph, cut: &[bool]) {
+    /// Shares what ends with the in edges of joints between these: it doesn't matter which of them brings it. With `forks`
+    /// what begins with their out edges.
+    fn join(&mut self, graph: &Graph, cut: &[bool], forks: bool) {
         for splitter in 0..graph.splitters() {
-            if is_joint(graph, cut, splitter) {
-                self.join_at(graph.ins(splitter));
-            }
-        }
-    }
-
-    /// Gives each of some edges its share of what ends with all of them, where that is whole.
-    fn join_at(&mut self, edges: &[usize]) {
-        if let Some(all) = sum(&self.below, edges) {
-            if let Some(weight) = all.shared(edges.len()) {
-                for edge in edges {
-                    put(&mut self.below, *edge, weight);
+            if is_joint(graph, cut, splitter, forks) {
+                let edges = shared_edges(graph, splitter, forks);
+                if forks {
+                    join_at(&mut self.above, edges);
+                } else {
+                    join_at(&mut self.below, edges);
                 }
             }
         }
