@@ -327,7 +327,9 @@ fn push_product(
 }
 
 /// Adds the product with the ends `ends` of two networks of the table, of which the first has the ends `first`. Adds
-/// none where these don't divide those, or the table lacks one of the two.
+/// none where these don't divide those, where more lines lie between the two than there are inputs or outputs, or where
+/// the table lacks one of the two. With more lines between it would save a splitter of nine to ten, and deciding would
+/// take a minute, since what comes has to be merged again.
 fn push_product_of(
     nets: &mut Vec<Net>,
     alloc: Global,
@@ -337,6 +339,9 @@ fn push_product_of(
     let (Some(inputs), Some(outputs)) = (parted(ends.0, first.0), parted(ends.1, first.1)) else {
         return Ok(());
     };
+    if first.1.saturating_mul(inputs) > ends.0.max(ends.1) {
+        return Ok(());
+    }
     let first = tabled(alloc, EVEN, first.0, first.1)?;
     let second = tabled(alloc, EVEN, inputs, outputs)?;
     match (first, second) {
