@@ -12,11 +12,16 @@ use std::alloc::{AllocError, Global};
 /// or very many.
 const TURN_EFFORT: u64 = 40_000;
 
-/// How many such searches there are in the rectangle of a request: where it is narrow hardly anything else finds a
+/// How many such searches there are in the rectangle of a request: the narrower it is the less anything else finds a
 /// layout.
+const NARROWEST_SEARCHES: u64 = 6;
+
 const NARROW_SEARCHES: u64 = 2;
 
 const OTHER_SEARCHES: u64 = 1;
+
+/// With fewer cells for each splitter a rectangle is one of the narrowest.
+const NARROWEST_ROOM: u64 = 7;
 
 /// With fewer cells for each splitter a rectangle is narrow.
 const NARROW_ROOM: u64 = 9;
@@ -40,8 +45,11 @@ fn is_upright(rect: Rect) -> bool {
 
 /// How many searches there are in a rectangle.
 fn searches_in(request: &Request, rect: Rect) -> u64 {
-    let narrow = u64::from(request.net().splitters()).saturating_mul(NARROW_ROOM);
-    if cells_in(rect) < narrow {
+    let splitters = u64::from(request.net().splitters());
+    let cells = cells_in(rect);
+    if cells < splitters.saturating_mul(NARROWEST_ROOM) {
+        NARROWEST_SEARCHES
+    } else if cells < splitters.saturating_mul(NARROW_ROOM) {
         NARROW_SEARCHES
     } else {
         OTHER_SEARCHES
