@@ -45,6 +45,7 @@ CASES = [
     ("balancer-8-to-8", ["9x10", "10x9", "10x12", "9x13", "11x11", "16x9"], "found", 5, None),
     ("balancer-8-to-8", ["8x12"], "found", None, None),
     ("balancer-8-to-8", ["9x9"], "found", 5, None),
+    ("balancer-8-to-8", ["7x11"], "found", 30, None),
     ("stages-4-to-4", ["16x16"], "found", 5, None),
     ("ring-8-to-8", ["16x16"], "found", 5, None),
     ("doubled-4-to-4", ["16x16", "10x12", "8x12"], "found", 5, None),
