@@ -3,8 +3,8 @@ ghost use Rattle.std.specs.Prelude.{◌<◌, ◌^◌};
 
 use bt_cert::check_log;
 use bt_cnf::{Formula, Lit};
-use bt_fenc::encode;
 use bt_flow::Property;
+use bt_flow_formula::encode;
 use bt_frac::{Frac, Relation, Row};
 use bt_io::Source;
 use bt_net::{Admitted, read};

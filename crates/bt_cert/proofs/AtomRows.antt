@@ -5,9 +5,9 @@ use Rattle.std.proofs.lemmas.List.{map-append, length-map, get_or-map}
 use Rattle.std.proofs.lemmas.List.Elements.{All-push}
 use Rattle.bt_frac.specs.Ratio.{Ratio, IsLowest}
 use Rattle.bt_frac.specs.Rows.{RowParts}
-use Rattle.bt_lin.specs.Farkas.{IsFarkas, IsWidePlace}
-use Rattle.bt_lin.specs.WeightedRows.{empty_row, picked}
-use Rattle.bt_lin.specs.declared.wide.WideAt.{WideAt}
+use Rattle.bt_farkas.specs.Farkas.{IsFarkas, IsWidePlace}
+use Rattle.bt_farkas.specs.WeightedRows.{empty_row, picked}
+use Rattle.bt_farkas.specs.declared.wide.WideAt.{WideAt}
 use Rattle.bt_cnf.specs.Formulas.{FormulaParts, IsFormula}
 use Rattle.bt_cnf.specs.Places.{IsPlaceOf}
 use Rattle.bt_cnf.specs.declared.literal.Lit.{Lit}

@@ -6,7 +6,7 @@ use Rattle.bt_text.specs.Blanks.{IsBlank}
 use Rattle.bt_text.specs.Lines.{line_feeds}
 use Rattle.bt_cnf.specs.Formulas.{FormulaParts, IsFormula}
 use Rattle.bt_cnf.specs.declared.literal.Lit.{Lit}
-use Rattle.bt_lin.specs.declared.wide.WideAt.{WideAt}
+use Rattle.bt_farkas.specs.declared.wide.WideAt.{WideAt}
 use Rattle.bt_log.specs.Refuting.{EndsEmpty}
 use Rattle.bt_cert.specs.StepLines.{WrittenStep, IsWritten, written_text}
 use Rattle.bt_cert.specs.inner.Judgements.{Judgement, Valid, Fails, IsWideAt, IsJudged}

@@ -3,9 +3,9 @@ use Rattle.std.proofs.Common.{◌≡◌, ℕ, zero, suc, ◌+◌, ◌≤◌, ◌
 use Rattle.std.specs.List.{zip}
 use Rattle.bt_frac.specs.Ratio.{Ratio}
 use Rattle.bt_frac.specs.Rows.{RowParts}
-use Rattle.bt_lin.specs.Farkas.{IsFarkas}
-use Rattle.bt_lin.specs.declared.wide.WideAt.{WideAt}
-use Rattle.bt_lin.proofs.FarkasLemmas.{one_farkas}
+use Rattle.bt_farkas.specs.Farkas.{IsFarkas}
+use Rattle.bt_farkas.specs.declared.wide.WideAt.{WideAt}
+use Rattle.bt_farkas.proofs.FarkasLemmas.{one_farkas}
 use Rattle.bt_cnf.specs.Formulas.{FormulaParts, IsFormula, AscendBelow}
 use Rattle.bt_cnf.specs.declared.literal.Lit.{Lit}
 use Rattle.bt_log.specs.Units.{UnitsRefute}

@@ -3,10 +3,10 @@ use Rattle.std.specs.Prelude.{◌≡◌, ℕ, ◌-◌, ◌<◌, List, length, ma
 use Rattle.std.specs.List.{All, AllZip, zip}
 use Rattle.bt_frac.specs.Ratio.{Ratio}
 use Rattle.bt_frac.specs.Rows.{RowParts}
-use Rattle.bt_lin.specs.FalseSums.{MayWeigh}
-use Rattle.bt_lin.specs.Farkas.{IsFarkas, IsFirstWide, IsWidePlace}
-use Rattle.bt_lin.specs.declared.places.Place.{Place}
-use Rattle.bt_lin.specs.declared.wide.WideAt.{WideAt}
+use Rattle.bt_farkas.specs.FalseSums.{MayWeigh}
+use Rattle.bt_farkas.specs.Farkas.{IsFarkas, IsFirstWide, IsWidePlace}
+use Rattle.bt_farkas.specs.declared.places.Place.{Place}
+use Rattle.bt_farkas.specs.declared.wide.WideAt.{WideAt}
 use Rattle.bt_cnf.specs.Formulas.{FormulaParts, LitsBelow}
 use Rattle.bt_cnf.specs.declared.literal.Lit.{Lit}
 use Rattle.bt_cnf.specs.Units.{HasNoBothSigns, clause_at}

@@ -2,7 +2,7 @@
 ghost use Rattle.std.specs.Prelude.{◌≡◌};
 ghost use Rattle.bt_cert.specs.declared.fault.CertFault.TheVariants.{Memory};
 
-use bt_lin::WideAt;
+use bt_farkas::WideAt;
 use std::alloc::{AllocError, AllocFailed};
 
 /// Why a step isn't valid: the first of these that applies.

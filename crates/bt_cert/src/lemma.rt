@@ -3,14 +3,14 @@ ghost use Rattle.std.specs.Prelude.{◌≡◌, ◌<◌, length, IfOk, IsTrue, �
 ghost use Rattle.std.specs.List.{All};
 ghost use Rattle.bt_cnf.specs.Formulas.{LitsBelow};
 ghost use Rattle.bt_frac.specs.Ratio.{IsLowest};
-ghost use Rattle.bt_lin.specs.WeightedRows.{picked};
+ghost use Rattle.bt_farkas.specs.WeightedRows.{picked};
 ghost use Rattle.bt_cert.specs.Judging.{MayWeighRows};
 ghost use Rattle.bt_cert.specs.inner.Weighing.{IsNegatedRow, IsPicked, JudgesLemma, rows_of};
 
 use crate::fault::{Cause, StepFault};
 use bt_cnf::{Formula, Lit};
+use bt_farkas::{SumFault, Weigher, may_weigh};
 use bt_frac::Frac;
-use bt_lin::{SumFault, Weigher, may_weigh};
 use std::alloc::{AllocError, Global};
 
 /// Room in which a lemma is judged, and which serves each lemma anew.

@@ -2,8 +2,8 @@
 use Rattle.std.proofs.Common.{◌≡◌, ◌<◌, ◌≤◌, ◌^◌, List, [], ◌++◌, length, sym, subst, arith}
 use Rattle.std.specs.List.{All, zip}
 use Rattle.std.proofs.lemmas.List.Elements.{All-weaker}
-use Rattle.bt_lin.specs.FalseSums.{MayWeigh}
-use Rattle.bt_lin.specs.Farkas.{IsWidePlace}
+use Rattle.bt_farkas.specs.FalseSums.{MayWeigh}
+use Rattle.bt_farkas.specs.Farkas.{IsWidePlace}
 use Rattle.bt_cnf.specs.Formulas.{FormulaParts, IsFormula}
 use Rattle.bt_log.specs.Logs.{Step, Lemma, Learnt}
 use Rattle.bt_log.specs.LogText.{log_text}
@@ -20,9 +20,9 @@ use Rattle.bt_cert.proofs.Narrow.{steps_written}
 use Rattle.bt_cert.proofs.OneJudgement.{rows_same}
 use Rattle.bt_cert.proofs.Printed.{lits_back}
 use Rattle.bt_cert.proofs.PrintedDefined.{all_stand, defined_is_certificate}
-use Rattle.bt_fenc.specs.FlowFormula.{flow_formula}
-use Rattle.bt_fenc.proofs.Formulas.{is_formula}
-use Rattle.bt_fenc.proofs.Sizes.{flow_formulas_small}
+use Rattle.bt_flow_formula.specs.FlowFormula.{flow_formula}
+use Rattle.bt_flow_formula.proofs.Formulas.{is_formula}
+use Rattle.bt_flow_formula.proofs.Sizes.{flow_formulas_small}
 use Rattle.bt_same.specs.SameFormula.{same_formula}
 use Rattle.bt_same.proofs.Formed.{formed, same_formulas_small}
 use Rattle.bt_theory.specs.Outcomes.{Fits, IsRefutation}

@@ -9,14 +9,14 @@ use Rattle.bt_flow.specs.declared.property.Property.{Property}
 use Rattle.bt_flow.specs.declared.property.Property.TheVariants.{Balanced, DrawnEvenly, Unlimited, Full, Fair, DrawnFairly}
 use Rattle.bt_flow.specs.declared.ports.End.TheVariants.{Input, Output}
 use Rattle.bt_cnf.specs.Formulas.{FormulaParts}
-use Rattle.bt_fenc.specs.declared.state_literal.StateLiteral.{StateLiteral}
-use Rattle.bt_fenc.specs.declared.clause_family.ClauseFamily.{ClauseFamily}
-use Rattle.bt_fenc.specs.declared.clause_family.ClauseFamily.TheVariants.{Flows, Loads, Rooms, Conserve}
-use Rattle.bt_fenc.specs.Families.{clauses_at, family_clauses, pair_families, laws}
-use Rattle.bt_fenc.specs.FlowFormula.{flow_formula, steady_formula, steady_clauses, flow_clauses, leveled, variable_of}
-use Rattle.bt_fenc.specs.Levels.{level_rows}
-use Rattle.bt_fenc.specs.Numbering.{rows_in, atoms_from, formula_of}
-use Rattle.bt_fenc.specs.Properties.{property_clauses}
+use Rattle.bt_flow_formula.specs.declared.state_literal.StateLiteral.{StateLiteral}
+use Rattle.bt_flow_formula.specs.declared.clause_family.ClauseFamily.{ClauseFamily}
+use Rattle.bt_flow_formula.specs.declared.clause_family.ClauseFamily.TheVariants.{Flows, Loads, Rooms, Conserve}
+use Rattle.bt_flow_formula.specs.Families.{clauses_at, family_clauses, pair_families, laws}
+use Rattle.bt_flow_formula.specs.FlowFormula.{flow_formula, steady_formula, steady_clauses, flow_clauses, leveled, variable_of}
+use Rattle.bt_flow_formula.specs.Levels.{level_rows}
+use Rattle.bt_flow_formula.specs.Numbering.{rows_in, atoms_from, formula_of}
+use Rattle.bt_flow_formula.specs.Properties.{property_clauses}
 use Rattle.bt_same.specs.declared.shift.Shift.{Shift}
 use Rattle.bt_same.specs.SameFormula.{same_formula, first_shift, second_vars, second_columns, moved_atoms, difference_formula}
 use Rattle.bt_decide.proofs.Taken.{none_before}

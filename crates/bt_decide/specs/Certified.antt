@@ -8,7 +8,7 @@ use Rattle.bt_extend.specs.Extending.{extended}
 use Rattle.bt_extend.specs.Texts.{definitions_text}
 use Rattle.bt_extend.specs.declared.definition.Definition.{Definition}
 use Rattle.bt_cert.specs.Certificates.{IsCertificate}
-use Rattle.bt_fenc.specs.FlowFormula.{flow_formula}
+use Rattle.bt_flow_formula.specs.FlowFormula.{flow_formula}
 use Rattle.bt_same.specs.SameFormula.{same_formula}
 use Rattle.bt_theory.specs.Outcomes.{IsRefutation}
 use Rattle.bt_decide.specs.Verdicts.{AreMade, splitters_of_both}

@@ -4,7 +4,7 @@ use Rattle.bt_net.specs.Network.{Network}
 use Rattle.bt_flow.specs.declared.property.Property.{Property}
 use Rattle.bt_flow.specs.States.{AreLowest}
 use Rattle.bt_flow.specs.Properties.{Holds, IsBreaking}
-use Rattle.bt_fenc.specs.FlowFormula.{flow_formula}
+use Rattle.bt_flow_formula.specs.FlowFormula.{flow_formula}
 use Rattle.bt_same.specs.Sameness.{AreSame, ShowsDifference}
 use Rattle.bt_same.specs.Pairs.{IsTrueOfBoth}
 use Rattle.bt_same.specs.SameFormula.{same_formula}

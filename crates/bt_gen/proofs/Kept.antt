@@ -12,7 +12,7 @@ use Rattle.bt_flow.specs.States.{Flows, IsStateOf, flow_at, load_at, room_at, ca
 use Rattle.bt_flow.specs.Steady.{HasEdge, IsSteady, sum_where}
 use Rattle.bt_flow.specs.Properties.{Holds, HasEqualInputs, HasEqualOutputs, IsAdmissible, IsLesser, IsLoaded, IsOpen, Meets, PassesAll, is_last, total}
 use Rattle.bt_flow.proofs.Numbers.{within}
-use Rattle.bt_fenc.proofs.Breaking.{outputs_at_most_loads, outputs_at_most_rooms}
+use Rattle.bt_flow_formula.proofs.Breaking.{outputs_at_most_loads, outputs_at_most_rooms}
 use Rattle.bt_gen.specs.Loops.{LeadsBack, IsPlain, UnlimitedIsKept, BalancedIsKept, DrawnEvenlyIsKept, moved}
 use Rattle.bt_gen.proofs.Put.{total_put}
 use Rattle.bt_gen.proofs.Cut as cut

@@ -8,9 +8,9 @@ use Rattle.bt_flow.specs.States.{Flows, IsStateOf, flow_at, load_at, room_at}
 use Rattle.bt_flow.specs.Steady.{HasEdge, IsSteady, sum_where}
 use Rattle.bt_flow.specs.Properties.{is_last, total}
 use Rattle.bt_flow.specs.EndEdges.{input_edge, output_edge}
-use Rattle.bt_fenc.proofs.Numbers.{all_to}
-use Rattle.bt_fenc.proofs.NetEdges.{input_is, output_is}
-use Rattle.bt_fenc.proofs.EdgeSums.{sums_from, starts_total, ends_total, outputs_total, sums_same, sums_at_most}
+use Rattle.bt_flow_formula.proofs.Numbers.{all_to}
+use Rattle.bt_flow_formula.proofs.NetEdges.{input_is, output_is}
+use Rattle.bt_flow_formula.proofs.EdgeSums.{sums_from, starts_total, ends_total, outputs_total, sums_same, sums_at_most}
 use Rattle.bt_gen.proofs.TwoFlows.{one}
 
 first_filled : (x t u v : ℤ) → (x +ℤ t) ≤ℤ (u +ℤ v) → v ≤ℤ t → x ≤ℤ u

@@ -12,8 +12,8 @@ use Rattle.bt_model.specs.Laying.{Lays, LaysPreferring}
 use Rattle.bt_model.specs.Preferring.{ArePreferred, IsGivenFirst, IsTakenFirst}
 use Rattle.bt_model.specs.Requests.{LayoutRequest}
 use Rattle.bt_model.specs.Shown.{IsEdgeOf}
-use Rattle.bt_lays.proofs.Listing.{along, each_moved}
-use Rattle.bt_lays.proofs.Marks.{flipped}
+use Rattle.bt_layout_check.proofs.Listing.{along, each_moved}
+use Rattle.bt_layout_check.proofs.Marks.{flipped}
 use Rattle.bt_layout.specs.inner.Bare.{PrefersNothing}
 
 -- what holds below a number and of it holds below the next

@@ -3,8 +3,8 @@ use Rattle.std.proofs.Common.{◌≡◌, ℕ, List, [], ◌∷◌, ◌++◌, get
 use Rattle.std.specs.List.{zip}
 use Rattle.bt_frac.specs.Ratio.{Ratio}
 use Rattle.bt_frac.specs.Rows.{RowParts}
-use Rattle.bt_lin.specs.Farkas.{IsWidePlace}
-use Rattle.bt_lin.specs.declared.places.Place.{Place}
+use Rattle.bt_farkas.specs.Farkas.{IsWidePlace}
+use Rattle.bt_farkas.specs.declared.places.Place.{Place}
 use Rattle.bt_cnf.specs.declared.literal.Lit.{Lit}
 use Rattle.bt_log.specs.Logs.{Step, Lemma, Learnt}
 use Rattle.bt_cert.specs.Laws.{written_step}

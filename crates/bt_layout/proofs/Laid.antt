@@ -4,7 +4,7 @@ use Rattle.bt_parts.specs.declared.part.Part.{Part}
 use Rattle.bt_model.specs.Laying.{Lays}
 use Rattle.bt_model.specs.Requests.{LayoutRequest}
 use Rattle.bt_model.specs.Shown.{Naming}
-use Rattle.bt_lays.specs.Laid.{LaysBy}
+use Rattle.bt_layout_check.specs.Laid.{LaysBy}
 
 -- parts that lay a request by some names lay it
 pub laid_by : (parts : List Part) (naming : Naming) (request : LayoutRequest) → LaysBy parts naming request → Lays parts request

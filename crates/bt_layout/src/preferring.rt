@@ -4,13 +4,13 @@ ghost use Rattle.std.specs.Prelude.{◌≡◌, IfOk, IfSome, None, false};
 ghost use Rattle.bt_net.specs.Network.{give_of, take_of};
 ghost use Rattle.bt_model.specs.Laying.{Lays, LaysPreferring};
 ghost use Rattle.bt_model.specs.Requests.{IsRequest};
-ghost use Rattle.bt_lays.specs.Laid.{LaysBy, naming_of};
+ghost use Rattle.bt_layout_check.specs.Laid.{LaysBy, naming_of};
 ghost use Rattle.bt_entities.specs.ReadBack.{SplittersPrefer};
 ghost use Rattle.bt_grids.specs.Asked.{NamesNoCells, request_on};
 ghost use Rattle.bt_layout.specs.inner.Bare.{PrefersNothing};
 
 use bt_grids::request_on;
-use bt_lays::{Names, any_names, lays, priorities_by};
+use bt_layout_check::{Names, any_names, lays, priorities_by};
 use bt_model::Request;
 use bt_net::Net;
 use bt_parts::{Part, Priority, Rect};

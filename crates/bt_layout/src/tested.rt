@@ -5,7 +5,7 @@ ghost use Rattle.bt_place.specs.Solutions.{ComesAbove};
 ghost use Rattle.bt_layout.specs.inner.Likely.{IsLaidOut};
 
 use bt_entities::MOST_ENTITIES;
-use bt_lays::{Names, lays};
+use bt_layout_check::{Names, lays};
 use bt_model::Request;
 use bt_parts::{Cell, Part};
 use hint_layouts::Proposal;

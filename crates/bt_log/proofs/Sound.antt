@@ -7,8 +7,8 @@ use Rattle.std.proofs.lemmas.List.Elements.{All-nil, All-cons, All-head, All-tai
 use Rattle.bt_frac.specs.Ratio.{Ratio, IsLowest}
 use Rattle.bt_frac.specs.Rows.{RowParts, IsRow}
 use Rattle.bt_frac.specs.Values.{AreValues, RowHolds}
-use Rattle.bt_lin.specs.Laws.{IsWeighted}
-use Rattle.bt_lin.proofs.Sound as rows
+use Rattle.bt_farkas.specs.Laws.{IsWeighted}
+use Rattle.bt_farkas.proofs.Sound as rows
 use Rattle.bt_cnf.specs.Formulas.{FormulaParts, IsFormula}
 use Rattle.bt_cnf.specs.Meeting.{IsTrueUnder, MeetsClause, Meets}
 use Rattle.bt_cnf.specs.declared.literal.Lit.{Lit}

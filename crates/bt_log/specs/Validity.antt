@@ -3,7 +3,7 @@ use Rattle.std.specs.Prelude.{◌≡◌, ℕ, ◌<◌, List, [], ◌∷◌, ◌+
 use Rattle.std.specs.List.{All, AllZip, zip}
 use Rattle.bt_frac.specs.Ratio.{Ratio, IsLowest}
 use Rattle.bt_frac.specs.Rows.{RowParts}
-use Rattle.bt_lin.specs.FalseSums.{IsFalseSum}
+use Rattle.bt_farkas.specs.FalseSums.{IsFalseSum}
 use Rattle.bt_cnf.specs.Formulas.{FormulaParts, LitsBelow}
 use Rattle.bt_cnf.specs.declared.literal.Lit.{Lit}
 use Rattle.bt_log.specs.Logs.{Step, Lemma, Learnt, clause_of}

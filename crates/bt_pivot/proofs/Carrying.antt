@@ -5,19 +5,19 @@ use Rattle.bt_frac.specs.Ratio.{Ratio, SameRatio}
 use Rattle.bt_frac.specs.Values.{AreValues, plus, times}
 use Rattle.bt_frac.proofs.Over.{over_scaled}
 use Rattle.bt_frac.proofs.Ring.{turn_last}
-use Rattle.bt_linear.specs.Lines.{Terms, HasNumber, IsLine, IsCombination, total}
+use Rattle.bt_linear_forms.specs.Lines.{Terms, HasNumber, IsLine, IsCombination, total}
 use Rattle.bt_pivot.specs.Points.{resting, standing, IsSamePoint}
 use Rattle.bt_pivot.specs.Tableaus.{TableauParts, IsTableau}
 use Rattle.bt_pivot.specs.declared.short_points.Sums.{Sums}
-use Rattle.bt_linear.specs.Shorts.{reduced, AreScales}
+use Rattle.bt_linear_forms.specs.Shorts.{reduced, AreScales}
 use Rattle.bt_pivot.specs.Sums.{delta_of}
 use Rattle.bt_pivot.specs.inner.Carrying.{AreCarried}
-use Rattle.bt_linear.specs.Changes.{IsScaled}
-use Rattle.bt_linear.specs.declared.short.merging.Scales.{Scales}
-use Rattle.bt_linear.proofs.Numbers.{Alike, alike, back, next, both_plus, both_times, plus_positive, times_positive}
+use Rattle.bt_linear_forms.specs.Changes.{IsScaled}
+use Rattle.bt_linear_forms.specs.declared.short.merging.Scales.{Scales}
+use Rattle.bt_linear_forms.proofs.Numbers.{Alike, alike, back, next, both_plus, both_times, plus_positive, times_positive}
 use Rattle.bt_pivot.proofs.Resting.{rest_value, rest_tiny}
-use Rattle.bt_linear.proofs.ShortWalks.{whole_over, reduced_alike, factor_lowest, added_parts}
-use Rattle.bt_linear.proofs.Zeros.{combined_alike}
+use Rattle.bt_linear_forms.proofs.ShortWalks.{whole_over, reduced_alike, factor_lowest, added_parts}
+use Rattle.bt_linear_forms.proofs.Zeros.{combined_alike}
 
 module _ (lu : ℕ) (k : ℤ) (ru : ℕ) (m r : ℤ) (u : ℕ) (s : AreScales lu k ru m r u) where
   -- a number over a line's denominator and its factor times another

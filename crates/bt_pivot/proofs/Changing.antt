@@ -1,18 +1,18 @@
 -- The slots of a pivot and the sums that are kept of them, after one more slot.
 use Rattle.std.proofs.Common.{◌≡◌, ◌+◌, ◌<◌, arith, length, length-set, set, get_or, Option, Some, None, IfSome, inl, inr, sym, ◌∙◌, refl, subst, ℕ}
 use Rattle.std.proofs.lemmas.List.{get_or_default, get_or-set_other, get_or-set_same, set-get_or}
-use Rattle.bt_linear.specs.Lines.{Terms}
+use Rattle.bt_linear_forms.specs.Lines.{Terms}
 use Rattle.bt_pivot.specs.Points.{resting, standing, IsSamePoint}
 use Rattle.bt_pivot.specs.SolvedForms.{Slots, slot_at}
 use Rattle.bt_pivot.specs.Tableaus.{TableauParts, IsTableau}
-use Rattle.bt_linear.specs.declared.short.merging.Change.TheVariants.{Lacks, Made, Long}
-use Rattle.bt_linear.specs.declared.short.merging.Scales.{Scales}
+use Rattle.bt_linear_forms.specs.declared.short.merging.Change.TheVariants.{Lacks, Made, Long}
+use Rattle.bt_linear_forms.specs.declared.short.merging.Scales.{Scales}
 use Rattle.bt_pivot.specs.declared.short_points.Sums.{Sums}
-use Rattle.bt_linear.specs.Changes.{IsChange, IsScaled}
+use Rattle.bt_linear_forms.specs.Changes.{IsChange, IsScaled}
 use Rattle.bt_pivot.specs.Sums.{SumsList, delta_of}
 use Rattle.bt_pivot.specs.inner.SumCache.{Carries, Forgets, LinesStay}
-use Rattle.bt_linear.specs.Substituting.{IsSubstituted}
-use Rattle.bt_linear.proofs.Indicators.{decide}
+use Rattle.bt_linear_forms.specs.Substituting.{IsSubstituted}
+use Rattle.bt_linear_forms.proofs.Indicators.{decide}
 use Rattle.bt_pivot.proofs.KeptSums.{lines_carried, lines_set}
 use Rattle.bt_pivot.proofs.Substitutions.{ArePartlySubstituted}
 

@@ -5,21 +5,21 @@ use Rattle.std.proofs.lemmas.Bool.Decides.{nat_tests}
 use Rattle.std.proofs.lemmas.List.{get_or_default, get_or_past, get_or-set_same, get_or-set_other}
 use Rattle.std.proofs.lemmas.List.Elements.{All-cons, All-nil}
 use Rattle.bt_frac.specs.Ratio.{Ratio, negated}
-use Rattle.bt_lin.specs.WeightedRows.{coefficient_at}
-use Rattle.bt_linear.specs.Lines.{one, Terms, HasNumber, signed_terms}
+use Rattle.bt_farkas.specs.WeightedRows.{coefficient_at}
+use Rattle.bt_linear_forms.specs.Lines.{one, Terms, HasNumber, signed_terms}
 use Rattle.bt_pivot.specs.Classes.{differ, member_at, position_at, class_terms, slot_by, slot_of, slots_from, slots_of, AreClasses}
 use Rattle.bt_pivot.specs.SolvedForms.{Slots, slot_at}
 use Rattle.bt_pivot.specs.declared.basis.Member.{Member}
 use Rattle.bt_pivot.specs.declared.causes.Cause.{Cause}
 use Rattle.bt_pivot.specs.PivotedSlots.{AreLines, IsPivoted, IsUnfitPivot}
 use Rattle.bt_pivot.specs.inner.PivotedSlots.{AreSubstituted, with_line}
-use Rattle.bt_linear.specs.Substituting.{IsSubstituted, IsEntering}
+use Rattle.bt_linear_forms.specs.Substituting.{IsSubstituted, IsEntering}
 use Rattle.bt_pivot.specs.inner.UnfitPivots.{AreAlike, IsSlotZero, IsUnfitLine, entry_cause}
-use Rattle.bt_linear.proofs.NamedTerms.{number_later}
-use Rattle.bt_linear.proofs.Indicators.{decide}
-use Rattle.bt_linear.proofs.SignedLines.{negated_back, substituted_signed, leaving_substituted, entering_substituted, substituted_entering}
+use Rattle.bt_linear_forms.proofs.NamedTerms.{number_later}
+use Rattle.bt_linear_forms.proofs.Indicators.{decide}
+use Rattle.bt_linear_forms.proofs.SignedLines.{negated_back, substituted_signed, leaving_substituted, entering_substituted, substituted_entering}
 use Rattle.bt_pivot.proofs.UnfitPivots.{basis_same, slot_unfit}
-use Rattle.bt_linear.proofs.Zeros.{one_number}
+use Rattle.bt_linear_forms.proofs.Zeros.{one_number}
 
 signed_signed : (a b : Bool) (terms : Terms) → signed_terms a (signed_terms b terms) ≡ signed_terms (differ a b) terms
 signed_signed false b terms = refl

@@ -5,10 +5,10 @@ use Rattle.std.proofs.lemmas.List.Elements.{All-head, All-tail}
 use Rattle.bt_frac.specs.Ratio.{Ratio, IsLowest}
 use Rattle.bt_frac.specs.Rows.{RowParts, IsRow}
 use Rattle.bt_frac.specs.Values.{AreValues, times}
-use Rattle.bt_lin.specs.WeightedRows.{empty_row}
-use Rattle.bt_linear.specs.Lines.{Terms, total}
+use Rattle.bt_farkas.specs.WeightedRows.{empty_row}
+use Rattle.bt_linear_forms.specs.Lines.{Terms, total}
 use Rattle.bt_pivot.specs.SolvedForms.{at_position}
-use Rattle.bt_linear.proofs.Numbers.{Positive, plus_positive, times_positive}
+use Rattle.bt_linear_forms.proofs.Numbers.{Positive, plus_positive, times_positive}
 
 row_some : (at : ℕ → Ratio) → AreValues at → (terms : Terms) → All (λ t. IsLowest t.1) terms → Positive (total at terms)
 row_some at values [] all = omega arith

@@ -9,13 +9,13 @@ use Rattle.bt_frac.specs.declared.delta.Delta.{Delta}
 use Rattle.bt_frac.specs.declared.relation.Relation.TheVariants.{Above}
 use Rattle.bt_frac.proofs.Order.{mul_lt, lt_from_mul}
 use Rattle.bt_frac.proofs.Ring.{turn_last}
-use Rattle.bt_lin.proofs.SameNumbers.{same_trans, stands_same}
-use Rattle.bt_lin.specs.WeightedRows.{empty_row}
-use Rattle.bt_linear.specs.Lines.{Terms}
+use Rattle.bt_farkas.proofs.SameNumbers.{same_trans, stands_same}
+use Rattle.bt_farkas.specs.WeightedRows.{empty_row}
+use Rattle.bt_linear_forms.specs.Lines.{Terms}
 use Rattle.bt_pivot.specs.SolvedForms.{slot_at, InBasis}
 use Rattle.bt_pivot.specs.Tableaus.{TableauParts}
 use Rattle.bt_pivot.specs.Points.{bound_row, bound_value, resting, standing, point_at, Breaks, Fails, IsSamePoint}
-use Rattle.bt_linear.proofs.Numbers.{Positive}
+use Rattle.bt_linear_forms.proofs.Numbers.{Positive}
 
 pub less_right : (a b x : Ratio) → Positive a → Positive b → SameRatio a b → IsLess x a → IsLess x b
 less_right a b x p q e h = (stands_same Above x a b p q e).0 h

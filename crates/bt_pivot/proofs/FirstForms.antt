@@ -6,15 +6,15 @@ use Rattle.std.proofs.lemmas.Bool.Decides.{nat_tests}
 use Rattle.bt_frac.specs.Ratio.{Ratio, SameRatio}
 use Rattle.bt_frac.specs.Rows.{RowParts, IsRow}
 use Rattle.bt_frac.specs.Values.{AreValues}
-use Rattle.bt_lin.specs.WeightedRows.{empty_row}
-use Rattle.bt_linear.specs.Lines.{Terms, IsLine, total}
+use Rattle.bt_farkas.specs.WeightedRows.{empty_row}
+use Rattle.bt_linear_forms.specs.Lines.{Terms, IsLine, total}
 use Rattle.bt_pivot.specs.SolvedForms.{Slots, slot_at, basis_from, basis_of, at_position, IsOutside, IsSolvedForm}
 use Rattle.bt_pivot.specs.Tableaus.{AreOverColumns, IsTableau, IsNew, positions_from}
 use Rattle.bt_pivot.specs.inner.Starts.{kept, start_slots}
 use Rattle.bt_pivot.proofs.FirstLines.{kept_line, kept_total, kept_over}
-use Rattle.bt_linear.proofs.Numbers.{Alike, itself, back, next}
+use Rattle.bt_linear_forms.proofs.Numbers.{Alike, itself, back, next}
 use Rattle.bt_pivot.proofs.Denominators.{stands_some}
-use Rattle.bt_linear.proofs.Zeros.{total_along}
+use Rattle.bt_linear_forms.proofs.Zeros.{total_along}
 
 slot_low : (columns p : ℕ) (more : Slots) → p < columns → slot_at (replicate columns None ++ more) p ≡ None
 slot_low zero p more h = absurd (omega arith)

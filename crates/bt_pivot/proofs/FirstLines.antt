@@ -9,10 +9,10 @@ use Rattle.bt_frac.specs.Ratio.{Ratio, IsLowest}
 use Rattle.bt_frac.specs.Columns.{AreColumnsFrom}
 use Rattle.bt_frac.specs.Rows.{columns_of}
 use Rattle.bt_frac.specs.Values.{AreValues, nothing, plus, times}
-use Rattle.bt_linear.specs.Lines.{Terms, HasNumber, IsLineFrom, total}
+use Rattle.bt_linear_forms.specs.Lines.{Terms, HasNumber, IsLineFrom, total}
 use Rattle.bt_pivot.specs.inner.Starts.{kept}
-use Rattle.bt_linear.proofs.Numbers.{Alike, itself, back, next, both_plus, drop_zero, times_positive, swap_times}
-use Rattle.bt_linear.proofs.Walks.{starts_before}
+use Rattle.bt_linear_forms.proofs.Numbers.{Alike, itself, back, next, both_plus, drop_zero, times_positive, swap_times}
+use Rattle.bt_linear_forms.proofs.Walks.{starts_before}
 
 none_size : (z : ℤ) → unsigned_abs z ≡ 0 → z ≡ pos 0
 none_size z e = grind (arith, ints)

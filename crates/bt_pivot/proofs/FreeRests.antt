@@ -3,7 +3,7 @@ use Rattle.std.proofs.Common.{◌≡◌, ◌-◌, ◌≤◌, Bool, true, false, 
 use Rattle.std.proofs.lemmas.Bool.{cases_lt}
 use Rattle.std.proofs.lemmas.List.{get_or-replicate, get_or_past, length-replicate}
 use Rattle.bt_frac.specs.Rows.{RowParts}
-use Rattle.bt_lin.specs.WeightedRows.{empty_row}
+use Rattle.bt_farkas.specs.WeightedRows.{empty_row}
 use Rattle.bt_pivot.specs.Points.{bound_row, value_or_zero, relation_of}
 use Rattle.bt_pivot.specs.Tableaus.{TableauParts, IsTableau}
 use Rattle.bt_pivot.specs.inner.Rests.{nowhere, IsRestOf, AreRests}

@@ -2,7 +2,7 @@
 use Rattle.std.proofs.Common.{◌≡◌, ◌≢◌, ◌+◌, ◌<◌, arith, Bool, false, if◌then◌else◌, List, ◌∷◌, ◌++◌, length, length-append, Option, Some, None, ap, sym, ◌∙◌, refl, subst, ◌⊎◌, inl, inr, ℕ, []}
 use Rattle.std.proofs.lemmas.Bool.{cases_lt}
 use Rattle.std.proofs.lemmas.List.{get_or_append_left, get_or_push}
-use Rattle.bt_linear.specs.Lines.{one, Terms, signed_terms}
+use Rattle.bt_linear_forms.specs.Lines.{one, Terms, signed_terms}
 use Rattle.bt_pivot.specs.Classes.{differ, member_at, position_at, class_terms, is_outside, slot_by, slot_of, slots_of, AreClasses}
 use Rattle.bt_pivot.specs.SolvedForms.{Slots, slot_at}
 use Rattle.bt_pivot.specs.declared.basis.Member.{Member}

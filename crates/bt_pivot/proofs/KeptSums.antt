@@ -4,17 +4,17 @@ use Rattle.std.proofs.lemmas.Bool.{cases_lt}
 use Rattle.std.proofs.lemmas.List.{get_or_past, get_or-set_other, get_or-set_same}
 use Rattle.bt_pivot.specs.Classes.{member_at, position_at, class_terms, is_outside, slot_by, slots_of}
 use Rattle.bt_pivot.specs.SolvedForms.{Slots, slot_at}
-use Rattle.bt_linear.specs.Lines.{Terms}
+use Rattle.bt_linear_forms.specs.Lines.{Terms}
 use Rattle.bt_pivot.specs.Tableaus.{TableauParts, IsTableau}
 use Rattle.std.specs.declared.alloc.AllocError.{AllocError}
 use Rattle.bt_pivot.specs.declared.basis.Member.{Member}
 use Rattle.bt_pivot.specs.declared.causes.Cause.{Cause}
 use Rattle.bt_pivot.specs.declared.short_points.ClassSums.{ClassSums}
-use Rattle.bt_linear.specs.declared.short.merging.Scales.{Scales}
+use Rattle.bt_linear_forms.specs.declared.short.merging.Scales.{Scales}
 use Rattle.bt_pivot.specs.declared.short_points.Sums.{Sums}
 use Rattle.bt_pivot.specs.Points.{resting, standing, IsSamePoint}
 use Rattle.bt_pivot.specs.inner.Carrying.{AreCarried, IsCarriedOf}
-use Rattle.bt_linear.specs.Changes.{IsScaled}
+use Rattle.bt_linear_forms.specs.Changes.{IsScaled}
 use Rattle.bt_pivot.specs.Sums.{AreClassSums, delta_of, SumsList, AreKept, SlotsStay}
 use Rattle.bt_pivot.specs.inner.SumCache.{Carries, Forgets, IsOwn, OwnsAt, AreOwn, AreMoved, AreFollowed, LinesStay, OthersStay}
 use Rattle.bt_pivot.proofs.Carrying.{carried_fits, carried_point}

@@ -1,9 +1,9 @@
 -- Terms that name a position, and what a pivot makes of them.
 use Rattle.std.proofs.Common.{◌≡◌, Option, Some, None, IfSome, ◌∙◌, sym, subst, ℕ}
 use Rattle.bt_frac.specs.Ratio.{Ratio}
-use Rattle.bt_lin.specs.WeightedRows.{coefficient_at}
-use Rattle.bt_linear.specs.Lines.{Terms, IsLine}
-use Rattle.bt_linear.specs.Substituting.{IsZeroLine}
+use Rattle.bt_farkas.specs.WeightedRows.{coefficient_at}
+use Rattle.bt_linear_forms.specs.Lines.{Terms, IsLine}
+use Rattle.bt_linear_forms.specs.Substituting.{IsZeroLine}
 use Rattle.bt_pivot.specs.PivotedSlots.{CanPart}
 use Rattle.bt_pivot.specs.inner.UnfitPivots.{IsSlotZero}
 

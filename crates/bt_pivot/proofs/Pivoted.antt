@@ -9,17 +9,17 @@ use Rattle.std.proofs.lemmas.List.Elements.{All-cons, All-nil}
 use Rattle.bt_frac.specs.Ratio.{Ratio, SameRatio, IsLowest, negated}
 use Rattle.bt_frac.specs.Rows.{RowParts, IsRow}
 use Rattle.bt_frac.specs.Values.{AreValues, nothing, plus, times}
-use Rattle.bt_lin.specs.WeightedRows.{coefficient_at}
-use Rattle.bt_linear.specs.Lines.{one, Terms, HasNumber, IsLine, IsCombination, total}
+use Rattle.bt_farkas.specs.WeightedRows.{coefficient_at}
+use Rattle.bt_linear_forms.specs.Lines.{one, Terms, HasNumber, IsLine, IsCombination, total}
 use Rattle.bt_pivot.specs.SolvedForms.{Slots, slot_at, basis_from, basis_of, at_position, IsOutside, IsSolvedForm}
-use Rattle.bt_linear.specs.Substituting.{IsSubstituted}
+use Rattle.bt_linear_forms.specs.Substituting.{IsSubstituted}
 use Rattle.bt_pivot.specs.PivotedSlots.{IsPivoted}
-use Rattle.bt_linear.proofs.Numbers.{Positive, zero_alike, Alike, alike, itself, back, next, both_plus, both_times, times_positive, differ_none, adds_none}
+use Rattle.bt_linear_forms.proofs.Numbers.{Positive, zero_alike, Alike, alike, itself, back, next, both_plus, both_times, times_positive, differ_none, adds_none}
 use Rattle.bt_pivot.proofs.Denominators.{stands_some}
-use Rattle.bt_linear.proofs.Totals.{total_positive}
-use Rattle.bt_linear.proofs.Indicators.{LacksPosition, decide, indicator, indicator_some, having_total, total_at, none_lacks, zero_lacks, over_zero_of, combination_lacks, number_has}
-use Rattle.bt_linear.proofs.Zeros as zeros
-use Rattle.bt_linear.proofs.Zeros.{one_some, one_term, combined_alike, plus_none, one_times, one_lowest, one_number, minus_one, named_has, named_or_lacks, all_from, total_along}
+use Rattle.bt_linear_forms.proofs.Totals.{total_positive}
+use Rattle.bt_linear_forms.proofs.Indicators.{LacksPosition, decide, indicator, indicator_some, having_total, total_at, none_lacks, zero_lacks, over_zero_of, combination_lacks, number_has}
+use Rattle.bt_linear_forms.proofs.Zeros as zeros
+use Rattle.bt_linear_forms.proofs.Zeros.{one_some, one_term, combined_alike, plus_none, one_times, one_lowest, one_number, minus_one, named_has, named_or_lacks, all_from, total_along}
 
 -- what a changed slot was before
 changed_from : (enters : ℕ) (zero : Terms) (old new : Option Terms) (terms' : Terms) → IsSubstituted enters zero old new → new ≡ Some terms'

@@ -4,15 +4,15 @@ use Rattle.std.specs.List.{All}
 use Rattle.bt_frac.specs.Rows.{IsRow}
 use Rattle.bt_frac.specs.Values.{AreValues}
 use Rattle.bt_frac.specs.declared.delta.Delta.{Delta}
-use Rattle.bt_linear.specs.Lines.{one, Terms, HasNumber, IsLine, total, signed_terms}
+use Rattle.bt_linear_forms.specs.Lines.{one, Terms, HasNumber, IsLine, total, signed_terms}
 use Rattle.bt_pivot.specs.SolvedForms.{slot_at}
 use Rattle.bt_pivot.specs.Tableaus.{TableauParts}
 use Rattle.bt_pivot.specs.Points.{resting, standing, point_at, IsSamePoint, signed_point}
 use Rattle.bt_pivot.proofs.Failing.{point_is}
-use Rattle.bt_linear.proofs.Numbers.{alike, back, next}
+use Rattle.bt_linear_forms.proofs.Numbers.{alike, back, next}
 use Rattle.bt_pivot.proofs.Resting.{rest_value, rest_tiny}
-use Rattle.bt_linear.proofs.SignedLines.{negated_total, alone_line}
-use Rattle.bt_linear.proofs.Zeros.{one_some, one_term, one_times, negated_alike}
+use Rattle.bt_linear_forms.proofs.SignedLines.{negated_total, alone_line}
+use Rattle.bt_linear_forms.proofs.Zeros.{one_some, one_term, one_times, negated_alike}
 
 -- a line with the other sign adds up to the point with the other sign
 signed_same : (rest : ℕ → Delta) → AreValues (λ p. (rest p).value) → AreValues (λ p. (rest p).tiny) → (told : Bool) (d : Delta) (terms : Terms) → All HasNumber terms

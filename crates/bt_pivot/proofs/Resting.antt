@@ -10,15 +10,15 @@ use Rattle.bt_frac.specs.Values.{AreValues, nothing, plus, times}
 use Rattle.bt_frac.specs.declared.delta.Delta.{Delta}
 use Rattle.bt_frac.specs.declared.relation.Relation.{Relation}
 use Rattle.bt_frac.specs.declared.relation.Relation.TheVariants.{AtLeast, Above, Equal}
-use Rattle.bt_lin.specs.WeightedRows.{empty_row}
-use Rattle.bt_linear.specs.Lines.{Terms, HasNumber, total}
+use Rattle.bt_farkas.specs.WeightedRows.{empty_row}
+use Rattle.bt_linear_forms.specs.Lines.{Terms, HasNumber, total}
 use Rattle.bt_pivot.specs.Tableaus.{TableauParts, IsTableau}
 use Rattle.bt_pivot.specs.SolvedForms.{slot_at}
 use Rattle.std.proofs.lemmas.Bool.{cases_lt}
 use Rattle.std.proofs.lemmas.Bool.Decides.{nat_tests}
 use Rattle.bt_pivot.specs.Points.{bound_row, tiny_of, value_or_zero, resting, standing, point_at, IsSamePoint}
-use Rattle.bt_linear.proofs.Numbers.{Positive, nothing_some, Alike, alike, itself, back, next, both_plus, swap_plus, group_plus, plus_positive, times_positive}
-use Rattle.bt_linear.proofs.Totals.{total_positive}
+use Rattle.bt_linear_forms.proofs.Numbers.{Positive, nothing_some, Alike, alike, itself, back, next, both_plus, swap_plus, group_plus, plus_positive, times_positive}
+use Rattle.bt_linear_forms.proofs.Totals.{total_positive}
 
 pub tiny_some : (r : Relation) → Positive (tiny_of r)
 tiny_some AtLeast = omega arith

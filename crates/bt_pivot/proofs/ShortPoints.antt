@@ -13,18 +13,18 @@ use Rattle.bt_frac.specs.Values.{AreValues}
 use Rattle.bt_frac.specs.declared.delta.Delta.{Delta}
 use Rattle.bt_frac.specs.declared.relation.Relation.TheVariants.{Equal as AnEquation}
 use Rattle.bt_frac.proofs.Ring.{products, sums}
-use Rattle.bt_linear.specs.Lines.{one, Terms, HasNumber, IsLine, total, signed_terms}
+use Rattle.bt_linear_forms.specs.Lines.{one, Terms, HasNumber, IsLine, total, signed_terms}
 use Rattle.bt_pivot.specs.Points.{bound_row, resting, standing, Breaks, Fails, IsSamePoint, signed_point}
 use Rattle.bt_pivot.specs.Tableaus.{TableauParts, IsTableau}
 use Rattle.bt_pivot.specs.declared.short_points.Sums.{Sums}
 use Rattle.bt_pivot.specs.SolvedForms.{slot_at}
-use Rattle.bt_linear.specs.Shorts.{Numbers, reduced, terms_over, IsShort}
+use Rattle.bt_linear_forms.specs.Shorts.{Numbers, reduced, terms_over, IsShort}
 use Rattle.bt_pivot.specs.inner.ShortPoints.{AddsWhole, BreaksTiny, IsBreak}
 use Rattle.bt_pivot.specs.Sums.{delta_of}
-use Rattle.bt_linear.proofs.Shorts.{over_of, length_over, item_over, reduced_lowest, reduced_over}
+use Rattle.bt_linear_forms.proofs.Shorts.{over_of, length_over, item_over, reduced_lowest, reduced_over}
 use Rattle.bt_pivot.proofs.Failing.{fails_told}
 use Rattle.bt_pivot.proofs.Places.{line_place, like_place}
-use Rattle.bt_linear.proofs.Numbers.{Positive, Alike, alike, next}
+use Rattle.bt_linear_forms.proofs.Numbers.{Positive, Alike, alike, next}
 use Rattle.bt_pivot.proofs.Resting.{part_more, rest_value, rest_tiny}
 
 -- both sums over a denominator

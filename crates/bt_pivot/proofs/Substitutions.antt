@@ -1,8 +1,8 @@
 -- The slots of a pivot, of which the first are changed.
 use Rattle.std.proofs.Common.{◌≡◌, ◌<◌, ◌≤◌, length, ℕ}
-use Rattle.bt_linear.specs.Lines.{Terms}
+use Rattle.bt_linear_forms.specs.Lines.{Terms}
 use Rattle.bt_pivot.specs.SolvedForms.{Slots, slot_at}
-use Rattle.bt_linear.specs.Substituting.{IsSubstituted}
+use Rattle.bt_linear_forms.specs.Substituting.{IsSubstituted}
 
 -- the slots before this one are changed, and the others stand as they were
 pub record ArePartlySubstituted (position : ℕ) (zero : Terms) (slots slots' : Slots) (done : ℕ) : Type 0 where

@@ -9,24 +9,24 @@ use Rattle.bt_frac.specs.Products.{IsProduct, IsDivision}
 use Rattle.bt_frac.specs.Values.{nothing, times}
 use Rattle.bt_frac.proofs.Euclid.{lowest_same}
 use Rattle.bt_frac.proofs.Ring.{neg_mul}
-use Rattle.bt_lin.specs.WeightedRows.{coefficient_at}
-use Rattle.bt_linear.specs.Lines.{one, Terms, HasNumber, IsLine, total}
+use Rattle.bt_farkas.specs.WeightedRows.{coefficient_at}
+use Rattle.bt_linear_forms.specs.Lines.{one, Terms, HasNumber, IsLine, total}
 use Rattle.bt_pivot.specs.SolvedForms.{Slots, slot_at, basis_from}
-use Rattle.bt_linear.specs.Unfits.{IsNone, IsUnfitStep, IsUnfit, IsUnfitShare, IsUnfitZero}
+use Rattle.bt_linear_forms.specs.Unfits.{IsNone, IsUnfitStep, IsUnfit, IsUnfitShare, IsUnfitZero}
 use Rattle.bt_pivot.specs.Entries.{number_or_zero, number_in, entry_at, pivot_entry, IsShare, IsEntryStep}
 use Rattle.bt_pivot.specs.declared.basis.Pivot.{Pivot}
-use Rattle.bt_linear.specs.declared.unfit.Operation.{Operation}
-use Rattle.bt_linear.specs.declared.unfit.Operation.TheVariants.{Add, Mul, Div}
-use Rattle.bt_linear.specs.declared.unfit.Unfit.{Unfit}
+use Rattle.bt_linear_forms.specs.declared.unfit.Operation.{Operation}
+use Rattle.bt_linear_forms.specs.declared.unfit.Operation.TheVariants.{Add, Mul, Div}
+use Rattle.bt_linear_forms.specs.declared.unfit.Unfit.{Unfit}
 use Rattle.bt_pivot.specs.declared.causes.Cause.{Cause}
 use Rattle.bt_pivot.specs.inner.UnfitPivots.{AreAlike, HaveSameBasis, IsUnfitSlot, IsUnfitLine, IsUnfitPart, seen_right, entry_cause}
 use Rattle.bt_pivot.specs.PivotedSlots.{IsUnfitPivot}
-use Rattle.bt_linear.specs.Substituting.{IsZeroLine}
-use Rattle.bt_linear.proofs.Indicators.{decide, indicator, indicator_some, here_is, other_is, lacking_total, total_at, none_lacks, number_has, times_one}
-use Rattle.bt_linear.proofs.Numbers.{Positive, nothing_some, Alike, itself, back, next, both_plus, both_times, swap_plus, swap_times, group_times, drop_zero, times_positive, times_zero, negated_times, zero_alike}
-use Rattle.bt_linear.proofs.Shares.{negated_twice, negated_low}
-use Rattle.bt_linear.proofs.Zeros.{one_lowest, negated_alike, share_is}
-use Rattle.bt_linear.proofs.Zeros as zeros
+use Rattle.bt_linear_forms.specs.Substituting.{IsZeroLine}
+use Rattle.bt_linear_forms.proofs.Indicators.{decide, indicator, indicator_some, here_is, other_is, lacking_total, total_at, none_lacks, number_has, times_one}
+use Rattle.bt_linear_forms.proofs.Numbers.{Positive, nothing_some, Alike, itself, back, next, both_plus, both_times, swap_plus, swap_times, group_times, drop_zero, times_positive, times_zero, negated_times, zero_alike}
+use Rattle.bt_linear_forms.proofs.Shares.{negated_twice, negated_low}
+use Rattle.bt_linear_forms.proofs.Zeros.{one_lowest, negated_alike, share_is}
+use Rattle.bt_linear_forms.proofs.Zeros as zeros
 
 -- a product with the second number negated
 flipped : (left right f : Ratio) → IsProduct left (negated right) f → IsProduct left right (negated f)

@@ -2,7 +2,7 @@
 -- members.
 use Rattle.std.specs.Prelude.{◌≡◌, ◌<◌, ◌+◌, ◌==◌, Bool, true, false, List, ◌∷◌, length, Option, Some, None, slice_index_or, if◌then◌else◌, ℕ, []}
 use Rattle.bt_frac.specs.Ratio.{negated}
-use Rattle.bt_linear.specs.Lines.{one, Terms, signed_terms}
+use Rattle.bt_linear_forms.specs.Lines.{one, Terms, signed_terms}
 use Rattle.bt_pivot.specs.SolvedForms.{Slots, slot_at}
 use Rattle.bt_pivot.specs.declared.basis.Member.{Member}
 

@@ -1,11 +1,11 @@
 -- A pivot of a basis, slot by slot, and why one of its operations leaves 128 bits.
 use Rattle.std.specs.Prelude.{◌≡◌, ◌≢◌, length, Some, None, Option, ℕ}
 use Rattle.bt_frac.specs.Ratio.{Ratio}
-use Rattle.bt_lin.specs.WeightedRows.{coefficient_at}
-use Rattle.bt_linear.specs.Lines.{Terms, IsLine}
-use Rattle.bt_linear.specs.Substituting.{IsZeroLine, IsSubstituted, IsEntering}
+use Rattle.bt_farkas.specs.WeightedRows.{coefficient_at}
+use Rattle.bt_linear_forms.specs.Lines.{Terms, IsLine}
+use Rattle.bt_linear_forms.specs.Substituting.{IsZeroLine, IsSubstituted, IsEntering}
 use Rattle.bt_pivot.specs.SolvedForms.{Slots, slot_at, basis_of}
-use Rattle.bt_linear.specs.Unfits.{IsNone}
+use Rattle.bt_linear_forms.specs.Unfits.{IsNone}
 use Rattle.bt_pivot.specs.Entries.{IsEntryStep}
 use Rattle.bt_pivot.specs.declared.causes.WidePlace.TheVariants.{Entry}
 use Rattle.bt_pivot.specs.declared.causes.Cause.{Cause}

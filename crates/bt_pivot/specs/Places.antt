@@ -1,6 +1,6 @@
 -- Where a position stands.
 use Rattle.std.specs.Prelude.{◌≡◌, ◌<◌, ◌-◌, ◌^◌, ◌∷◌, Some, None, ℕ, []}
-use Rattle.bt_linear.specs.Lines.{one, signed_terms}
+use Rattle.bt_linear_forms.specs.Lines.{one, signed_terms}
 use Rattle.bt_pivot.specs.SolvedForms.{Slots, slot_at}
 use Rattle.bt_pivot.specs.declared.basis.Place.{Place}
 use Rattle.bt_pivot.specs.declared.basis.Place.TheVariants.{Line, Like, Outside}

@@ -6,8 +6,8 @@ use Rattle.bt_frac.specs.Values.{nothing}
 use Rattle.bt_frac.specs.declared.delta.Delta.{Delta}
 use Rattle.bt_frac.specs.declared.relation.Relation.{Relation}
 use Rattle.bt_frac.specs.declared.relation.Relation.TheVariants.{AtLeast, Above, Equal}
-use Rattle.bt_lin.specs.WeightedRows.{empty_row}
-use Rattle.bt_linear.specs.Lines.{one, Terms, total}
+use Rattle.bt_farkas.specs.WeightedRows.{empty_row}
+use Rattle.bt_linear_forms.specs.Lines.{one, Terms, total}
 use Rattle.bt_pivot.specs.SolvedForms.{slot_at, InBasis}
 use Rattle.bt_pivot.specs.Tableaus.{TableauParts}
 use Rattle.std.specs.declared.cmp.Ordering.{Ordering}

@@ -5,8 +5,8 @@ use Rattle.std.specs.List.{All}
 use Rattle.bt_frac.specs.Ratio.{Ratio, SameRatio}
 use Rattle.bt_frac.specs.Rows.{RowParts}
 use Rattle.bt_frac.specs.Values.{AreValues}
-use Rattle.bt_lin.specs.WeightedRows.{empty_row}
-use Rattle.bt_linear.specs.Lines.{Terms, IsLine, total}
+use Rattle.bt_farkas.specs.WeightedRows.{empty_row}
+use Rattle.bt_linear_forms.specs.Lines.{Terms, IsLine, total}
 
 -- for each position its line, where the position is in the basis
 abbrev pub Slots : Type 0

@@ -2,7 +2,7 @@
 use Rattle.std.specs.Prelude.{◌≡◌, ◌<◌, ◌^◌, Some, List, Option, None, IfSome, slice_index_or, ℕ}
 use Rattle.bt_frac.specs.declared.delta.Delta.{Delta}
 use Rattle.bt_pivot.specs.Points.{resting, standing, IsSamePoint}
-use Rattle.bt_linear.specs.Lines.{Terms}
+use Rattle.bt_linear_forms.specs.Lines.{Terms}
 use Rattle.bt_pivot.specs.SolvedForms.{Slots, slot_at}
 use Rattle.bt_pivot.specs.Tableaus.{TableauParts}
 use Rattle.bt_pivot.specs.declared.short_points.Sums.{Sums}

@@ -3,13 +3,13 @@
 //! which member is outside.
 ghost use Rattle.std.specs.Prelude.{◌≡◌, ◌<◌, ◌↔◌, ◌++◌, ◌∷◌, [], length, IfOk, IfSome, IsTrue, Some, None, true};
 ghost use Rattle.bt_frac.specs.Ratio.{negated};
-ghost use Rattle.bt_linear.specs.Lines.{one, IsLine, signed_terms};
+ghost use Rattle.bt_linear_forms.specs.Lines.{one, IsLine, signed_terms};
 ghost use Rattle.bt_pivot.specs.Classes.{differ, class_terms, position_at};
 ghost use Rattle.bt_pivot.specs.SolvedForms.{slot_at, InBasis};
 ghost use Rattle.bt_pivot.specs.Places.{IsPlace};
 
 use bt_frac::Frac;
-use bt_linear::{Line, Room, Term, lone_line};
+use bt_linear_forms::{Line, Room, Term, lone_line};
 use std::alloc::{AllocError, Global};
 use std::marker::Model;
 

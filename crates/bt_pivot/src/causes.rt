@@ -1,6 +1,6 @@
 //! Operations whose results leave 128 bits.
 use bt_frac::Frac;
-use bt_linear::Operation;
+use bt_linear_forms::Operation;
 
 /// An operation on two numbers whose result leaves 128 bits, and what it was for.
 #[derive(Clone, Copy)]

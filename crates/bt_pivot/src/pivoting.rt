@@ -3,13 +3,13 @@
 //! position: one walk over two lines.
 ghost use Rattle.std.specs.Prelude.{◌≡◌, ◌≢◌, ◌<◌, ◌-◌, ◌^◌, length, slice_set, IfOk, IfErr, Some, None};
 ghost use Rattle.bt_frac.specs.Ratio.{negated};
-ghost use Rattle.bt_lin.specs.WeightedRows.{coefficient_at};
-ghost use Rattle.bt_linear.specs.Lines.{one, Terms};
+ghost use Rattle.bt_farkas.specs.WeightedRows.{coefficient_at};
+ghost use Rattle.bt_linear_forms.specs.Lines.{one, Terms};
 ghost use Rattle.bt_pivot.specs.Classes.{position_at};
 ghost use Rattle.bt_pivot.specs.SolvedForms.{slot_at};
-ghost use Rattle.bt_linear.specs.Changes.{IsChange};
+ghost use Rattle.bt_linear_forms.specs.Changes.{IsChange};
 ghost use Rattle.bt_pivot.specs.Tableaus.{TableauParts};
-ghost use Rattle.bt_linear.specs.Substituting.{IsSubstituted, IsUnfitChange, IsEntering};
+ghost use Rattle.bt_linear_forms.specs.Substituting.{IsSubstituted, IsUnfitChange, IsEntering};
 ghost use Rattle.bt_pivot.specs.PivotedSlots.{AreLines, IsPivoted, CanPart, IsUnfitPivot};
 ghost use Rattle.bt_pivot.specs.inner.PivotedSlots.{AreSubstituted, with_line, IsSignedEntering};
 ghost use Rattle.bt_pivot.specs.inner.SumCache.{LinesStay, OthersStay};
@@ -22,7 +22,7 @@ use crate::sum_cache::{SumCache, sums_of};
 use crate::table::Table;
 use crate::workspace::Rooms;
 use bt_frac::Frac;
-use bt_linear::{Change, Line, Operation, Room, Unfit, combined, zero_line};
+use bt_linear_forms::{Change, Line, Operation, Room, Unfit, combined, zero_line};
 use std::alloc::{AllocError, Global};
 
 /// Puts what the entering position stands for in place of it in the line of a slot, by small whole numbers. An empty

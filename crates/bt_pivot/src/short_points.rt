@@ -6,14 +6,14 @@ ghost use Rattle.bt_frac.specs.Deltas.{IsOrderOfDeltas};
 ghost use Rattle.bt_pivot.specs.Points.{resting, standing, IsSamePoint, signed_point};
 ghost use Rattle.bt_pivot.specs.inner.Carrying.{AreCarried};
 ghost use Rattle.bt_pivot.specs.inner.Rests.{rest_point};
-ghost use Rattle.bt_linear.specs.Shorts.{IsSmall};
+ghost use Rattle.bt_linear_forms.specs.Shorts.{IsSmall};
 ghost use Rattle.bt_pivot.specs.inner.ShortPoints.{AddsWhole, TellsBreak, BreaksTiny};
 ghost use Rattle.bt_pivot.specs.Sums.{delta_of};
 
 use crate::rests::Rest;
 use crate::table::Table;
 use bt_frac::{Delta, Relation};
-use bt_linear::{Scales, Short, number};
+use bt_linear_forms::{Scales, Short, number};
 use std::cmp::Ordering;
 
 /// The sums of terms where their positions rest, over the denominator of their line.

@@ -2,13 +2,13 @@
 ghost use Rattle.std.specs.Prelude.{◌≡◌, ◌↔◌, ◌<◌, IfOk, IsTrue, replicate, None, false};
 ghost use Rattle.std.specs.List.{All};
 ghost use Rattle.bt_frac.specs.Rows.{IsRow};
-ghost use Rattle.bt_linear.specs.Lines.{IsLine};
+ghost use Rattle.bt_linear_forms.specs.Lines.{IsLine};
 ghost use Rattle.bt_pivot.specs.Tableaus.{AreOverColumns};
 ghost use Rattle.bt_pivot.specs.inner.Starts.{kept, start_slots};
 
 use crate::basis::Basis;
 use bt_frac::Row;
-use bt_linear::{Term, is_zero};
+use bt_linear_forms::{Term, is_zero};
 use std::alloc::{AllocError, Global};
 
 /// The terms of a row's line: those whose numbers aren't 0.

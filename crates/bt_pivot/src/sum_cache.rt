@@ -11,7 +11,7 @@ ghost use Rattle.bt_pivot.specs.inner.SumCache.{IsFormed, Carries, Forgets, Keep
 use crate::basis::Member;
 use crate::short_points::{ClassSums, Sums, carried, short_sums};
 use crate::table::Table;
-use bt_linear::{Line, Scales};
+use bt_linear_forms::{Line, Scales};
 use std::alloc::{AllocError, Global};
 
 /// For each class the sums of its line, where these are at hand.

@@ -4,7 +4,7 @@ ghost use Rattle.std.specs.Prelude.{◌≡◌, [], IfOk};
 
 use crate::basis::Basis;
 use crate::sum_cache::SumCache;
-use bt_linear::{Line, Room};
+use bt_linear_forms::{Line, Room};
 use std::alloc::{AllocError, Global};
 
 /// Memory for lines.

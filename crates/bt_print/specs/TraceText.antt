@@ -8,8 +8,8 @@ use Rattle.bt_simplex.specs.declared.answers.PivotTrace.{PivotTrace}
 use Rattle.bt_simplex.specs.declared.answers.Wide.{Wide}
 use Rattle.bt_pivot.specs.declared.causes.WidePlace.{WidePlace}
 use Rattle.bt_pivot.specs.declared.causes.WidePlace.TheVariants.{Entry, Value, Settle, Lemma}
-use Rattle.bt_linear.specs.declared.unfit.Operation.{Operation}
-use Rattle.bt_linear.specs.declared.unfit.Operation.TheVariants.{Add, Mul, Div}
+use Rattle.bt_linear_forms.specs.declared.unfit.Operation.{Operation}
+use Rattle.bt_linear_forms.specs.declared.unfit.Operation.TheVariants.{Add, Mul, Div}
 
 -- a number with a space in front
 abbrev pub number_text : ℕ → List ℕ

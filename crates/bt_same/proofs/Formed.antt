@@ -10,15 +10,15 @@ use Rattle.bt_cnf.specs.declared.literal.Lit.{Lit}
 use Rattle.bt_cnf.specs.Formulas.{LitsBelow, AscendBelow, IsFormula}
 use Rattle.bt_net.specs.Network.{Network, IsNetwork}
 use Rattle.bt_flow.specs.EndEdges.{output_edge}
-use Rattle.bt_fenc.specs.Numbering.{mentioned, rows_in, atoms_from}
-use Rattle.bt_fenc.specs.Properties.{differ}
-use Rattle.bt_fenc.specs.FlowFormula.{steady_clauses, steady_formula}
-use Rattle.bt_fenc.proofs.FlowRows.{MentionsRow, above_row, steady_rows}
-use Rattle.bt_fenc.proofs.Formulas.{numbered_is_formula, ascend, are_rows, steady_is_formula}
-use Rattle.bt_fenc.proofs.Narrow.{IsNarrow, IsNarrowRow, output_narrow, steady_narrow}
-use Rattle.bt_fenc.proofs.Numbers.{all_from, all_to, atoms-append}
-use Rattle.bt_fenc.proofs.Sizes.{steady_formulas_small}
-use Rattle.bt_fenc.proofs.Withins.{each-three, each-flat_map, each-map, each_any}
+use Rattle.bt_flow_formula.specs.Numbering.{mentioned, rows_in, atoms_from}
+use Rattle.bt_flow_formula.specs.Properties.{differ}
+use Rattle.bt_flow_formula.specs.FlowFormula.{steady_clauses, steady_formula}
+use Rattle.bt_flow_formula.proofs.FlowRows.{MentionsRow, above_row, steady_rows}
+use Rattle.bt_flow_formula.proofs.Formulas.{numbered_is_formula, ascend, are_rows, steady_is_formula}
+use Rattle.bt_flow_formula.proofs.Narrow.{IsNarrow, IsNarrowRow, output_narrow, steady_narrow}
+use Rattle.bt_flow_formula.proofs.Numbers.{all_from, all_to, atoms-append}
+use Rattle.bt_flow_formula.proofs.Sizes.{steady_formulas_small}
+use Rattle.bt_flow_formula.proofs.Withins.{each-three, each-flat_map, each-map, each_any}
 use Rattle.bt_same.specs.declared.shift.Shift.{Shift}
 use Rattle.bt_same.specs.SameFormula.{shifted, first_shift, second_columns, second_vars, moved_lits, moved_row, moved_atoms, difference, difference_formula, same_formula}
 use Rattle.bt_same.specs.Sizes.{SameFormulasAreFormulas, SameFormulasAreSmall}

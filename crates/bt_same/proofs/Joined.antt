@@ -7,10 +7,10 @@ use Rattle.bt_cnf.specs.declared.literal.Lit.{Lit}
 use Rattle.bt_cnf.specs.Formulas.{FormulaParts}
 use Rattle.bt_net.specs.Network.{Network}
 use Rattle.bt_arena.proofs.Loops.{mapped_more, place_more}
-use Rattle.bt_fenc.specs.Columns.{above}
-use Rattle.bt_fenc.specs.Numbering.{rows_in, atoms_from}
-use Rattle.bt_fenc.specs.FlowFormula.{steady_clauses, steady_formula}
-use Rattle.bt_fenc.proofs.Numbers.{atoms-append}
+use Rattle.bt_flow_formula.specs.Columns.{above}
+use Rattle.bt_flow_formula.specs.Numbering.{rows_in, atoms_from}
+use Rattle.bt_flow_formula.specs.FlowFormula.{steady_clauses, steady_formula}
+use Rattle.bt_flow_formula.proofs.Numbers.{atoms-append}
 use Rattle.bt_same.specs.declared.shift.Shift.{Shift}
 use Rattle.bt_same.specs.SameFormula.{first_shift, second_columns, second_vars, moved_lits, moved_row, moved_atoms}
 use Rattle.bt_same.specs.inner.Joining.{rows_of, with_rows, with_lits, hold_from, differing_rows, networks_formula}

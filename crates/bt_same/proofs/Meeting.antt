@@ -11,16 +11,16 @@ use Rattle.bt_flow.specs.States.{Flows, flow_at, load_at, room_at}
 use Rattle.bt_cnf.specs.declared.literal.Lit.{Lit}
 use Rattle.bt_cnf.specs.Meeting.{MeetsClause, Meets}
 use Rattle.bt_flow.specs.EndEdges.{output_edge, load_column, room_column}
-use Rattle.bt_fenc.specs.Properties.{differ}
-use Rattle.bt_fenc.specs.Laws.{HasTrue}
-use Rattle.bt_fenc.specs.FlowFormula.{steady_formula}
-use Rattle.bt_fenc.specs.Solutions.{HasValues}
-use Rattle.bt_fenc.proofs.Numbers.{all_from, all_to}
-use Rattle.bt_fenc.proofs.Withins.{each-left, each-right, each-range}
-use Rattle.bt_fenc.proofs.NetEdges.{output_is}
-use Rattle.bt_fenc.proofs.RowValues.{above_says}
-use Rattle.bt_fenc.proofs.Claimed.{met_claims}
-use Rattle.bt_fenc.proofs.Solved.{meeting_is_steady}
+use Rattle.bt_flow_formula.specs.Properties.{differ}
+use Rattle.bt_flow_formula.specs.Laws.{HasTrue}
+use Rattle.bt_flow_formula.specs.FlowFormula.{steady_formula}
+use Rattle.bt_flow_formula.specs.Solutions.{HasValues}
+use Rattle.bt_flow_formula.proofs.Numbers.{all_from, all_to}
+use Rattle.bt_flow_formula.proofs.Withins.{each-left, each-right, each-range}
+use Rattle.bt_flow_formula.proofs.NetEdges.{output_is}
+use Rattle.bt_flow_formula.proofs.RowValues.{above_says}
+use Rattle.bt_flow_formula.proofs.Claimed.{met_claims}
+use Rattle.bt_flow_formula.proofs.Solved.{meeting_is_steady}
 use Rattle.std.proofs.lemmas.Option.{slice_get_within}
 use Rattle.bt_same.specs.Sameness.{HaveEqualEnds, AreFedAlike, GiveAlike, ShowsDifference}
 use Rattle.bt_same.specs.SameFormula.{shifted, first_shift, second_columns, second_vars, moved_lits, moved_atoms, difference, difference_formula, same_formula}

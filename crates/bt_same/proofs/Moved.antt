@@ -8,9 +8,9 @@ use Rattle.bt_frac.specs.Values.{RowHolds, Stands, sum_of_products, valued}
 use Rattle.bt_cnf.specs.declared.literal.Lit.{Lit}
 use Rattle.bt_cnf.specs.Formulas.{FormulaParts, AscendBelow}
 use Rattle.bt_cnf.specs.Meeting.{IsTrueUnder, MeetsClause, Meets}
-use Rattle.bt_fenc.specs.Numbering.{atoms_from}
-use Rattle.bt_fenc.proofs.Numbers.{all_from}
-use Rattle.bt_fenc.proofs.Withins.{from_map}
+use Rattle.bt_flow_formula.specs.Numbering.{atoms_from}
+use Rattle.bt_flow_formula.proofs.Numbers.{all_from}
+use Rattle.bt_flow_formula.proofs.Withins.{from_map}
 use Rattle.bt_same.specs.declared.shift.Shift.{Shift}
 use Rattle.bt_same.specs.SameFormula.{shifted, moved_lits, moved_row, moved_atoms}
 use Rattle.bt_same.proofs.Lists.{some_or, none_in, some_here, some_later, each_weaker}

@@ -17,7 +17,7 @@ use Rattle.bt_flow.specs.StateLines.{just, numbers, marks, lines_of, IsFirstWron
 use Rattle.bt_flow.proofs.LineTexts.{HasLinesFirst, lines_and_blanks, numbers_lack, marks_lack, numbers_filled, marks_filled, same_numbers, same_marks}
 use Rattle.bt_flow.proofs.StateTexts.{same_fractions_of}
 use Rattle.bt_flow.proofs.WrongLines.{AreRight, all_later, one_wrong, right_none_wrong}
-use Rattle.bt_fenc.proofs.Numbers.{all_from}
+use Rattle.bt_flow_formula.proofs.Numbers.{all_from}
 use Rattle.bt_same.specs.declared.pair.Pair.{Pair}
 use Rattle.bt_same.specs.Pairs.{AreAlike}
 use Rattle.bt_same.specs.PairText.{pair_lines, IsPairText}

@@ -11,8 +11,8 @@ use Rattle.bt_frac.proofs.Euclid.{over_unique}
 use Rattle.bt_net.specs.Network.{Network, IsNetwork}
 use Rattle.bt_flow.specs.States.{Flows, Fractions, AreLowest, StandsFor, Fits, flow_at}
 use Rattle.bt_flow.specs.EndEdges.{output_edge}
-use Rattle.bt_fenc.proofs.Numbers.{all_to}
-use Rattle.bt_fenc.proofs.NetEdges.{output_is, edge_of_output}
+use Rattle.bt_flow_formula.proofs.Numbers.{all_to}
+use Rattle.bt_flow_formula.proofs.NetEdges.{output_is, edge_of_output}
 use Rattle.bt_same.specs.Sameness.{HaveEqualEnds, AreFedAlike, GiveAlike}
 use Rattle.bt_same.specs.Pairs.{AreAlike, StandForBoth}
 use Rattle.bt_same.specs.inner.Comparing.{OutputsAlike}

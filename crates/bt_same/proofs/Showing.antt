@@ -13,18 +13,18 @@ use Rattle.bt_cnf.specs.declared.literal.Lit.{Lit}
 use Rattle.bt_cnf.specs.Formulas.{LitsBelow}
 use Rattle.bt_cnf.specs.Meeting.{MeetsClause, Meets}
 use Rattle.bt_flow.specs.EndEdges.{output_edge}
-use Rattle.bt_fenc.specs.Properties.{differ}
-use Rattle.bt_fenc.specs.Laws.{IsMetWith, HasTrue, values_of}
-use Rattle.bt_fenc.specs.FlowFormula.{steady_clauses, steady_formula, variable_of}
-use Rattle.bt_fenc.proofs.Numbers.{all_from, all_to}
-use Rattle.bt_fenc.proofs.Withins.{each-append, at_range}
-use Rattle.bt_fenc.proofs.Orders.{order}
-use Rattle.bt_fenc.proofs.NetEdges.{output_is, edge_of_output}
-use Rattle.bt_fenc.proofs.RowValues.{above_says}
-use Rattle.bt_fenc.proofs.Formulas.{steady_is_formula}
-use Rattle.bt_fenc.proofs.TrueClaims.{true_claims_meet}
-use Rattle.bt_fenc.proofs.Named.{families_named}
-use Rattle.bt_fenc.proofs.Admitted.{families_true}
+use Rattle.bt_flow_formula.specs.Properties.{differ}
+use Rattle.bt_flow_formula.specs.Laws.{IsMetWith, HasTrue, values_of}
+use Rattle.bt_flow_formula.specs.FlowFormula.{steady_clauses, steady_formula, variable_of}
+use Rattle.bt_flow_formula.proofs.Numbers.{all_from, all_to}
+use Rattle.bt_flow_formula.proofs.Withins.{each-append, at_range}
+use Rattle.bt_flow_formula.proofs.Orders.{order}
+use Rattle.bt_flow_formula.proofs.NetEdges.{output_is, edge_of_output}
+use Rattle.bt_flow_formula.proofs.RowValues.{above_says}
+use Rattle.bt_flow_formula.proofs.Formulas.{steady_is_formula}
+use Rattle.bt_flow_formula.proofs.TrueClaims.{true_claims_meet}
+use Rattle.bt_flow_formula.proofs.Named.{families_named}
+use Rattle.bt_flow_formula.proofs.Admitted.{families_true}
 use Rattle.std.proofs.lemmas.Option.{slice_get_within}
 use Rattle.bt_same.specs.Sameness.{HaveEqualEnds, IsSteadyState, ShowsDifference}
 use Rattle.bt_same.specs.SameFormula.{shifted, first_shift, second_columns, second_vars, moved_lits, moved_atoms, difference, difference_formula, same_formula}

@@ -5,12 +5,12 @@ use Rattle.bt_frac.specs.Rows.{RowParts}
 use Rattle.bt_cnf.specs.declared.literal.Lit.{Lit}
 use Rattle.bt_cnf.specs.Formulas.{FormulaParts}
 use Rattle.bt_net.specs.Network.{Network}
-use Rattle.bt_fenc.specs.declared.state_literal.Pair.{Pair}
-use Rattle.bt_fenc.specs.declared.state_literal.StateLiteral.{StateLiteral}
+use Rattle.bt_flow_formula.specs.declared.state_literal.Pair.{Pair}
+use Rattle.bt_flow_formula.specs.declared.state_literal.StateLiteral.{StateLiteral}
 use Rattle.bt_flow.specs.EndEdges.{output_edge}
-use Rattle.bt_fenc.specs.Properties.{differ}
-use Rattle.bt_fenc.specs.Numbering.{mentioned, rows_in, literals_from, atoms_from, IsNamed, AreNamed}
-use Rattle.bt_fenc.specs.FlowFormula.{steady_formula}
+use Rattle.bt_flow_formula.specs.Properties.{differ}
+use Rattle.bt_flow_formula.specs.Numbering.{mentioned, rows_in, literals_from, atoms_from, IsNamed, AreNamed}
+use Rattle.bt_flow_formula.specs.FlowFormula.{steady_formula}
 use Rattle.bt_same.specs.SameFormula.{first_shift, second_columns, second_vars, moved_lits, moved_atoms, difference, same_formula}
 use Rattle.bt_same.specs.inner.Joining.{with_rows, with_lits, hold_from, differing_rows, difference_rows, networks_formula}
 use Rattle.bt_same.proofs.Joined.{same_parts}

@@ -8,9 +8,9 @@ use Rattle.bt_net.specs.Network.{Network, IsNetwork}
 use Rattle.bt_flow.specs.States.{Flows, Fractions, AreLowest, Fits, StandsFor}
 use Rattle.bt_cnf.specs.Assignments.{truth_in}
 use Rattle.bt_flow.specs.EndEdges.{load_column, room_column}
-use Rattle.bt_fenc.specs.Solutions.{HasValues, state_at}
-use Rattle.bt_fenc.proofs.Numbers.{all_to}
-use Rattle.bt_fenc.proofs.States.{fits, has_values}
+use Rattle.bt_flow_formula.specs.Solutions.{HasValues, state_at}
+use Rattle.bt_flow_formula.proofs.Numbers.{all_to}
+use Rattle.bt_flow_formula.proofs.States.{fits, has_values}
 use Rattle.bt_same.specs.Sameness.{HaveEqualEnds}
 use Rattle.bt_same.specs.SameFormula.{shifted, first_shift, second_columns, second_vars}
 use Rattle.bt_same.specs.Solutions.{ShowsWhereMet}

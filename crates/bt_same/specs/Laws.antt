@@ -10,8 +10,8 @@ use Rattle.bt_cnf.specs.Meeting.{Meets}
 use Rattle.bt_log.specs.Laws.{IsUnmet}
 use Rattle.bt_log.specs.Logs.{Step}
 use Rattle.bt_log.specs.Refuting.{Refutes}
-use Rattle.bt_fenc.specs.Laws.{values_of}
-use Rattle.bt_fenc.specs.Solutions.{HasValues}
+use Rattle.bt_flow_formula.specs.Laws.{values_of}
+use Rattle.bt_flow_formula.specs.Solutions.{HasValues}
 use Rattle.bt_same.specs.Sameness.{HaveEqualEnds, AreSame, ShowsDifference}
 use Rattle.bt_same.specs.SameFormula.{shifted, first_shift, second_columns, second_vars, same_formula}
 

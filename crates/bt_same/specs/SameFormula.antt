@@ -5,11 +5,11 @@ use Rattle.bt_frac.specs.Rows.{RowParts}
 use Rattle.bt_net.specs.Network.{Network}
 use Rattle.bt_cnf.specs.declared.literal.Lit.{Lit}
 use Rattle.bt_cnf.specs.Formulas.{FormulaParts}
-use Rattle.bt_fenc.specs.declared.state_literal.StateLiteral.{StateLiteral}
+use Rattle.bt_flow_formula.specs.declared.state_literal.StateLiteral.{StateLiteral}
 use Rattle.bt_flow.specs.EndEdges.{output_edge}
-use Rattle.bt_fenc.specs.Properties.{differ}
-use Rattle.bt_fenc.specs.Numbering.{formula_of}
-use Rattle.bt_fenc.specs.FlowFormula.{steady_formula}
+use Rattle.bt_flow_formula.specs.Properties.{differ}
+use Rattle.bt_flow_formula.specs.Numbering.{formula_of}
+use Rattle.bt_flow_formula.specs.FlowFormula.{steady_formula}
 use Rattle.bt_same.specs.declared.shift.Shift.{Shift}
 
 -- a number of one network's formula, in that of two: those of its edges go so far, and those behind them so far

@@ -1,11 +1,11 @@
 //! The clause that the flows of some output differ.
 ghost use Rattle.std.specs.Prelude.{◌≡◌, ◌<◌, ◌-◌, ◌^◌, ◌∷◌, [], OnOk, IfOk, true};
-ghost use Rattle.bt_fenc.specs.Columns as columns;
+ghost use Rattle.bt_flow_formula.specs.Columns as columns;
 ghost use Rattle.bt_same.specs.inner.Joining.{with_rows, with_lits, hold_from, difference_rows};
 
 use bt_cnf::{Formula, Lit};
-use bt_fenc::above;
 use bt_flow::{Ports, output_edge};
+use bt_flow_formula::above;
 use bt_net::Net;
 use std::alloc::{AllocError, Global};
 

@@ -2,7 +2,7 @@
 ghost use Rattle.std.specs.Prelude.{◌≡◌, IfOk, OnOk};
 ghost use Rattle.bt_net.specs.Network.{IsNetwork};
 ghost use Rattle.bt_cnf.specs.Formulas.{IsFormula};
-ghost use Rattle.bt_fenc.specs.FlowFormula.{steady_formula};
+ghost use Rattle.bt_flow_formula.specs.FlowFormula.{steady_formula};
 ghost use Rattle.bt_same.specs.Sameness.{HaveEqualEnds};
 ghost use Rattle.bt_same.specs.SameFormula.{same_formula};
 ghost use Rattle.bt_same.specs.inner.Joining.{networks_formula};
@@ -11,7 +11,7 @@ use crate::difference::add_difference;
 use crate::joining::{add_clauses, add_rows};
 use crate::shift::Shift;
 use bt_cnf::Formula;
-use bt_fenc::encode_steady;
+use bt_flow_formula::encode_steady;
 use bt_net::Net;
 use std::alloc::{AllocError, Global};
 

@@ -1,6 +1,6 @@
 -- The list of a basis, position by position.
 use Rattle.std.proofs.Common.{◌≡◌, zero, suc, ◌+◌, ◌<◌, arith, drop, List, ◌∷◌, ◌++◌, length, Option, Some, None, ap, ◌∙◌, refl, ℕ, []}
-use Rattle.bt_linear.specs.Lines.{Terms}
+use Rattle.bt_linear_forms.specs.Lines.{Terms}
 use Rattle.bt_pivot.specs.SolvedForms.{Slots, slot_at, basis_from, InBasis}
 
 slot_next : (slots : Slots) (p : ℕ) → p < length slots → drop p slots ≡ slot_at slots p ∷ drop (suc p) slots

@@ -6,7 +6,7 @@ use Rattle.std.proofs.lemmas.Bool.Decides.{nat_tests}
 use Rattle.std.proofs.lemmas.List.Elements.{All-head, All-tail}
 use Rattle.std.proofs.lemmas.Map.Steps.{length-le_from_distinct_below}
 use Rattle.bt_simplex.specs.Counting.{AscendsFrom, IsAscendingOf, ascending_lists}
-use Rattle.bt_linear.proofs.Indicators.{decide}
+use Rattle.bt_linear_forms.proofs.Indicators.{decide}
 
 -- the number of an ascending list among those of its length, from a least number on
 rank : ℕ → ℕ → List ℕ → ℕ

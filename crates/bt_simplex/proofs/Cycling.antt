@@ -6,7 +6,7 @@ use Rattle.bt_frac.specs.Rows.{RowParts}
 use Rattle.bt_frac.specs.Values.{times}
 use Rattle.bt_frac.specs.declared.delta.Delta.{Delta}
 use Rattle.bt_frac.specs.declared.relation.Relation.TheVariants.{Equal}
-use Rattle.bt_lin.specs.WeightedRows.{coefficient_at}
+use Rattle.bt_farkas.specs.WeightedRows.{coefficient_at}
 use Rattle.bt_simplex.specs.Laws.{NoBasisComesBack}
 use Rattle.bt_pivot.specs.Points.{bound_value, bound_row, value_or_zero, resting, standing, point_at, Breaks, Fails}
 use Rattle.bt_pivot.specs.SolvedForms.{Slots, IsOutside, InBasis}
@@ -14,7 +14,7 @@ use Rattle.bt_pivot.specs.Tableaus.{TableauParts, IsTableau, with_slots}
 use Rattle.bt_simplex.specs.Pivots.{MovesTowards, MayMove, IsBlandPivot, Follows}
 use Rattle.bt_pivot.specs.declared.basis.Pivot.{Pivot}
 use Rattle.bt_pivot.proofs.Failing.{row_is}
-use Rattle.bt_linear.proofs.Indicators.{decide}
+use Rattle.bt_linear_forms.proofs.Indicators.{decide}
 use Rattle.bt_simplex.proofs.Lexical.{IsUp, less, HasSome, still_up, rises_up, falls_up, less_than}
 use Rattle.bt_simplex.proofs.Refutations.{line_all, never_both}
 use Rattle.bt_pivot.proofs.Resting.{point_some, rest_value, rest_tiny, bound_within}
@@ -22,7 +22,7 @@ use Rattle.bt_simplex.proofs.Signs.{IsAbove}
 use Rattle.bt_simplex.proofs.BasisOf.{same_members}
 use Rattle.bt_simplex.proofs.Stretches.{in_or_out, not_in, enters_out, leaves_in, Made, IsMadeOf, Moves, IsMadeAt, made_at, enters_leaves, leaves_enters, differs_moves, IsGreatest, greatest}
 use Rattle.bt_simplex.proofs.TwoPoints.{not_higher}
-use Rattle.bt_linear.proofs.Zeros.{named_has}
+use Rattle.bt_linear_forms.proofs.Zeros.{named_has}
 
 -- the position is a bound row that is no equation
 pub record IsOneSided (t : TableauParts) (position : ℕ) : Type 0 where

@@ -2,13 +2,13 @@
 use Rattle.std.proofs.Common.{◌≡◌, ◌≢◌, ◌+◌, ◌<◌, ◌≤◌, arith, length, get_or, drop, ◌∷◌, Some, None, sym, ◌∙◌, refl, subst, inl, inr, ℕ, []}
 use Rattle.std.proofs.lemmas.List.{drop_all}
 use Rattle.bt_frac.specs.Ratio.{Ratio}
-use Rattle.bt_lin.specs.WeightedRows.{coefficient_at}
-use Rattle.bt_linear.specs.Lines.{Terms, IsLineFrom}
+use Rattle.bt_farkas.specs.WeightedRows.{coefficient_at}
+use Rattle.bt_linear_forms.specs.Lines.{Terms, IsLineFrom}
 use Rattle.bt_simplex.specs.Pivots.{IsLeast}
 use Rattle.bt_simplex.specs.inner.Bases.{Names}
-use Rattle.bt_linear.proofs.Indicators.{decide}
-use Rattle.bt_linear.proofs.Totals.{rest_line}
-use Rattle.bt_linear.proofs.NamedTerms.{number_here, number_later, named_from, drop_here}
+use Rattle.bt_linear_forms.proofs.Indicators.{decide}
+use Rattle.bt_linear_forms.proofs.Totals.{rest_line}
+use Rattle.bt_linear_forms.proofs.NamedTerms.{number_here, number_later, named_from, drop_here}
 
 -- what has the property is named in what is left of a line, with the numbers of the whole line
 pub record IsAhead (P : ℕ → Ratio → Type 0) (terms left : Terms) : Type 0 where

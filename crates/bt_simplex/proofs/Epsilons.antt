@@ -7,26 +7,26 @@ use Rattle.bt_frac.specs.Products.{IsProduct, IsDivision}
 use Rattle.bt_frac.specs.Rows.{RowParts}
 use Rattle.bt_frac.specs.Values.{plus, times}
 use Rattle.bt_frac.specs.declared.delta.Delta.{Delta}
-use Rattle.bt_lin.proofs.SameNumbers.{stands_same}
+use Rattle.bt_farkas.proofs.SameNumbers.{stands_same}
 use Rattle.bt_frac.specs.declared.relation.Relation.TheVariants.{AtLeast}
-use Rattle.bt_linear.specs.Lines.{one}
+use Rattle.bt_linear_forms.specs.Lines.{one}
 use Rattle.bt_pivot.specs.Tableaus.{TableauParts, IsTableau}
 use Rattle.bt_pivot.specs.Points.{bound_row, point_at, IsSamePoint}
-use Rattle.bt_linear.specs.Unfits.{IsNone}
+use Rattle.bt_linear_forms.specs.Unfits.{IsNone}
 use Rattle.bt_simplex.specs.Causes.{IsNumber, IsFalling, IsHalfRoom, IsEpsilon, IsRoomStep, IsStepAt, IsCause, gap}
 use Rattle.bt_simplex.specs.Pivots.{IsMet}
-use Rattle.bt_linear.specs.declared.unfit.Operation.{Operation}
-use Rattle.bt_linear.specs.declared.unfit.Operation.TheVariants.{Add, Mul, Div}
+use Rattle.bt_linear_forms.specs.declared.unfit.Operation.{Operation}
+use Rattle.bt_linear_forms.specs.declared.unfit.Operation.TheVariants.{Add, Mul, Div}
 use Rattle.bt_pivot.specs.declared.causes.WidePlace.TheVariants.{Settle}
 use Rattle.bt_pivot.specs.declared.causes.Cause.{Cause}
 use Rattle.bt_simplex.specs.inner.Settling.{IsSettled, IsFallingFrom, gap_of, IsRoom, IsRoomNumbers, IsUnfitRoom, IsLesser}
 use Rattle.bt_pivot.proofs.Failing.{less_right, row_is}
-use Rattle.bt_linear.proofs.Numbers.{Positive, Alike, alike, itself, back, next, both_plus, both_times, swap_times, group_times, plus_positive, times_positive}
+use Rattle.bt_linear_forms.proofs.Numbers.{Positive, Alike, alike, itself, back, next, both_plus, both_times, swap_times, group_times, plus_positive, times_positive}
 use Rattle.bt_pivot.proofs.Resting.{point_some, bound_some_of, bound_within}
-use Rattle.bt_linear.proofs.Shares.{negated_low}
+use Rattle.bt_linear_forms.proofs.Shares.{negated_low}
 use Rattle.bt_simplex.proofs.Signs.{IsAbove, above_by, above_times, times_cancel, at_most_trans}
-use Rattle.bt_linear.proofs.Zeros.{one_some, negated_alike}
-use Rattle.bt_linear.proofs.Indicators.{times_one}
+use Rattle.bt_linear_forms.proofs.Zeros.{one_some, negated_alike}
+use Rattle.bt_linear_forms.proofs.Indicators.{times_one}
 
 -- the number 1/2
 abbrev half_ratio : Ratio

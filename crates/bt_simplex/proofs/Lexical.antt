@@ -10,13 +10,13 @@ use Rattle.bt_frac.specs.Deltas.{IsLessDelta, SameDelta}
 use Rattle.bt_frac.specs.Ratio.{Ratio, SameRatio, IsLess, negated}
 use Rattle.bt_frac.specs.Values.{AreValues, nothing, plus, times}
 use Rattle.bt_frac.specs.declared.delta.Delta.{Delta}
-use Rattle.bt_lin.proofs.SameNumbers.{same_trans}
-use Rattle.bt_linear.specs.Lines.{Terms, HasNumber, total}
+use Rattle.bt_farkas.proofs.SameNumbers.{same_trans}
+use Rattle.bt_linear_forms.specs.Lines.{Terms, HasNumber, total}
 use Rattle.bt_pivot.proofs.Failing.{less_left, less_right, less_delta_right}
-use Rattle.bt_linear.proofs.Indicators.{over_zero_of}
-use Rattle.bt_linear.proofs.Numbers.{negated_plus, Positive, Alike, back, next, both_plus, swap_plus, pair_plus, plus_positive, times_positive, times_zero, spread, nothing_some, differ_none, none_differ, drop_zero}
+use Rattle.bt_linear_forms.proofs.Indicators.{over_zero_of}
+use Rattle.bt_linear_forms.proofs.Numbers.{negated_plus, Positive, Alike, back, next, both_plus, swap_plus, pair_plus, plus_positive, times_positive, times_zero, spread, nothing_some, differ_none, none_differ, drop_zero}
 use Rattle.bt_simplex.proofs.Signs.{IsAbove, IsNotBelow, above_plus, above_times, not_below_plus, not_below_times, above_by, not_below_by, less_of, of_less, at_most_of, compared}
-use Rattle.bt_linear.proofs.Totals.{total_positive}
+use Rattle.bt_linear_forms.proofs.Totals.{total_positive}
 
 -- the first number is above 0, or it is 0 and the second isn't below 0
 abbrev pub IsUp : Ratio → Ratio → Type 0

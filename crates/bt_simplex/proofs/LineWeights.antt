@@ -6,16 +6,16 @@ use Rattle.std.proofs.lemmas.Bool.Decides.{nat_tests}
 use Rattle.std.proofs.lemmas.List.Elements.{All-head, All-tail}
 use Rattle.bt_frac.specs.Ratio.{Ratio, negated}
 use Rattle.bt_frac.specs.Values.{times}
-use Rattle.bt_lin.specs.WeightedRows.{coefficient_at}
-use Rattle.bt_linear.specs.Lines.{one, Terms}
+use Rattle.bt_farkas.specs.WeightedRows.{coefficient_at}
+use Rattle.bt_linear_forms.specs.Lines.{one, Terms}
 use Rattle.bt_pivot.specs.Points.{bound_row}
 use Rattle.bt_pivot.specs.Tableaus.{TableauParts, IsTableau}
 use Rattle.bt_simplex.specs.Pivots.{IsStuckAt}
 use Rattle.bt_simplex.specs.Weights.{StandsAbove, IsSign, IsWeight, AreWeights}
 use Rattle.bt_simplex.specs.inner.Lemmas.{signed, weight_of, AreLineWeights}
-use Rattle.bt_linear.proofs.Numbers.{negated_times}
+use Rattle.bt_linear_forms.proofs.Numbers.{negated_times}
 use Rattle.bt_simplex.proofs.Refutations.{entry_is, own_named, theirs_named, line_bound, line_over, weights_ascend}
-use Rattle.bt_linear.proofs.Shares.{negated_twice}
+use Rattle.bt_linear_forms.proofs.Shares.{negated_twice}
 
 -- a weight is the signed number at its row's position, and back
 named_weight : (columns : ℕ) (above : Bool) (line : Terms) (row : ℕ) (weight : Ratio) → All (λ u. columns ≤ u.0) line

@@ -15,9 +15,9 @@ use Rattle.bt_frac.specs.Deltas.{IsLessDelta}
 use Rattle.bt_frac.specs.declared.delta.Delta.{Delta}
 use Rattle.bt_frac.specs.declared.relation.Relation.{Relation}
 use Rattle.bt_frac.specs.declared.relation.Relation.TheVariants.{AtLeast, Above, Equal}
-use Rattle.bt_lin.specs.WeightedRows.{empty_row}
-use Rattle.bt_lin.proofs.SameNumbers.{stands_same}
-use Rattle.bt_linear.specs.Lines.{one, Terms, HasNumber, total}
+use Rattle.bt_farkas.specs.WeightedRows.{empty_row}
+use Rattle.bt_farkas.proofs.SameNumbers.{stands_same}
+use Rattle.bt_linear_forms.specs.Lines.{one, Terms, HasNumber, total}
 use Rattle.bt_pivot.specs.SolvedForms.{slot_at, at_position, IsOutside}
 use Rattle.bt_pivot.specs.Tableaus.{TableauParts, IsTableau}
 use Rattle.bt_pivot.specs.Points.{tiny_of, bound_value, bound_row, value_or_zero, resting, standing, point_at, Breaks}
@@ -25,14 +25,14 @@ use Rattle.bt_simplex.specs.Pivots.{IsMet}
 use Rattle.bt_simplex.specs.Causes.{IsFalling, IsHalfRoom, IsEpsilon, gap}
 use Rattle.bt_simplex.specs.Checks.{IsBound, MeetsBoundRows}
 use Rattle.bt_simplex.specs.inner.Settling.{IsSettled}
-use Rattle.bt_linear.proofs.Numbers.{negated_plus, Positive, nothing_some, Alike, alike, itself, back, next, both_plus, both_times, swap_plus, swap_times, group_plus, group_times, spread, spread_right, pair_plus, drop_zero, zero_alike, plus_positive, times_positive, times_zero, negated_times, differ_none, none_differ}
+use Rattle.bt_linear_forms.proofs.Numbers.{negated_plus, Positive, nothing_some, Alike, alike, itself, back, next, both_plus, both_times, swap_plus, swap_times, group_plus, group_times, spread, spread_right, pair_plus, drop_zero, zero_alike, plus_positive, times_positive, times_zero, negated_times, differ_none, none_differ}
 use Rattle.bt_simplex.proofs.Epsilons.{fall_above, twice_fall, twice_some, twice_above, gap_some}
-use Rattle.bt_linear.proofs.Indicators.{times_one}
+use Rattle.bt_linear_forms.proofs.Indicators.{times_one}
 use Rattle.bt_pivot.proofs.Resting.{rest_value, rest_tiny, point_some, bound_some_of, bound_within}
 use Rattle.bt_simplex.proofs.Signs.{IsAbove, IsNotBelow, above_plus, above_times, not_below_times, above_factor, above_by, not_below_by, less_of, of_less, at_most_of, of_at_most, compared, less_at_most}
 use Rattle.bt_pivot.proofs.Denominators.{stands_some}
-use Rattle.bt_linear.proofs.Totals.{total_positive}
-use Rattle.bt_linear.proofs.Zeros.{one_some, one_times, total_along, all_from, named_or_lacks, negated_alike, zero_of}
+use Rattle.bt_linear_forms.proofs.Totals.{total_positive}
+use Rattle.bt_linear_forms.proofs.Zeros.{one_some, one_times, total_along, all_from, named_or_lacks, negated_alike, zero_of}
 
 -- a point with a number in place of the infinitesimal
 abbrev pub shifted : Ratio → Delta → Ratio

@@ -7,7 +7,7 @@ use Rattle.bt_frac.specs.Deltas.{IsLessDelta, SameDelta}
 use Rattle.bt_frac.specs.declared.delta.Delta.{Delta}
 use Rattle.bt_pivot.specs.Points.{bound_value}
 use Rattle.bt_simplex.specs.Pivots.{MovesTowards}
-use Rattle.bt_linear.specs.TermSigns.{IsSign}
+use Rattle.bt_linear_forms.specs.TermSigns.{IsSign}
 
 both_ways : {x y : ℤ} → x <ℤ y → y <ℤ x → ⊥
 both_ways {x} {y} p q = omega (arith, ints)

@@ -7,13 +7,13 @@ use Rattle.bt_frac.specs.Ratio.{Ratio}
 use Rattle.bt_frac.specs.Rows.{RowParts, IsRow}
 use Rattle.bt_frac.specs.Values.{nothing, times}
 use Rattle.bt_frac.proofs.Euclid.{lowest_same}
-use Rattle.bt_linear.specs.Lines.{Terms, HasNumber, IsLineFrom, total}
+use Rattle.bt_linear_forms.specs.Lines.{Terms, HasNumber, IsLineFrom, total}
 use Rattle.bt_pivot.specs.SolvedForms.{Slots, slot_at, at_position, IsOutside, IsSolvedForm, InBasis}
-use Rattle.bt_linear.proofs.Indicators.{LacksPosition, decide, indicator, indicator_some, lacking_total, having_total, later_lacks, over_zero_of, other_is}
-use Rattle.bt_linear.proofs.Numbers.{Alike, alike, back, next, drop_zero, times_positive, times_zero}
+use Rattle.bt_linear_forms.proofs.Indicators.{LacksPosition, decide, indicator, indicator_some, lacking_total, having_total, later_lacks, over_zero_of, other_is}
+use Rattle.bt_linear_forms.proofs.Numbers.{Alike, alike, back, next, drop_zero, times_positive, times_zero}
 use Rattle.bt_pivot.proofs.Denominators.{stands_some}
-use Rattle.bt_linear.proofs.Totals.{total_positive, rest_line}
-use Rattle.bt_linear.proofs.Zeros.{named_or_lacks, all_from, total_along}
+use Rattle.bt_linear_forms.proofs.Totals.{total_positive, rest_line}
+use Rattle.bt_linear_forms.proofs.Zeros.{named_or_lacks, all_from, total_along}
 
 -- the first number is seen, where the other line lacks its position
 seen_first : (t : ℕ × Ratio) (terms others : Terms) (least : ℕ) → IsLineFrom least (t ∷ terms) → All HasNumber others → LacksPosition t.0 others

@@ -3,20 +3,20 @@ use Rattle.std.proofs.Common.{◌≡◌, ◌+◌, ◌<◌, get_or, take, drop, t
 use Rattle.bt_frac.specs.Ratio.{Ratio, SameRatio, IsLowest}
 use Rattle.bt_frac.specs.Values.{times}
 use Rattle.bt_frac.specs.declared.delta.Delta.{Delta}
-use Rattle.bt_lin.specs.WeightedRows.{coefficient_at}
-use Rattle.bt_linear.specs.Lines.{Terms, IsLine, total}
+use Rattle.bt_farkas.specs.WeightedRows.{coefficient_at}
+use Rattle.bt_linear_forms.specs.Lines.{Terms, IsLine, total}
 use Rattle.bt_pivot.specs.Tableaus.{TableauParts, IsTableau}
 use Rattle.bt_pivot.specs.SolvedForms.{slot_at}
 use Rattle.bt_pivot.specs.Points.{resting, standing, IsSamePoint}
-use Rattle.bt_linear.specs.Unfits.{IsNone, IsUnfitStep, IsUnfitHere}
+use Rattle.bt_linear_forms.specs.Unfits.{IsNone, IsUnfitStep, IsUnfitHere}
 use Rattle.bt_simplex.specs.Causes.{IsSumStep, IsStepAt, IsCause}
-use Rattle.bt_linear.specs.declared.unfit.Operation.{Operation}
-use Rattle.bt_linear.specs.declared.unfit.Operation.TheVariants.{Add, Mul, Div}
-use Rattle.bt_linear.specs.declared.unfit.Unfit.{Unfit}
+use Rattle.bt_linear_forms.specs.declared.unfit.Operation.{Operation}
+use Rattle.bt_linear_forms.specs.declared.unfit.Operation.TheVariants.{Add, Mul, Div}
+use Rattle.bt_linear_forms.specs.declared.unfit.Unfit.{Unfit}
 use Rattle.bt_pivot.specs.declared.causes.Cause.{Cause}
 use Rattle.bt_simplex.specs.inner.UnfitPoints.{AddsTerm, IsUnfitTerm, IsUnfitPoint, value_cause}
-use Rattle.bt_linear.proofs.NamedTerms.{item_named, drop_here}
-use Rattle.bt_linear.proofs.Numbers.{Positive, alike}
+use Rattle.bt_linear_forms.proofs.NamedTerms.{item_named, drop_here}
+use Rattle.bt_linear_forms.proofs.Numbers.{Positive, alike}
 use Rattle.bt_pivot.proofs.Resting.{part_more, rest_value, rest_tiny}
 
 -- the same of both parts of a point

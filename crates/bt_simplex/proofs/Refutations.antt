@@ -14,30 +14,30 @@ use Rattle.bt_frac.specs.Deltas.{IsLessDelta}
 use Rattle.bt_frac.specs.declared.delta.Delta.{Delta}
 use Rattle.bt_frac.specs.declared.relation.Relation.{Relation}
 use Rattle.bt_frac.specs.declared.relation.Relation.TheVariants.{AtLeast, Above, Equal}
-use Rattle.bt_lin.specs.FalseSums.{MayHave, MayWeigh, MakesStrict, IsStrict, IsFalseBound, Cancels, IsFalseSum}
-use Rattle.bt_lin.specs.WeightedRows.{empty_row, coefficient_at, part_of, pairs_at}
-use Rattle.bt_lin.specs.declared.places.Place.{Place}
-use Rattle.bt_lin.specs.declared.places.Place.TheVariants.{Column, Bound}
-use Rattle.bt_linear.specs.Lines.{one, Terms, HasNumber, IsLine, IsCombination, total}
+use Rattle.bt_farkas.specs.FalseSums.{MayHave, MayWeigh, MakesStrict, IsStrict, IsFalseBound, Cancels, IsFalseSum}
+use Rattle.bt_farkas.specs.WeightedRows.{empty_row, coefficient_at, part_of, pairs_at}
+use Rattle.bt_farkas.specs.declared.places.Place.{Place}
+use Rattle.bt_farkas.specs.declared.places.Place.TheVariants.{Column, Bound}
+use Rattle.bt_linear_forms.specs.Lines.{one, Terms, HasNumber, IsLine, IsCombination, total}
 use Rattle.bt_pivot.specs.SolvedForms.{slot_at, at_position, IsOutside}
 use Rattle.bt_pivot.specs.Tableaus.{TableauParts, IsTableau}
 use Rattle.bt_pivot.specs.Points.{tiny_of, bound_value, bound_row, value_or_zero, resting, standing, point_at, Breaks, Fails, IsSamePoint}
 use Rattle.bt_simplex.specs.Pivots.{MovesTowards, CanEnter, IsStuckAt}
-use Rattle.bt_lin.specs.Farkas.{IsFarkas}
+use Rattle.bt_farkas.specs.Farkas.{IsFarkas}
 use Rattle.bt_simplex.specs.Checks.{IsBound, RefutesBoundRows}
 use Rattle.bt_pivot.specs.Entries.{number_or_zero}
 use Rattle.bt_simplex.specs.Weights.{StandsAbove, weighted_rows}
 use Rattle.bt_simplex.specs.inner.Lemmas.{signed, weight_of, AreLineWeights}
-use Rattle.bt_linear.proofs.NamedTerms.{number_at_place, number_here, number_later}
+use Rattle.bt_linear_forms.proofs.NamedTerms.{number_at_place, number_here, number_later}
 use Rattle.bt_pivot.proofs.Failing.{row_is, less_delta_right, point_is, same_back}
-use Rattle.bt_linear.proofs.Indicators.{over_zero_of, decide, indicator, indicator_some, here_is, other_is, lacking_total, total_at, none_lacks, number_has, times_one}
-use Rattle.bt_linear.proofs.Numbers.{negated_plus, Positive, nothing_some, Alike, itself, back, next, both_plus, both_times, swap_plus, group_times, spread, drop_zero, zero_alike, plus_positive, times_positive, times_zero, negated_times, differ_none}
+use Rattle.bt_linear_forms.proofs.Indicators.{over_zero_of, decide, indicator, indicator_some, here_is, other_is, lacking_total, total_at, none_lacks, number_has, times_one}
+use Rattle.bt_linear_forms.proofs.Numbers.{negated_plus, Positive, nothing_some, Alike, itself, back, next, both_plus, both_times, swap_plus, group_times, spread, drop_zero, zero_alike, plus_positive, times_positive, times_zero, negated_times, differ_none}
 use Rattle.bt_pivot.proofs.Resting.{bound_some_of, point_some, rest_value, rest_tiny, bound_some, tiny_some, bound_within}
-use Rattle.bt_linear.proofs.Shares.{negated_low, negated_twice}
+use Rattle.bt_linear_forms.proofs.Shares.{negated_low, negated_twice}
 use Rattle.bt_simplex.proofs.Signs.{IsAbove, IsNotBelow, of_less, above_by, not_below_by, not_below_plus}
 use Rattle.bt_pivot.proofs.Denominators.{stands_some}
-use Rattle.bt_linear.proofs.Totals.{total_positive}
-use Rattle.bt_linear.proofs.Zeros.{one_some, one_lowest, one_times, combined_alike, negated_alike, zero_of, named_has, total_along}
+use Rattle.bt_linear_forms.proofs.Totals.{total_positive}
+use Rattle.bt_linear_forms.proofs.Zeros.{one_some, one_lowest, one_times, combined_alike, negated_alike, zero_of, named_has, total_along}
 
 -- a bound row is past the columns, and is that of its place
 bound_place : (t : TableauParts) (q : ℕ) (row : RowParts) → bound_row t q ≡ Some row → (t.columns ≤ q) × (get_or t.rows (q - t.columns) empty_row ≡ row)

@@ -5,14 +5,14 @@ use Rattle.bt_pivot.specs.SolvedForms.{Slots, slot_at, basis_of, IsOutside, IsSo
 use Rattle.bt_pivot.specs.Tableaus.{TableauParts, IsTableau, with_slots}
 use Rattle.bt_simplex.specs.Pivots.{CanEnter, IsBlandPivot, IsMet, IsStuckAt, IsFinal, IsPivotedBy, Follows}
 use Rattle.bt_pivot.specs.declared.basis.Pivot.{Pivot}
-use Rattle.bt_lin.specs.WeightedRows.{coefficient_at}
+use Rattle.bt_farkas.specs.WeightedRows.{coefficient_at}
 use Rattle.bt_frac.specs.Ratio.{Ratio}
 use Rattle.bt_frac.specs.Rows.{RowParts}
 use Rattle.std.specs.declared.alloc.AllocError.{AllocError}
 use Rattle.bt_simplex.specs.Causes.{IsStepAt, IsCause}
 use Rattle.bt_pivot.specs.declared.causes.Cause.{Cause}
 use Rattle.bt_pivot.specs.PivotedSlots.{CanPart, IsUnfitPivot, IsPivoted}
-use Rattle.bt_linear.proofs.Zeros.{named_has}
+use Rattle.bt_linear_forms.proofs.Zeros.{named_has}
 use Rattle.bt_simplex.specs.inner.Runs.{CanPivot, IsAt, IsMade, IsEnd, IsRun}
 use Rattle.bt_simplex.specs.declared.running.End.{End}
 use Rattle.bt_simplex.specs.declared.running.End.TheVariants.{Met, Stuck, Pivots, Wide}

@@ -10,8 +10,8 @@ use Rattle.bt_frac.specs.Ratio.{Ratio, SameRatio, IsLess, IsAtMost, negated}
 use Rattle.bt_frac.specs.Values.{plus, times}
 use Rattle.bt_frac.proofs.Order.{mul_lt, mul_le, lt_from_mul, le_from_mul, mul_cancel}
 use Rattle.bt_frac.proofs.Ring.{neg_mul, products, turn_last}
-use Rattle.bt_lin.proofs.SameNumbers.{above_same}
-use Rattle.bt_linear.proofs.Numbers.{Positive, Alike, alike}
+use Rattle.bt_farkas.proofs.SameNumbers.{above_same}
+use Rattle.bt_linear_forms.proofs.Numbers.{Positive, Alike, alike}
 
 -- the number is above 0, and it isn't below 0
 abbrev pub IsAbove : Ratio → Type 0

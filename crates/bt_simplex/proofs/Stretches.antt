@@ -1,13 +1,13 @@
 -- The pivots of a run: what enters and what leaves in it.
 use Rattle.std.proofs.Common.{◌≡◌, ◌≢◌, ◌⊎◌, ◌↔◌, inl, inr, ◌<◌, ◌≤◌, arith, List, ◌∷◌, Option, Some, None, ap, sym, ◌∙◌, refl, subst, ℕ, []}
 use Rattle.std.proofs.lemmas.Bool.{cases_lt}
-use Rattle.bt_linear.specs.Lines.{Terms}
+use Rattle.bt_linear_forms.specs.Lines.{Terms}
 use Rattle.bt_pivot.specs.SolvedForms.{Slots, slot_at, IsOutside, InBasis}
 use Rattle.bt_pivot.specs.Tableaus.{TableauParts, IsTableau, with_slots}
 use Rattle.bt_simplex.specs.Pivots.{IsBlandPivot, IsPivotedBy, Follows}
 use Rattle.bt_pivot.specs.declared.basis.Pivot.{Pivot}
-use Rattle.bt_linear.proofs.Indicators.{decide}
-use Rattle.bt_linear.proofs.Zeros.{named_has}
+use Rattle.bt_linear_forms.proofs.Indicators.{decide}
+use Rattle.bt_linear_forms.proofs.Zeros.{named_has}
 
 -- the pivot is made at this tableau in the run
 abbrev pub Made : (t : TableauParts) (steps : List Pivot) (t' : TableauParts) → Follows t steps t' → TableauParts → Pivot → Type 0

@@ -1,16 +1,16 @@
 -- A pivot of a tableau, of which only the slots change.
 use Rattle.std.proofs.Common.{◌≡◌, ◌≢◌, List, Option, Some, None, ap, sym, ◌∙◌, refl, subst, ◌⊎◌, inl, inr, ℕ}
 use Rattle.bt_frac.specs.Rows.{RowParts}
-use Rattle.bt_linear.specs.Lines.{Terms}
+use Rattle.bt_linear_forms.specs.Lines.{Terms}
 use Rattle.bt_pivot.specs.SolvedForms.{Slots, slot_at, IsOutside, IsSolvedForm, InBasis}
 use Rattle.bt_pivot.specs.Tableaus.{TableauParts, IsTableau}
 use Rattle.bt_simplex.specs.Pivots.{IsPivotedBy}
 use Rattle.bt_simplex.specs.inner.Runs.{CanPivot}
 use Rattle.bt_pivot.specs.declared.basis.Pivot.{Pivot}
-use Rattle.bt_linear.specs.Substituting.{IsSubstituted}
+use Rattle.bt_linear_forms.specs.Substituting.{IsSubstituted}
 use Rattle.bt_pivot.specs.PivotedSlots.{IsPivoted}
-use Rattle.bt_linear.proofs.Indicators.{decide}
-use Rattle.bt_linear.proofs.Zeros.{named_has}
+use Rattle.bt_linear_forms.proofs.Indicators.{decide}
+use Rattle.bt_linear_forms.proofs.Zeros.{named_has}
 use Rattle.bt_pivot.proofs.Pivoted.{was, not_leaving, pivot_solves}
 
 pub enters_outside : (rows : List RowParts) (columns : ℕ) (slots : Slots) (pivot : Pivot) → IsSolvedForm rows columns slots → CanPivot slots pivot → IsOutside slots pivot.enters

@@ -4,16 +4,16 @@ use Rattle.std.specs.List.{All}
 use Rattle.bt_frac.specs.Deltas.{IsLessDelta}
 use Rattle.bt_frac.specs.Ratio.{Ratio, SameRatio}
 use Rattle.bt_frac.specs.Values.{AreValues, times}
-use Rattle.bt_linear.specs.Lines.{Terms, HasNumber, total}
+use Rattle.bt_linear_forms.specs.Lines.{Terms, HasNumber, total}
 use Rattle.bt_pivot.specs.Points.{resting, standing, point_at}
 use Rattle.bt_pivot.specs.SolvedForms.{Slots, slot_at, at_position, IsOutside}
 use Rattle.bt_pivot.specs.Tableaus.{TableauParts, IsTableau, with_slots}
 use Rattle.bt_simplex.proofs.Lexical.{IsUp, less, less_some, total_less, up_total, up_by, not_less_of}
-use Rattle.bt_linear.proofs.Numbers.{Alike, alike, itself, back, next, both_plus}
+use Rattle.bt_linear_forms.proofs.Numbers.{Alike, alike, itself, back, next, both_plus}
 use Rattle.bt_pivot.proofs.Resting.{rest_value, rest_tiny, point_some}
 use Rattle.bt_pivot.proofs.Denominators.{stands_some}
-use Rattle.bt_linear.proofs.Totals.{total_positive}
-use Rattle.bt_linear.proofs.Zeros.{total_along, all_from, named_or_lacks, negated_alike}
+use Rattle.bt_linear_forms.proofs.Totals.{total_positive}
+use Rattle.bt_linear_forms.proofs.Zeros.{total_along, all_from, named_or_lacks, negated_alike}
 
 -- one part of where a position stands: as its line says, or where it rests
 abbrev pub spot : (ℕ → Ratio) → ℕ → Option Terms → Ratio

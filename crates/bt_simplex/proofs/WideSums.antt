@@ -9,24 +9,24 @@ use Rattle.bt_frac.specs.Products.{IsProduct}
 use Rattle.bt_frac.specs.Rows.{RowParts, columns_in, end_of}
 use Rattle.bt_frac.specs.Values.{nothing, sum_of_products}
 use Rattle.bt_frac.proofs.RowColumns.{left_from}
-use Rattle.bt_lin.specs.Farkas.{IsWidePlace, IsFirstWide}
-use Rattle.bt_lin.specs.RunningSums.{AddsProduct, IsWideStep, RunsTo}
-use Rattle.bt_lin.specs.WeightedRows.{empty_row, coefficient_at, part_of, pairs_at, number_of}
-use Rattle.bt_lin.specs.declared.places.Place.{Place}
-use Rattle.bt_lin.specs.declared.places.Place.TheVariants.{Column, Bound}
-use Rattle.bt_lin.specs.declared.wide.WideAt.{WideAt}
-use Rattle.bt_lin.proofs.FarkasLemmas.{below_end}
-use Rattle.bt_lin.proofs.PlaceLemmas.{wide_at, unwide_before, row_within, coefficient_named, named_at}
-use Rattle.bt_lin.proofs.RunLemmas.{runs_reach}
-use Rattle.bt_linear.specs.Unfits.{IsNone, IsUnfitStep, IsUnfitHere}
+use Rattle.bt_farkas.specs.Farkas.{IsWidePlace, IsFirstWide}
+use Rattle.bt_farkas.specs.RunningSums.{AddsProduct, IsWideStep, RunsTo}
+use Rattle.bt_farkas.specs.WeightedRows.{empty_row, coefficient_at, part_of, pairs_at, number_of}
+use Rattle.bt_farkas.specs.declared.places.Place.{Place}
+use Rattle.bt_farkas.specs.declared.places.Place.TheVariants.{Column, Bound}
+use Rattle.bt_farkas.specs.declared.wide.WideAt.{WideAt}
+use Rattle.bt_farkas.proofs.FarkasLemmas.{below_end}
+use Rattle.bt_farkas.proofs.PlaceLemmas.{wide_at, unwide_before, row_within, coefficient_named, named_at}
+use Rattle.bt_farkas.proofs.RunLemmas.{runs_reach}
+use Rattle.bt_linear_forms.specs.Unfits.{IsNone, IsUnfitStep, IsUnfitHere}
 use Rattle.bt_simplex.specs.Causes.{IsAddend, IsRowStep, IsStepAt, IsCause}
 use Rattle.bt_pivot.specs.Tableaus.{TableauParts, IsTableau}
 use Rattle.bt_simplex.specs.Pivots.{IsStuckAt}
 use Rattle.bt_simplex.specs.Weights.{weighted_rows}
-use Rattle.bt_linear.specs.declared.unfit.Operation.{Operation}
-use Rattle.bt_linear.specs.declared.unfit.Operation.TheVariants.{Add, Mul, Div}
+use Rattle.bt_linear_forms.specs.declared.unfit.Operation.{Operation}
+use Rattle.bt_linear_forms.specs.declared.unfit.Operation.TheVariants.{Add, Mul, Div}
 use Rattle.bt_pivot.specs.declared.causes.Cause.{Cause}
-use Rattle.bt_linear.specs.declared.unfit.Unfit.{Unfit}
+use Rattle.bt_linear_forms.specs.declared.unfit.Unfit.{Unfit}
 use Rattle.bt_simplex.specs.inner.Lemmas.{AreLineWeights}
 use Rattle.bt_simplex.specs.inner.Sums.{lemma_cause, IsUnfitAt, IsUnfitSum}
 use Rattle.bt_simplex.specs.inner.UnfitPoints.{AddsPart}

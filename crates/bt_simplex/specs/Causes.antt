@@ -4,19 +4,19 @@ use Rattle.std.specs.Prelude.{◌≡◌, ◌⊎◌, ◌<◌, pos, ◌<ℤ◌, Li
 use Rattle.bt_frac.specs.Ratio.{Ratio, SameRatio, IsLowest, IsLess, IsAtMost, negated}
 use Rattle.bt_frac.specs.Rows.{RowParts}
 use Rattle.bt_frac.specs.Values.{plus, times, sum_of_products}
-use Rattle.bt_lin.specs.WeightedRows.{part_of, pairs_at, number_of, coefficient_at}
-use Rattle.bt_lin.specs.Farkas.{IsFirstWide}
-use Rattle.bt_lin.specs.declared.places.Place.{Place}
-use Rattle.bt_linear.specs.Unfits.{IsNone}
-use Rattle.bt_linear.specs.Lines.{one, Terms, total}
+use Rattle.bt_farkas.specs.WeightedRows.{part_of, pairs_at, number_of, coefficient_at}
+use Rattle.bt_farkas.specs.Farkas.{IsFirstWide}
+use Rattle.bt_farkas.specs.declared.places.Place.{Place}
+use Rattle.bt_linear_forms.specs.Unfits.{IsNone}
+use Rattle.bt_linear_forms.specs.Lines.{one, Terms, total}
 use Rattle.bt_pivot.specs.SolvedForms.{slot_at}
 use Rattle.bt_pivot.specs.Tableaus.{TableauParts}
 use Rattle.bt_pivot.specs.Points.{bound_row, resting, point_at}
 use Rattle.bt_simplex.specs.Pivots.{IsBlandPivot, IsMet, IsStuckAt}
 use Rattle.bt_simplex.specs.Weights.{AreWeights, weighted_rows}
 use Rattle.bt_pivot.specs.declared.basis.Pivot.{Pivot}
-use Rattle.bt_linear.specs.declared.unfit.Operation.{Operation}
-use Rattle.bt_linear.specs.declared.unfit.Operation.TheVariants.{Add, Mul, Div}
+use Rattle.bt_linear_forms.specs.declared.unfit.Operation.{Operation}
+use Rattle.bt_linear_forms.specs.declared.unfit.Operation.TheVariants.{Add, Mul, Div}
 use Rattle.bt_pivot.specs.declared.causes.WidePlace.{WidePlace}
 use Rattle.bt_pivot.specs.declared.causes.WidePlace.TheVariants.{Entry, Value, Settle, Lemma}
 use Rattle.bt_pivot.specs.declared.causes.Cause.{Cause}

@@ -5,8 +5,8 @@ use Rattle.bt_frac.specs.Ratio.{Ratio}
 use Rattle.bt_frac.specs.Columns.{AreColumnsFrom}
 use Rattle.bt_frac.specs.Rows.{columns_of}
 use Rattle.bt_frac.specs.Values.{value_in, RowHolds}
-use Rattle.bt_lin.specs.Farkas.{IsFarkas}
-use Rattle.bt_lin.specs.WeightedRows.{empty_row}
+use Rattle.bt_farkas.specs.Farkas.{IsFarkas}
+use Rattle.bt_farkas.specs.WeightedRows.{empty_row}
 use Rattle.bt_simplex.specs.Counting.{most_bases}
 use Rattle.bt_pivot.specs.SolvedForms.{basis_of}
 use Rattle.bt_pivot.specs.Tableaus.{TableauParts}

@@ -5,8 +5,8 @@ use Rattle.bt_frac.specs.Rows.{RowParts}
 use Rattle.bt_frac.specs.Deltas.{IsLessDelta}
 use Rattle.bt_frac.specs.declared.delta.Delta.{Delta}
 use Rattle.bt_frac.specs.declared.relation.Relation.TheVariants.{Equal}
-use Rattle.bt_lin.specs.WeightedRows.{coefficient_at}
-use Rattle.bt_linear.specs.Lines.{Terms}
+use Rattle.bt_farkas.specs.WeightedRows.{coefficient_at}
+use Rattle.bt_linear_forms.specs.Lines.{Terms}
 use Rattle.bt_pivot.specs.SolvedForms.{slot_at, IsSolvedForm, InBasis}
 use Rattle.bt_pivot.specs.Tableaus.{TableauParts}
 use Rattle.bt_pivot.specs.Points.{bound_value, bound_row, point_at, Fails}

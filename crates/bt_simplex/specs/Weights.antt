@@ -5,8 +5,8 @@ use Rattle.bt_frac.specs.Columns.{AreColumnsFrom}
 use Rattle.bt_frac.specs.Rows.{RowParts, columns_of}
 use Rattle.bt_frac.specs.Deltas.{IsLessDelta}
 use Rattle.bt_frac.specs.Values.{times}
-use Rattle.bt_lin.specs.WeightedRows.{coefficient_at, weighted}
-use Rattle.bt_linear.specs.Lines.{one, Terms}
+use Rattle.bt_farkas.specs.WeightedRows.{coefficient_at, weighted}
+use Rattle.bt_linear_forms.specs.Lines.{one, Terms}
 use Rattle.bt_pivot.specs.SolvedForms.{slot_at}
 use Rattle.bt_pivot.specs.Tableaus.{TableauParts}
 use Rattle.bt_pivot.specs.Points.{bound_value, bound_row, point_at}

@@ -1,6 +1,6 @@
 //! What a check of a tableau answers.
 use bt_frac::Frac;
-use bt_linear::Operation;
+use bt_linear_forms::Operation;
 use bt_pivot::{Pivot, WidePlace};
 
 /// What a check found.

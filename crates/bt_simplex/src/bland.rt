@@ -9,16 +9,16 @@ ghost use Rattle.bt_frac.specs.Rows.{RowParts};
 ghost use Rattle.bt_simplex.specs.Causes.{IsCause};
 ghost use Rattle.bt_frac.specs.declared.delta.Delta.{Delta};
 ghost use Rattle.bt_pivot.specs.Points.{bound_value, Breaks, Fails, IsBoundOrder};
-ghost use Rattle.bt_linear.specs.Lines.{signed_terms, one};
+ghost use Rattle.bt_linear_forms.specs.Lines.{signed_terms, one};
 ghost use Rattle.bt_simplex.specs.Pivots.{MovesTowards, CanEnter};
 ghost use Rattle.bt_pivot.specs.Tableaus.{with_slots};
 ghost use Rattle.bt_simplex.specs.inner.Bases.{MayEnter, Names, Finds, IsLeastOf, IsNext};
 ghost use Rattle.bt_pivot.specs.Sums.{AreKept};
-ghost use Rattle.bt_linear.specs.TermSigns.{IsSign, IsSignedTerm};
+ghost use Rattle.bt_linear_forms.specs.TermSigns.{IsSign, IsSignedTerm};
 
 use crate::points::{bound_value, point};
 use bt_frac::{Delta, Relation, Row};
-use bt_linear::Line;
+use bt_linear_forms::Line;
 use bt_pivot::{Basis, Cause, Pivot, Place, SumCache, Table, fails_whole, whole_order};
 use std::cmp::Ordering;
 

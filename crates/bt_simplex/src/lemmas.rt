@@ -4,11 +4,11 @@ ghost use Rattle.std.specs.Prelude.{◌≡◌, ◌<◌, ◌≤◌, ◌-◌, ◌^
 ghost use Rattle.std.specs.List.{All};
 ghost use Rattle.bt_frac.specs.Ratio.{negated};
 ghost use Rattle.bt_frac.specs.Deltas.{IsLessDelta};
-ghost use Rattle.bt_lin.specs.Farkas.{IsFarkas};
-ghost use Rattle.bt_lin.specs.WeightedRows.{coefficient_at, weighted};
+ghost use Rattle.bt_farkas.specs.Farkas.{IsFarkas};
+ghost use Rattle.bt_farkas.specs.WeightedRows.{coefficient_at, weighted};
 ghost use Rattle.bt_simplex.specs.Causes.{IsCause};
 ghost use Rattle.bt_simplex.specs.Checks.{RefutesBoundRows};
-ghost use Rattle.bt_linear.specs.Lines.{one, IsLine, IsCombination};
+ghost use Rattle.bt_linear_forms.specs.Lines.{one, IsLine, IsCombination};
 ghost use Rattle.bt_pivot.specs.Points.{bound_value};
 ghost use Rattle.bt_pivot.specs.Tableaus.{IsTableau, with_slots};
 ghost use Rattle.bt_simplex.specs.Pivots.{IsStuckAt};
@@ -16,9 +16,9 @@ ghost use Rattle.bt_simplex.specs.inner.Lemmas.{weight_of, AreLineWeights};
 
 use crate::points::{bound_value, line_point};
 use crate::sums::sum_cause;
+use bt_farkas::{SumFault, Weigher, WideAt};
 use bt_frac::{Delta, Frac, Row};
-use bt_lin::{SumFault, Weigher, WideAt};
-use bt_linear::{Line, Term, combined};
+use bt_linear_forms::{Line, Term, combined};
 use bt_pivot::{Basis, Cause, Table};
 use std::alloc::{AllocError, Global};
 use std::cmp::Ordering;

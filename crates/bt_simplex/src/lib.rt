@@ -15,7 +15,7 @@ mod tableau;
 mod traces;
 
 pub use answers::{Check, PivotTrace, Wide};
-pub use bt_linear::Operation;
+pub use bt_linear_forms::Operation;
 pub use bt_pivot::{Pivot, WidePlace, are_over};
 pub use law::{ascending_lists_are_few, no_basis_comes_back, one_solved_form};
 pub use std::alloc::AllocError as Memory;

@@ -3,14 +3,14 @@
 ghost use Rattle.std.specs.Prelude.{◌≡◌, IfOk, IfErr, Some};
 ghost use Rattle.bt_frac.specs.Ratio.{IsLowest};
 ghost use Rattle.bt_simplex.specs.Causes.{IsCause};
-ghost use Rattle.bt_linear.specs.Lines.{IsLine};
+ghost use Rattle.bt_linear_forms.specs.Lines.{IsLine};
 ghost use Rattle.bt_pivot.specs.Points.{bound_value, resting, standing, point_at, IsSamePoint, signed_point};
 ghost use Rattle.bt_pivot.specs.Tableaus.{with_slots};
-ghost use Rattle.bt_linear.specs.Unfits.{IsUnfitHere};
+ghost use Rattle.bt_linear_forms.specs.Unfits.{IsUnfitHere};
 ghost use Rattle.bt_simplex.specs.inner.UnfitPoints.{AddsPart, AddsTerm, IsUnfitTerm, IsUnfitPoint, value_cause};
 
 use bt_frac::{Delta, Frac, Relation, Row};
-use bt_linear::{Line, Operation, Term, Unfit, is_zero};
+use bt_linear_forms::{Line, Operation, Term, Unfit, is_zero};
 use bt_pivot::{Basis, Cause, Place, Table, WidePlace, short_point};
 
 /// The least that the sum of a row may be: its bound, and the infinitesimal more where the row is strict.

@@ -11,7 +11,7 @@ ghost use Rattle.bt_simplex.specs.inner.Settling.{IsLesser, IsFallingFrom, IsRoo
 
 use crate::points::point;
 use bt_frac::{Delta, Frac, Row};
-use bt_linear::Operation;
+use bt_linear_forms::Operation;
 use bt_pivot::{Basis, Cause, Table, WidePlace};
 use std::alloc::{AllocError, Global};
 use std::cmp::Ordering;

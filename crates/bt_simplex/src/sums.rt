@@ -1,15 +1,15 @@
 //! The operation at which a sum of weighted rows leaves 128 bits: the sum is wide there.
 ghost use Rattle.std.specs.Prelude.{◌≡◌, ◌<◌, length};
 ghost use Rattle.std.specs.List.{All};
-ghost use Rattle.bt_lin.specs.Farkas.{IsWidePlace, IsFirstWide};
-ghost use Rattle.bt_lin.specs.WeightedRows.{number_of};
+ghost use Rattle.bt_farkas.specs.Farkas.{IsWidePlace, IsFirstWide};
+ghost use Rattle.bt_farkas.specs.WeightedRows.{number_of};
 ghost use Rattle.bt_simplex.specs.Weights.{weighted_rows};
 ghost use Rattle.bt_simplex.specs.inner.Sums.{IsUnfitAt, IsUnfitSum, lemma_cause};
 
 use crate::points::added_part;
+use bt_farkas::{Place, WideAt, part};
 use bt_frac::{Frac, Row};
-use bt_lin::{Place, WideAt, part};
-use bt_linear::{Term, Unfit};
+use bt_linear_forms::{Term, Unfit};
 use bt_pivot::{Cause, WidePlace};
 
 /// The place at which the sum is wide: the column, where the row has it, and else the bound.

@@ -8,8 +8,8 @@ use Rattle.std.proofs.lemmas.List.Elements.{All-nil, All-cons, All-head, All-tai
 use Rattle.bt_frac.specs.Ratio.{Ratio}
 use Rattle.bt_frac.specs.Rows.{RowParts}
 use Rattle.bt_frac.specs.Values.{value_in, RowHolds}
-use Rattle.bt_lin.specs.Farkas.{IsFarkas}
-use Rattle.bt_lin.specs.WeightedRows.{empty_row, picked}
+use Rattle.bt_farkas.specs.Farkas.{IsFarkas}
+use Rattle.bt_farkas.specs.WeightedRows.{empty_row, picked}
 use Rattle.bt_cnf.specs.declared.literal.Lit.{Lit}
 use Rattle.bt_cnf.specs.Assignments.{truth_in}
 use Rattle.bt_cnf.specs.Formulas.{FormulaParts}

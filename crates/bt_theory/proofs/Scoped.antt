@@ -10,7 +10,7 @@ use Rattle.std.proofs.lemmas.Option.{IfSome_then}
 use Rattle.bt_frac.specs.Ratio.{Ratio}
 use Rattle.bt_frac.specs.Rows.{RowParts, IsRowOf}
 use Rattle.bt_frac.specs.declared.relation.Relation.{Relation}
-use Rattle.bt_lin.specs.WeightedRows.{empty_row}
+use Rattle.bt_farkas.specs.WeightedRows.{empty_row}
 use Rattle.bt_cnf.specs.Formulas.{FormulaParts}
 use Rattle.bt_theory.specs.Reaching.{atom_rows, atom_vars}
 use Rattle.bt_theory.specs.inner.Scopes.{AreAtoms, IsPaired, IsConflictIn, parts_of}

@@ -4,7 +4,7 @@ use Rattle.std.specs.List.{All, AllZip, zip}
 use Rattle.bt_frac.specs.Ratio.{Ratio}
 use Rattle.bt_frac.specs.Rows.{RowParts}
 use Rattle.bt_frac.specs.Values.{value_in}
-use Rattle.bt_lin.specs.Farkas.{IsFarkas}
+use Rattle.bt_farkas.specs.Farkas.{IsFarkas}
 use Rattle.bt_cnf.specs.Formulas.{FormulaParts}
 use Rattle.bt_cnf.specs.Assignments.{truth_in}
 use Rattle.bt_cnf.specs.Meeting.{Meets}

@@ -9,8 +9,8 @@ use crate::binding::bind;
 use crate::close::close_tableau;
 use crate::lemma::{Conflict, conflict_of};
 use bt_cnf::{Formula, Var, is_true};
+use bt_farkas::{SumFault, Weigher};
 use bt_frac::{Frac, Row};
-use bt_lin::{SumFault, Weigher};
 use bt_simplex::{Check, Tableau};
 use std::alloc::{AllocError, Global};
 

@@ -13,7 +13,7 @@ use Rattle.std.specs.Global.{Vec}
 use Rattle.bt_parts.specs.declared.hand.Priority.{Priority}
 use Rattle.bt_extend.specs.Extending.{extended}
 use Rattle.bt_extend.specs.declared.definition.Definition.{Definition}
-use Rattle.bt_fenc.specs.FlowFormula.{flow_formula}
+use Rattle.bt_flow_formula.specs.FlowFormula.{flow_formula}
 use Rattle.bt_same.specs.SameFormula.{same_formula}
 use Rattle.bt_simplex.specs.declared.answers.PivotTrace.{PivotTrace}
 use Rattle.bt_theory.specs.Outcomes.{IsUsedUp}

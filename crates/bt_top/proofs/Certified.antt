@@ -5,9 +5,9 @@ use Rattle.bt_io.specs.Passages.{Passage, HasFault}
 use Rattle.bt_net.specs.Network.{Network, IsNetwork}
 use Rattle.bt_flow.specs.declared.property.Property.{Property}
 use Rattle.bt_flow.specs.Properties.{Holds}
-use Rattle.bt_fenc.specs.FlowFormula.{flow_formula}
-use Rattle.bt_fenc.proofs.Formulas.{is_formula}
-use Rattle.bt_fenc.proofs.Refuted.{unmet_holds}
+use Rattle.bt_flow_formula.specs.FlowFormula.{flow_formula}
+use Rattle.bt_flow_formula.proofs.Formulas.{is_formula}
+use Rattle.bt_flow_formula.proofs.Refuted.{unmet_holds}
 use Rattle.bt_cert.specs.declared.fault.CertFault.{CertFault}
 use Rattle.bt_cert.specs.declared.fault.CertFault.TheVariants.{Memory}
 use Rattle.bt_cert.specs.Certificates.{IsCertRead}

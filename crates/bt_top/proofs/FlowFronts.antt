@@ -7,7 +7,7 @@ use Rattle.bt_flow.specs.declared.property.Property.{Property}
 use Rattle.bt_flow.specs.Names.{property_name}
 use Rattle.bt_flow.specs.StateLines.{forms, just}
 use Rattle.bt_flow.proofs.WrongLines.{stop_first}
-use Rattle.bt_fenc.specs.FlowFormula.{flow_formula}
+use Rattle.bt_flow_formula.specs.FlowFormula.{flow_formula}
 use Rattle.bt_cert.specs.Certificates.{IsCertRead}
 use Rattle.bt_cert.specs.declared.fault.CertFault.{CertFault}
 use Rattle.bt_print.specs.declared.answer.Brief.TheVariants as brief

@@ -3,8 +3,8 @@ use Rattle.std.proofs.Common.{◌≡◌, ◌≢◌, ℕ, List, Option, drop, inl
 use Rattle.bt_text.specs.Answers.{HasOneAnswer}
 use Rattle.bt_text.proofs.FirstLines.{IsFirstLine-unique}
 use Rattle.bt_net.specs.Network.{Network, IsNetwork}
-use Rattle.bt_fenc.specs.FlowFormula.{flow_formula}
-use Rattle.bt_fenc.proofs.Formulas.{is_formula}
+use Rattle.bt_flow_formula.specs.FlowFormula.{flow_formula}
+use Rattle.bt_flow_formula.proofs.Formulas.{is_formula}
 use Rattle.std.specs.Global.{Vec}
 use Rattle.bt_parts.specs.declared.hand.Priority.{Priority}
 use Rattle.bt_cert.specs.Certificates.{IsCertRead}

@@ -7,7 +7,7 @@ use Rattle.bt_cnf.specs.Formulas.{FormulaParts}
 use Rattle.bt_extend.specs.Extending.{extended}
 use Rattle.bt_extend.specs.declared.definition.Definition.{Definition}
 use Rattle.bt_decide.specs.Verdicts.{AreMade, splitters_of_both}
-use Rattle.bt_fenc.specs.FlowFormula.{flow_formula}
+use Rattle.bt_flow_formula.specs.FlowFormula.{flow_formula}
 use Rattle.bt_gen.specs.Chain.{chain_net}
 use Rattle.bt_same.specs.SameFormula.{same_formula}
 use Rattle.bt_simplex.specs.Counting.{most_bases}

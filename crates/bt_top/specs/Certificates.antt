@@ -6,7 +6,7 @@ use Rattle.bt_net.specs.Network.{Network}
 use Rattle.bt_flow.specs.declared.property.Property.{Property}
 use Rattle.bt_flow.specs.Names.{property_name}
 use Rattle.bt_flow.specs.Properties.{Holds}
-use Rattle.bt_fenc.specs.FlowFormula.{flow_formula}
+use Rattle.bt_flow_formula.specs.FlowFormula.{flow_formula}
 use Rattle.bt_cert.specs.declared.fault.CertFault.{CertFault}
 use Rattle.bt_cert.specs.declared.fault.CertFault.TheVariants as cert
 use Rattle.bt_cert.specs.Certificates.{IsCertRead}

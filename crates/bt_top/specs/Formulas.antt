@@ -4,7 +4,7 @@ use Rattle.bt_parts.specs.declared.part.Rect.{Rect}
 use Rattle.bt_parts.specs.declared.part.Tier.{Tier}
 use Rattle.bt_net.specs.Network.{Network}
 use Rattle.bt_flow.specs.declared.property.Property.{Property}
-use Rattle.bt_fenc.specs.FlowFormula.{flow_formula}
+use Rattle.bt_flow_formula.specs.FlowFormula.{flow_formula}
 use Rattle.bt_model.specs.Requests.{LayoutRequest}
 use Rattle.bt_place.specs.Blocks.{starts_of}
 use Rattle.bt_place.specs.PlaceFormula.{place_formula, sizes_of}

@@ -8,8 +8,8 @@ ghost use Rattle.bt_top.specs.inner.Fronts.{GivesFront, GivesHeldFront};
 
 use crate::front::{Front, WrittenState, WrittenSteps, known_refusal};
 use bt_designs::{Held, told_design, told_line};
-use bt_fenc::encode;
 use bt_flow::Property;
+use bt_flow_formula::encode;
 use bt_net::Net;
 use bt_print::{Brief, says_no, says_yes};
 use bt_text::skip_blanks;

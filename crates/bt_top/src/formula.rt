@@ -7,8 +7,8 @@ ghost use Rattle.bt_print.specs.Replies.{UnlessLarge};
 ghost use Rattle.bt_top.specs.Formulas.{flow_columns, flow_formula_told, place_formula_told};
 
 use bt_designs::{DesignFault, Refusal, read_alone, read_lone_request};
-use bt_fenc::encode;
 use bt_flow::Property;
+use bt_flow_formula::encode;
 use bt_model::Request;
 use bt_net::Net;
 use bt_parts::{Rect, Tier};

@@ -3,7 +3,7 @@ ghost use Rattle.std.specs.Prelude.{◌≡◌, IfOk, IfSome, length};
 
 use crate::sums::{scaled, substituted, sum_of, value_of};
 use bt_frac::Frac;
-use bt_linear::{Change, Line, Room, Term};
+use bt_linear_forms::{Change, Line, Room, Term};
 use std::alloc::{AllocError, Global};
 use std::mem::replace;
 

@@ -11,7 +11,7 @@ mod looping;
 mod part;
 mod sums;
 
-pub use bt_linear::Term;
+pub use bt_linear_forms::Term;
 pub use equations::Equations;
 pub use looping::add_looping;
 pub use std::alloc::AllocError as Memory;

@@ -1,6 +1,6 @@
 //! Sums of lines, and of the numbers of a line times what its positions have.
 use bt_frac::Frac;
-use bt_linear::{Line, Term, combined, is_zero, lone_line};
+use bt_linear_forms::{Line, Term, combined, is_zero, lone_line};
 use std::alloc::{AllocError, Global};
 
 /// The most positions that a sum may name.

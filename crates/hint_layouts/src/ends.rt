@@ -1,5 +1,5 @@
 //! Names for the ends of a layout whose splitters have names.
-use bt_lays::Names;
+use bt_layout_check::Names;
 use bt_model::Request;
 use bt_net::{Edge, End, Start, Target};
 use bt_parts::{Cell, Dir, Part};

@@ -1,6 +1,6 @@
 //! Proposals of layouts: parts with names that may lay a request, and names for the parts of a layout.
 //!
-//! Nothing is claimed of a proposal: whoever takes one tests it (`bt_lays`). Strategies for more requests are asked in
+//! Nothing is claimed of a proposal: whoever takes one tests it (`bt_layout_check`). Strategies for more requests are asked in
 //! `propose`, one after another.
 #![tactic(auto)]
 

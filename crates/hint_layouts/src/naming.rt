@@ -1,7 +1,7 @@
 //! Names for the parts of a sketch.
 use crate::ends::name_ends;
 use crate::placed::grid_of;
-use bt_lays::Names;
+use bt_layout_check::Names;
 use bt_model::Request;
 use bt_parts::Part;
 use bt_recover::{Grid, RecoverFault, recover};

@@ -2,7 +2,7 @@
 use crate::graph::Nodes;
 use crate::matching::Pair;
 use crate::placed::grid_of;
-use bt_lays::Names;
+use bt_layout_check::Names;
 use bt_model::Request;
 use bt_net::End;
 use bt_parts::{Cell, Dir, Part};

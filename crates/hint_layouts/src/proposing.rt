@@ -1,7 +1,7 @@
 //! Strategies that propose layouts.
 use crate::framed::{MOST_ROUTED, find_framed, routed};
 use crate::naming::{Proposal, name_sketch};
-use bt_lays::lays;
+use bt_layout_check::lays;
 use bt_model::Request;
 use hint_placement::{Sketch, find_sketch, wants_rows};
 use hint_stages::find_stages;

@@ -5,7 +5,7 @@ use Rattle.bt_flow.specs.declared.property.Property.{Property}
 use Rattle.bt_flow.specs.Properties.{IsBreaking}
 use Rattle.bt_flow.specs.Properties as property
 use Rattle.bt_extend.specs.Extending.{extended}
-use Rattle.bt_fenc.specs.FlowFormula.{flow_formula}
+use Rattle.bt_flow_formula.specs.FlowFormula.{flow_formula}
 use Rattle.bt_theory.specs.Outcomes.{IsRefutation}
 use Rattle.bt_designs.specs.Alone.{IsLoneNet}
 use Rattle.bt_designs.specs.declared.fault.DesignFault.TheVariants as fault

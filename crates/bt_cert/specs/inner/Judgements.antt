@@ -1,6 +1,6 @@
 -- What is right to say of one written step.
 use Rattle.std.specs.Prelude.{List}
-use Rattle.bt_lin.specs.declared.wide.WideAt.{WideAt}
+use Rattle.bt_farkas.specs.declared.wide.WideAt.{WideAt}
 use Rattle.bt_cnf.specs.Formulas.{FormulaParts}
 use Rattle.bt_cnf.specs.declared.literal.Lit.{Lit}
 use Rattle.bt_cert.specs.StepLines.{WrittenStep}

@@ -2,10 +2,10 @@
 use Rattle.std.specs.Prelude.{ℕ, ◌<◌, Bool, true, false, List, length, map, Option, None, Some, slice_index_or, Result, Ok, Err}
 use Rattle.bt_frac.specs.Ratio.{Ratio}
 use Rattle.bt_frac.specs.Rows.{RowParts}
-use Rattle.bt_lin.specs.Farkas.{IsFirstWide, IsWidePlace}
-use Rattle.bt_lin.specs.WeightedRows.{empty_row, picked}
-use Rattle.bt_lin.specs.declared.places.Place.{Place}
-use Rattle.bt_lin.specs.declared.wide.WideAt.{WideAt}
+use Rattle.bt_farkas.specs.Farkas.{IsFirstWide, IsWidePlace}
+use Rattle.bt_farkas.specs.WeightedRows.{empty_row, picked}
+use Rattle.bt_farkas.specs.declared.places.Place.{Place}
+use Rattle.bt_farkas.specs.declared.wide.WideAt.{WideAt}
 use Rattle.std.specs.List.{All, zip}
 use Rattle.bt_cnf.specs.Formulas.{FormulaParts}
 use Rattle.bt_cnf.specs.declared.literal.Lit.{Lit}

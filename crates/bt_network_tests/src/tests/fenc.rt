@@ -1,8 +1,8 @@
 //! The sizes of flow formulas, their clauses, and the state of an assignment.
 use super::{GIVEN, MIXED, ONE_BELT, SPLITTER, fields, net_of, number_of, property_named};
 use bt_cnf::{Formula, Lit};
-use bt_fenc::{encode, state_of};
 use bt_flow::State;
+use bt_flow_formula::{encode, state_of};
 use bt_frac::Frac;
 use bt_net::Net;
 use std::alloc::{AllocError, Global};

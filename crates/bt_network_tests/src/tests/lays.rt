@@ -4,7 +4,7 @@ ghost use Rattle.bt_parts.specs.Layouts.{AreInRange};
 
 use super::recover::{EIGHT, parts_with_speeds, recovered};
 use super::{fields, request_of};
-use bt_lays::{Names, lays};
+use bt_layout_check::{Names, lays};
 use bt_model::Request;
 use bt_parts::{DIRS, Part, Rect, Tier};
 use bt_recover::{Memory, Traced};

@@ -1,6 +1,6 @@
 -- Sums of a line that a pivot changes, by those before it and those of the zero line.
 use Rattle.std.specs.Prelude.{◌≡◌, ◌+ℤ◌, ◌*ℤ◌, Option, Some}
-use Rattle.bt_linear.specs.declared.short.merging.Scales.{Scales}
+use Rattle.bt_linear_forms.specs.declared.short.merging.Scales.{Scales}
 use Rattle.bt_pivot.specs.declared.short_points.ClassSums.{ClassSums}
 use Rattle.bt_pivot.specs.declared.short_points.Sums.{Sums}
 

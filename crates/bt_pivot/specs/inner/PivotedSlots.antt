@@ -1,7 +1,7 @@
 -- A pivot of a basis, slot by slot.
 use Rattle.std.specs.Prelude.{◌≡◌, Bool, length, Some, slice_set, ◌==◌, if◌then◌else◌, ℕ}
-use Rattle.bt_linear.specs.Lines.{Terms, signed_terms}
-use Rattle.bt_linear.specs.Substituting.{IsSubstituted, IsEntering}
+use Rattle.bt_linear_forms.specs.Lines.{Terms, signed_terms}
+use Rattle.bt_linear_forms.specs.Substituting.{IsSubstituted, IsEntering}
 use Rattle.bt_pivot.specs.SolvedForms.{Slots, slot_at}
 
 -- in every slot the line lacks the position, or its number there times the zero line is added to it

@@ -1,7 +1,7 @@
 -- The lines of the first basis.
 use Rattle.std.specs.Prelude.{List, ◌∷◌, ◌++◌, replicate, map, Some, None, if◌then◌else◌, ◌==◌, unsigned_abs, ℕ, []}
 use Rattle.bt_frac.specs.Rows.{RowParts}
-use Rattle.bt_linear.specs.Lines.{Terms}
+use Rattle.bt_linear_forms.specs.Lines.{Terms}
 use Rattle.bt_pivot.specs.SolvedForms.{Slots}
 
 -- the terms whose number isn't 0

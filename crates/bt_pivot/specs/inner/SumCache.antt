@@ -1,12 +1,12 @@
 -- The sums of classes' lines that are kept from pivot to pivot.
 use Rattle.std.specs.Prelude.{◌≡◌, ◌≢◌, ◌⊎◌, ◌<◌, ◌^◌, false, List, length, Option, Some, None, IfSome, slice_index_or, ℕ}
 use Rattle.bt_pivot.specs.Classes.{member_at}
-use Rattle.bt_linear.specs.Lines.{Terms}
+use Rattle.bt_linear_forms.specs.Lines.{Terms}
 use Rattle.bt_pivot.specs.Points.{resting, standing, IsSamePoint}
 use Rattle.bt_pivot.specs.SolvedForms.{Slots, slot_at}
 use Rattle.bt_pivot.specs.Tableaus.{TableauParts}
 use Rattle.bt_pivot.specs.declared.basis.Member.{Member}
-use Rattle.bt_linear.specs.declared.short.merging.Scales.{Scales}
+use Rattle.bt_linear_forms.specs.declared.short.merging.Scales.{Scales}
 use Rattle.bt_pivot.specs.declared.short_points.ClassSums.{ClassSums}
 use Rattle.bt_pivot.specs.declared.short_points.Sums.{Sums}
 use Rattle.bt_pivot.specs.inner.Carrying.{IsCarriedOf}

@@ -1,16 +1,16 @@
 -- Operations of a pivot whose results leave 128 bits.
 use Rattle.std.specs.Prelude.{◌≡◌, ◌≢◌, length, Option, Some, None, ℕ}
 use Rattle.bt_frac.specs.Ratio.{Ratio, negated}
-use Rattle.bt_lin.specs.WeightedRows.{coefficient_at}
-use Rattle.bt_linear.specs.Lines.{Terms, IsLine}
+use Rattle.bt_farkas.specs.WeightedRows.{coefficient_at}
+use Rattle.bt_linear_forms.specs.Lines.{Terms, IsLine}
 use Rattle.bt_pivot.specs.SolvedForms.{Slots, slot_at}
-use Rattle.bt_linear.specs.Unfits.{IsUnfit, IsUnfitZero}
-use Rattle.bt_linear.specs.declared.unfit.Operation.{Operation}
-use Rattle.bt_linear.specs.declared.unfit.Operation.TheVariants.{Add, Mul, Div}
+use Rattle.bt_linear_forms.specs.Unfits.{IsUnfit, IsUnfitZero}
+use Rattle.bt_linear_forms.specs.declared.unfit.Operation.{Operation}
+use Rattle.bt_linear_forms.specs.declared.unfit.Operation.TheVariants.{Add, Mul, Div}
 use Rattle.bt_pivot.specs.declared.causes.WidePlace.TheVariants.{Entry}
-use Rattle.bt_linear.specs.declared.unfit.Unfit.{Unfit}
+use Rattle.bt_linear_forms.specs.declared.unfit.Unfit.{Unfit}
 use Rattle.bt_pivot.specs.declared.causes.Cause.{Cause}
-use Rattle.bt_linear.specs.Substituting.{IsZeroLine}
+use Rattle.bt_linear_forms.specs.Substituting.{IsZeroLine}
 
 -- the cause, by the numbers of the solved form before the pivot
 abbrev pub seen_right : Operation → Ratio → Ratio

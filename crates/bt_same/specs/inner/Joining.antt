@@ -6,9 +6,9 @@ use Rattle.bt_cnf.specs.declared.literal.Lit.{Lit}
 use Rattle.bt_cnf.specs.Formulas.{FormulaParts}
 use Rattle.bt_net.specs.Network.{Network}
 use Rattle.bt_flow.specs.EndEdges.{output_edge}
-use Rattle.bt_fenc.specs.Columns.{above}
-use Rattle.bt_fenc.specs.Numbering.{atoms_from}
-use Rattle.bt_fenc.specs.FlowFormula.{steady_formula}
+use Rattle.bt_flow_formula.specs.Columns.{above}
+use Rattle.bt_flow_formula.specs.Numbering.{atoms_from}
+use Rattle.bt_flow_formula.specs.FlowFormula.{steady_formula}
 use Rattle.bt_same.specs.SameFormula.{first_shift, second_columns, second_vars, moved_lits, moved_atoms}
 
 -- the rows of a formula's atoms

@@ -1,7 +1,7 @@
 //! Rows at values and weighted sums of rows, whose answers are worked out by hand.
 use super::{fields, fractions_of, number_of, row_of, rows_of};
+use bt_farkas::{SumFault, Weigher, WideAt, eval, farkas};
 use bt_frac::{Frac, Row};
-use bt_lin::{SumFault, Weigher, WideAt, eval, farkas};
 use std::alloc::{AllocError, Global};
 use std::test::Fail;
 

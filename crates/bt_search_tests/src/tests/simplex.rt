@@ -1,7 +1,7 @@
 //! What checks of tableaux answer, worked out by hand.
 use super::{fields, number_of, rows_of};
+use bt_farkas::{eval, farkas};
 use bt_frac::{Frac, Row};
-use bt_lin::{eval, farkas};
 use bt_simplex::{Check, Operation, Tableau, Wide, WidePlace, are_over};
 use std::alloc::{AllocError, Global};
 use std::test::Fail;

@@ -1,7 +1,7 @@
 -- Weights as they are read off the failing position's line.
 use Rattle.std.specs.Prelude.{◌≡◌, ◌↔◌, ◌-◌, List, ◌∷◌, map, Bool, IsTrue, Some, if◌then◌else◌, ℕ, []}
 use Rattle.bt_frac.specs.Ratio.{Ratio, negated}
-use Rattle.bt_linear.specs.Lines.{one, Terms, IsLine, IsCombination}
+use Rattle.bt_linear_forms.specs.Lines.{one, Terms, IsLine, IsCombination}
 use Rattle.bt_pivot.specs.SolvedForms.{slot_at}
 use Rattle.bt_pivot.specs.Tableaus.{TableauParts}
 use Rattle.bt_simplex.specs.Weights.{StandsAbove}

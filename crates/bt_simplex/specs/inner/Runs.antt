@@ -1,8 +1,8 @@
 -- Runs of Bland's pivots from a basis on.
 use Rattle.std.specs.Prelude.{◌≡◌, ◌≤◌, List, Some, length, ℕ}
 use Rattle.bt_frac.specs.Ratio.{Ratio}
-use Rattle.bt_lin.specs.WeightedRows.{coefficient_at}
-use Rattle.bt_linear.specs.Lines.{Terms}
+use Rattle.bt_farkas.specs.WeightedRows.{coefficient_at}
+use Rattle.bt_linear_forms.specs.Lines.{Terms}
 use Rattle.bt_pivot.specs.SolvedForms.{Slots, slot_at, basis_of}
 use Rattle.bt_simplex.specs.Causes.{IsCause}
 use Rattle.bt_pivot.specs.Tableaus.{TableauParts, IsTableau, with_slots}

@@ -6,10 +6,10 @@ use Rattle.bt_frac.specs.Values.{plus, times}
 use Rattle.bt_frac.specs.declared.delta.Delta.{Delta}
 use Rattle.bt_pivot.specs.Tableaus.{TableauParts}
 use Rattle.bt_pivot.specs.Points.{point_at}
-use Rattle.bt_linear.specs.Unfits.{IsNone}
+use Rattle.bt_linear_forms.specs.Unfits.{IsNone}
 use Rattle.bt_simplex.specs.Causes.{IsFalling, IsHalfRoom, IsNumber}
-use Rattle.bt_linear.specs.declared.unfit.Operation.{Operation}
-use Rattle.bt_linear.specs.declared.unfit.Operation.TheVariants.{Add, Mul, Div}
+use Rattle.bt_linear_forms.specs.declared.unfit.Operation.{Operation}
+use Rattle.bt_linear_forms.specs.declared.unfit.Operation.TheVariants.{Add, Mul, Div}
 use Rattle.bt_pivot.specs.declared.causes.WidePlace.TheVariants.{Settle}
 use Rattle.bt_pivot.specs.declared.causes.Cause.{Cause}
 

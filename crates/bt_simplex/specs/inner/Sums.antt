@@ -2,13 +2,13 @@
 use Rattle.std.specs.Prelude.{◌≡◌, List, ℕ}
 use Rattle.bt_frac.specs.Ratio.{Ratio}
 use Rattle.bt_frac.specs.Rows.{RowParts}
-use Rattle.bt_lin.specs.WeightedRows.{number_of}
-use Rattle.bt_lin.specs.declared.places.Place.{Place}
-use Rattle.bt_lin.specs.declared.wide.WideAt.{WideAt}
-use Rattle.bt_linear.specs.Unfits.{IsNone}
+use Rattle.bt_farkas.specs.WeightedRows.{number_of}
+use Rattle.bt_farkas.specs.declared.places.Place.{Place}
+use Rattle.bt_farkas.specs.declared.wide.WideAt.{WideAt}
+use Rattle.bt_linear_forms.specs.Unfits.{IsNone}
 use Rattle.bt_simplex.specs.Causes.{IsRowStep}
 use Rattle.bt_pivot.specs.declared.causes.WidePlace.TheVariants.{Lemma}
-use Rattle.bt_linear.specs.declared.unfit.Unfit.{Unfit}
+use Rattle.bt_linear_forms.specs.declared.unfit.Unfit.{Unfit}
 use Rattle.bt_pivot.specs.declared.causes.Cause.{Cause}
 
 -- the cause of a row of a sum

@@ -3,11 +3,11 @@ use Rattle.std.specs.Prelude.{◌≡◌, ◌⊎◌, Some, ℕ}
 use Rattle.bt_frac.specs.Ratio.{Ratio, IsLowest, IsSum, CanAdd}
 use Rattle.bt_frac.specs.Products.{IsProduct}
 use Rattle.bt_frac.specs.declared.delta.Delta.{Delta}
-use Rattle.bt_linear.specs.Lines.{Terms}
-use Rattle.bt_linear.specs.Unfits.{IsNone, IsUnfitHere}
+use Rattle.bt_linear_forms.specs.Lines.{Terms}
+use Rattle.bt_linear_forms.specs.Unfits.{IsNone, IsUnfitHere}
 use Rattle.bt_simplex.specs.Causes.{IsSumStep}
 use Rattle.bt_pivot.specs.declared.causes.WidePlace.TheVariants.{Value}
-use Rattle.bt_linear.specs.declared.unfit.Unfit.{Unfit}
+use Rattle.bt_linear_forms.specs.declared.unfit.Unfit.{Unfit}
 use Rattle.bt_pivot.specs.declared.causes.Cause.{Cause}
 
 -- the sum with the product of a number and a part

@@ -3,8 +3,8 @@ use Rattle.std.specs.Prelude.{◌≡◌, ℕ, ◌<◌, Bool, true, false, List, 
 use Rattle.std.specs.List.{All}
 use Rattle.bt_frac.specs.Ratio.{Ratio}
 use Rattle.bt_frac.specs.Rows.{RowParts}
-use Rattle.bt_lin.specs.Farkas.{IsFarkas}
-use Rattle.bt_lin.specs.WeightedRows.{empty_row}
+use Rattle.bt_farkas.specs.Farkas.{IsFarkas}
+use Rattle.bt_farkas.specs.WeightedRows.{empty_row}
 use Rattle.bt_simplex.specs.Weights.{weighted_rows}
 use Rattle.bt_cnf.specs.Assignments.{truth_in}
 use Rattle.bt_cnf.specs.Formulas.{FormulaParts}

@@ -1,11 +1,11 @@
 use Rattle.std.proofs.Common.{◌≡◌, ◌⊎◌, inl, inr, List, true, false, Ok, Err, ap, subst, ◌∙◌}
 use Rattle.bt_frac.specs.Ratio.{Ratio}
 use Rattle.bt_frac.specs.Rows.{RowParts}
-use Rattle.bt_lin.specs.Farkas.{IsFarkas, IsSumJudged}
-use Rattle.bt_lin.specs.declared.wide.SumFault.{SumFault}
-use Rattle.bt_lin.specs.declared.wide.SumFault.TheVariants.{Wide, Memory}
-use Rattle.bt_lin.specs.declared.wide.WideAt.{WideAt}
-use Rattle.bt_lin.specs.WeightedRows.{picked, weighted}
+use Rattle.bt_farkas.specs.Farkas.{IsFarkas, IsSumJudged}
+use Rattle.bt_farkas.specs.declared.wide.SumFault.{SumFault}
+use Rattle.bt_farkas.specs.declared.wide.SumFault.TheVariants.{Wide, Memory}
+use Rattle.bt_farkas.specs.declared.wide.WideAt.{WideAt}
+use Rattle.bt_farkas.specs.WeightedRows.{picked, weighted}
 use Rattle.bt_cert.specs.Judging.{MayWeighRows}
 use Rattle.bt_cert.specs.inner.Weighing.{rows_of, IsPicked}
 use Rattle.bt_cert.proofs.AtomRows.{lemma_valid, lemma_fails, lemma_wide}

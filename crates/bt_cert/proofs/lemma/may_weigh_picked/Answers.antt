@@ -1,7 +1,7 @@
 use Rattle.std.proofs.Common.{sym, subst, ◌∙◌}
 use Rattle.std.specs.List.{All}
-use Rattle.bt_lin.specs.FalseSums.{MayWeigh}
-use Rattle.bt_lin.specs.WeightedRows.{weighted}
+use Rattle.bt_farkas.specs.FalseSums.{MayWeigh}
+use Rattle.bt_farkas.specs.WeightedRows.{weighted}
 use Rattle.bt_cert.specs.inner.Weighing.{rows_of}
 use Rattle.bt_cert.proofs.AtomRows.{length-picked}
 use Rattle.bt_cert.proofs.lemma.may_weigh_picked.Goals as goal

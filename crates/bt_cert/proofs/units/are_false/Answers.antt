@@ -1,7 +1,7 @@
 use Rattle.std.proofs.Common.{take, sym, refl}
 use Rattle.std.proofs.lemmas.List.{take_all}
 use Rattle.std.proofs.lemmas.List.Elements.{All-same}
-use Rattle.bt_lin.proofs.Tested.{all_more}
+use Rattle.bt_farkas.proofs.Tested.{all_more}
 use Rattle.bt_cert.specs.inner.Assuming.{IsFalseIn}
 use Rattle.bt_cert.proofs.units.are_false.Goals as goal
 

@@ -2,7 +2,7 @@ use Rattle.std.proofs.Common.{◌<◌, ◌≤◌, ◌-◌, arith, length, take, 
 use Rattle.std.proofs.lemmas.Bool.{false≢true}
 use Rattle.std.proofs.lemmas.List.{take_all, length-map}
 use Rattle.std.proofs.lemmas.List.Elements.{All-same}
-use Rattle.bt_lin.proofs.Tested.{all_more, not_all}
+use Rattle.bt_farkas.proofs.Tested.{all_more, not_all}
 use Rattle.bt_cert.specs.inner.Refuting.{places_of}
 use Rattle.bt_cert.proofs.Walks.{place_at, place_below}
 use Rattle.bt_cert.proofs.units.are_hints.Goals as goal

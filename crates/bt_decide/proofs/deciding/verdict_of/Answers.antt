@@ -7,11 +7,11 @@ use Rattle.bt_flow.specs.States.{Fractions, IsTrueOf}
 use Rattle.bt_flow.specs.Properties.{Breaks}
 use Rattle.bt_cnf.specs.Assignments.{truth_in}
 use Rattle.bt_cnf.specs.Meeting.{Meets}
-use Rattle.bt_fenc.specs.FlowFormula.{flow_formula}
-use Rattle.bt_fenc.specs.Solutions.{BreaksWhatIsMet}
+use Rattle.bt_flow_formula.specs.FlowFormula.{flow_formula}
+use Rattle.bt_flow_formula.specs.Solutions.{BreaksWhatIsMet}
 use Rattle.bt_extend.proofs.Conservative.{refuted_extension_is_unmet}
-use Rattle.bt_fenc.proofs.Formulas.{is_formula}
-use Rattle.bt_fenc.proofs.Refuted.{unmet_holds}
+use Rattle.bt_flow_formula.proofs.Formulas.{is_formula}
+use Rattle.bt_flow_formula.proofs.Refuted.{unmet_holds}
 use Rattle.bt_theory.specs.Outcomes.{IsOutcome}
 use Rattle.bt_decide.proofs.deciding.verdict_of.Goals as goal
 

@@ -2,7 +2,7 @@ use Rattle.std.proofs.Common.{ap, sym, subst}
 use Rattle.std.proofs.lemmas.Result.{IfOk-weaker}
 use Rattle.bt_parts.specs.Hands.{priority_of}
 use Rattle.bt_model.specs.Laying.{LaysPreferring}
-use Rattle.bt_lays.specs.Laid.{LaysPreferringBy, naming_of}
+use Rattle.bt_layout_check.specs.Laid.{LaysPreferringBy, naming_of}
 use Rattle.bt_layout.specs.inner.Bare.{PrefersNothing}
 use Rattle.bt_layout.proofs.Bare.{bare_preferring}
 use Rattle.bt_layout.proofs.preferring.priorities_of.Goals as goal

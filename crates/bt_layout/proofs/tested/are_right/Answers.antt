@@ -1,7 +1,7 @@
 use Rattle.std.proofs.Common.{◌↔◌, ◌≤◌, IsTrue, length}
 use Rattle.std.proofs.lemmas.Result.{IfOk-weaker}
 use Rattle.bt_entities.specs.declared.blueprint.TheConstants.{MOST_ENTITIES}
-use Rattle.bt_lays.specs.Laid.{LaysBy, naming_of}
+use Rattle.bt_layout_check.specs.Laid.{LaysBy, naming_of}
 use Rattle.bt_layout.specs.inner.Likely.{IsLaidOut}
 use Rattle.bt_layout.proofs.Laid.{laid_by}
 use Rattle.bt_layout.proofs.tested.are_right.Goals as goal

@@ -1,7 +1,7 @@
 use Rattle.std.proofs.Common.{◌≡◌, ◌<◌, ◌-◌, ◌^◌, arith, length, false, set, None, IfOk, IfErr, ap, sym, ◌∙◌, subst, ℕ}
 use Rattle.std.specs.Vec.{with_items}
 use Rattle.std.proofs.lemmas.List.{with_items_is}
-use Rattle.bt_linear.specs.Lines.{signed_terms}
+use Rattle.bt_linear_forms.specs.Lines.{signed_terms}
 use Rattle.bt_pivot.specs.Classes.{member_at, position_at, slot_of, slots_of, AreClasses}
 use Rattle.bt_pivot.specs.SolvedForms.{slot_at}
 use Rattle.bt_pivot.specs.declared.basis.Member.{Member}

@@ -1,8 +1,8 @@
 use Rattle.std.proofs.Common.{◌<◌, arith, length, set, get_or, IfOk, ap, sym, subst}
 use Rattle.bt_pivot.specs.declared.sum_cache.SumCache.{SumCache}
-use Rattle.bt_linear.specs.Changes.{IsChange}
+use Rattle.bt_linear_forms.specs.Changes.{IsChange}
 use Rattle.bt_pivot.specs.inner.SumCache.{Carries, Forgets}
-use Rattle.bt_linear.specs.Substituting.{IsSubstituted}
+use Rattle.bt_linear_forms.specs.Substituting.{IsSubstituted}
 use Rattle.bt_pivot.proofs.Changing.{lacks_more, made_more, long_more}
 use Rattle.bt_pivot.proofs.pivoting.substitute.Goals.{in-Lacks, in-Made, in-Long+in_ok-change_long-in-Long+in-Ok}
 use Rattle.bt_pivot.proofs.pivoting.substitute.Goals as goal

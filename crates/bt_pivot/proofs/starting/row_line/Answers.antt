@@ -1,5 +1,5 @@
 use Rattle.std.proofs.Common.{◌≡◌, ◌∙◌, ap, sym, subst}
-use Rattle.bt_linear.specs.Lines.{IsLineFrom}
+use Rattle.bt_linear_forms.specs.Lines.{IsLineFrom}
 use Rattle.bt_pivot.specs.inner.Starts.{kept}
 use Rattle.bt_pivot.proofs.FirstLines.{kept_line}
 use Rattle.bt_pivot.proofs.starting.row_line.Goals as goal

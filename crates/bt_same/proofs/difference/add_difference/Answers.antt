@@ -1,6 +1,6 @@
 use Rattle.std.proofs.Common.{◌<◌, ap, sym, ◌∙◌, subst, arith}
 use Rattle.bt_cnf.specs.Formulas.{LitsBelow}
-use Rattle.bt_fenc.proofs.Numbers.{all_from}
+use Rattle.bt_flow_formula.proofs.Numbers.{all_from}
 use Rattle.bt_same.specs.inner.Joining.{hold_from, difference_rows}
 use Rattle.bt_same.proofs.Joined.{hold_below}
 use Rattle.bt_same.proofs.difference.add_difference.Goals as goal

@@ -3,7 +3,7 @@ use Rattle.bt_net.specs.declared.network.Edge.{Edge}
 use Rattle.bt_net.specs.Network.{Network}
 use Rattle.bt_cnf.specs.Formulas.{FormulaParts}
 use Rattle.bt_flow.specs.EndEdges.{output_edge}
-use Rattle.bt_fenc.specs.Columns.{above}
+use Rattle.bt_flow_formula.specs.Columns.{above}
 use Rattle.bt_same.specs.inner.Joining.{with_rows}
 use Rattle.bt_same.proofs.Joined.{differ_more}
 use Rattle.bt_same.proofs.difference.difference_lits.Goals as goal

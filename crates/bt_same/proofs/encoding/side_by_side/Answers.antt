@@ -1,7 +1,7 @@
 use Rattle.std.proofs.Common.{◌≡◌, ℕ, ◌+◌, List, [], length, map, ap, ◌∙◌}
 use Rattle.bt_net.specs.declared.network.Edge.{Edge}
 use Rattle.bt_cnf.specs.Formulas.{FormulaParts}
-use Rattle.bt_fenc.specs.FlowFormula.{steady_formula}
+use Rattle.bt_flow_formula.specs.FlowFormula.{steady_formula}
 use Rattle.bt_same.specs.declared.shift.Shift.{Shift}
 use Rattle.bt_same.specs.SameFormula.{first_shift, second_columns, second_vars, moved_lits, moved_row}
 use Rattle.bt_same.specs.inner.Joining.{rows_of, with_rows, with_lits}

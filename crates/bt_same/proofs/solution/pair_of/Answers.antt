@@ -3,7 +3,7 @@ use Rattle.bt_frac.specs.Ratio.{Ratio}
 use Rattle.bt_frac.specs.Values.{value_in}
 use Rattle.bt_flow.specs.States.{Fractions}
 use Rattle.bt_cnf.specs.Assignments.{truth_in}
-use Rattle.bt_fenc.specs.Solutions.{state_at}
+use Rattle.bt_flow_formula.specs.Solutions.{state_at}
 use Rattle.bt_same.specs.declared.shift.Shift.{Shift}
 use Rattle.bt_same.specs.SameFormula.{shifted}
 use Rattle.bt_same.proofs.Solved.{pair_shows}

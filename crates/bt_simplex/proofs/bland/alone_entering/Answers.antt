@@ -1,9 +1,9 @@
 use Rattle.std.proofs.Common.{◌<◌, ◌≤◌, ◌∷◌, arith, subst, sym, []}
 use Rattle.std.proofs.lemmas.Bool.{iff_false}
-use Rattle.bt_linear.specs.Lines.{signed_terms, one}
+use Rattle.bt_linear_forms.specs.Lines.{signed_terms, one}
 use Rattle.bt_simplex.specs.inner.Bases.{MayEnter}
 use Rattle.bt_simplex.proofs.Entering.{ahead_start, entering_more, entering_here, entering_none}
-use Rattle.bt_linear.proofs.SignedLines.{alone_line, signed_line, signed_length}
+use Rattle.bt_linear_forms.proofs.SignedLines.{alone_line, signed_line, signed_length}
 use Rattle.bt_simplex.proofs.bland.alone_entering.Goals as goal
 
 pub returns-then-may_enter : goal.returns-then-may_enter

@@ -1,8 +1,8 @@
 use Rattle.std.proofs.Common.{◌∷◌, Less, Greater, refl, arith, pos, ◌<ℤ◌, sym, subst, []}
 use Rattle.std.proofs.lemmas.Int.{ints}
 use Rattle.bt_frac.specs.Ratio.{negated}
-use Rattle.bt_linear.specs.Lines.{signed_terms, one}
-use Rattle.bt_linear.specs.TermSigns.{IsSignedTerm}
+use Rattle.bt_linear_forms.specs.Lines.{signed_terms, one}
+use Rattle.bt_linear_forms.specs.TermSigns.{IsSignedTerm}
 use Rattle.bt_simplex.proofs.bland.alone_sign.Goals as goal
 
 pub returns-then-negated : goal.returns-then-negated

@@ -1,4 +1,4 @@
-use Rattle.bt_linear.specs.Lines.{signed_terms, one}
+use Rattle.bt_linear_forms.specs.Lines.{signed_terms, one}
 use Rattle.bt_pivot.specs.Tableaus.{with_slots}
 use Rattle.std.proofs.Common.{◌∷◌, []}
 use Rattle.bt_simplex.proofs.Enters.{enters_by, enters_line}

@@ -2,7 +2,7 @@ use Rattle.std.proofs.Common.{drop}
 use Rattle.bt_frac.specs.Deltas.{IsOrderOfDeltas}
 use Rattle.bt_frac.specs.Rows.{RowParts}
 use Rattle.bt_frac.specs.declared.delta.Delta.{Delta}
-use Rattle.bt_linear.specs.Lines.{signed_terms}
+use Rattle.bt_linear_forms.specs.Lines.{signed_terms}
 use Rattle.bt_pivot.specs.Points.{bound_value}
 use Rattle.bt_simplex.specs.inner.Bases.{MayEnter}
 use Rattle.bt_simplex.proofs.Entering.{IsAhead}

@@ -2,8 +2,8 @@ use Rattle.std.proofs.Common.{◌<◌, List, length, map, sym, subst, ap, ◌∙
 use Rattle.std.specs.List.{All}
 use Rattle.bt_frac.specs.Ratio.{Ratio}
 use Rattle.bt_frac.specs.Rows.{RowParts}
-use Rattle.bt_lin.specs.Farkas.{IsFirstWide, IsFarkas}
-use Rattle.bt_lin.specs.WeightedRows.{weighted}
+use Rattle.bt_farkas.specs.Farkas.{IsFirstWide, IsFarkas}
+use Rattle.bt_farkas.specs.WeightedRows.{weighted}
 use Rattle.bt_simplex.specs.Weights.{weighted_rows}
 use Rattle.bt_pivot.specs.Tableaus.{with_slots}
 use Rattle.bt_simplex.specs.inner.Lemmas.{AreLineWeights}

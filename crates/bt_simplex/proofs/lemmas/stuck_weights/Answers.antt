@@ -1,8 +1,8 @@
 use Rattle.std.proofs.Common.{◌≡◌, ◌≤◌, None, ◌∷◌, arith, ◌∙◌, ap, map, sym, subst, []}
 use Rattle.std.specs.List.{All}
 use Rattle.bt_frac.specs.Ratio.{negated}
-use Rattle.bt_lin.specs.WeightedRows.{coefficient_at}
-use Rattle.bt_linear.specs.Lines.{one, IsCombination}
+use Rattle.bt_farkas.specs.WeightedRows.{coefficient_at}
+use Rattle.bt_linear_forms.specs.Lines.{one, IsCombination}
 use Rattle.bt_pivot.specs.Tableaus.{with_slots}
 use Rattle.bt_simplex.specs.inner.Lemmas.{weight_of}
 use Rattle.bt_simplex.proofs.PointSteps.{point_cause}

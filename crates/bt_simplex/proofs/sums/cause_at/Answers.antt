@@ -1,8 +1,8 @@
 use Rattle.std.proofs.Common.{◌<◌, ◌+◌, ◌∙◌, arith, length, take, sym, subst}
 use Rattle.bt_frac.specs.Values.{nothing}
-use Rattle.bt_lin.specs.RunningSums.{RunsTo}
-use Rattle.bt_lin.specs.WeightedRows.{pairs_at}
-use Rattle.bt_lin.proofs.PlaceLemmas.{total_more, total_stays, unwide_by_run, row_within}
+use Rattle.bt_farkas.specs.RunningSums.{RunsTo}
+use Rattle.bt_farkas.specs.WeightedRows.{pairs_at}
+use Rattle.bt_farkas.proofs.PlaceLemmas.{total_more, total_stays, unwide_by_run, row_within}
 use Rattle.bt_simplex.specs.Weights.{weighted_rows}
 use Rattle.bt_simplex.proofs.WideSums.{length_weighted, weighted_here, adds_product, sum_unfit}
 use Rattle.bt_simplex.proofs.sums.cause_at.Goals as goal

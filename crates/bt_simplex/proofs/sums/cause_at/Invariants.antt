@@ -1,7 +1,7 @@
 use Rattle.std.proofs.Common.{take}
 use Rattle.bt_frac.specs.Values.{nothing}
-use Rattle.bt_lin.specs.RunningSums.{RunsTo}
-use Rattle.bt_lin.specs.WeightedRows.{pairs_at}
+use Rattle.bt_farkas.specs.RunningSums.{RunsTo}
+use Rattle.bt_farkas.specs.WeightedRows.{pairs_at}
 use Rattle.bt_simplex.specs.Weights.{weighted_rows}
 use Rattle.bt_simplex.proofs.sums.cause_at.Given as goal
 

@@ -1,8 +1,8 @@
 use Rattle.std.proofs.Common.{◌<◌, ◌∙◌, Ok, length, map, sym, subst, true}
 use Rattle.std.specs.List.{All}
 use Rattle.std.proofs.lemmas.List.Elements.{All-map}
-use Rattle.bt_lin.specs.Farkas.{IsFarkas}
-use Rattle.bt_lin.specs.WeightedRows.{weighted}
+use Rattle.bt_farkas.specs.Farkas.{IsFarkas}
+use Rattle.bt_farkas.specs.WeightedRows.{weighted}
 use Rattle.bt_theory.proofs.scope.shown.Goals as goal
 
 pub farkas-requires-clause-picks : goal.farkas-requires-clause-picks

@@ -1,6 +1,6 @@
 use Rattle.bt_parts.specs.declared.part.Part.{Part}
 use Rattle.bt_parts.specs.Cells.{IsInRange}
-use Rattle.bt_lays.proofs.Listing.{all_more}
+use Rattle.bt_layout_check.proofs.Listing.{all_more}
 use Rattle.hint_layouts.proofs.placed.are_in_range.Goals as goal
 
 pub loop-part-preserved : goal.loop-part-preserved

@@ -1,5 +1,5 @@
 use Rattle.std.proofs.Common.{◌≡◌, ◌<◌, ◌≤◌, arith, length, false, Some, None, ◌∷◌, ap, sym, ◌∙◌, subst, []}
-use Rattle.bt_linear.specs.Lines.{one, signed_terms}
+use Rattle.bt_linear_forms.specs.Lines.{one, signed_terms}
 use Rattle.bt_pivot.specs.Classes.{member_at, slots_of}
 use Rattle.bt_pivot.specs.SolvedForms.{slot_at}
 use Rattle.bt_pivot.proofs.Classes.{slot_past, read_is, line_at, like_at, itself_at, first_slot, class_in}

@@ -1,5 +1,0 @@
-use Rattle.bt_fenc.proofs.EvenFormula as proved
-use Rattle.bt_fenc.proofs.law.flow_formula_is_even.Goals as goal
-
-pub returns : goal.returns
-returns c = proved.flow_formula_is_even

@@ -1,5 +1,0 @@
-use Rattle.bt_fenc.proofs.Sizes as proved
-use Rattle.bt_fenc.proofs.law.flow_formulas_are_small.Goals as goal
-
-pub returns : goal.returns
-returns c = proved.flow_formulas_small

@@ -1,5 +1,0 @@
-use Rattle.bt_fenc.proofs.Solved as proved
-use Rattle.bt_fenc.proofs.law.meeting_is_steady.Goals as goal
-
-pub returns : goal.returns
-returns c = proved.meeting_is_steady

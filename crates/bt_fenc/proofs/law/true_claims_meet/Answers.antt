@@ -1,5 +1,0 @@
-use Rattle.bt_fenc.proofs.TrueClaims as proved
-use Rattle.bt_fenc.proofs.law.true_claims_meet.Goals as goal
-
-pub returns : goal.returns
-returns c = proved.true_claims_meet

@@ -1,9 +1,0 @@
-use Rattle.std.proofs.Common.{take}
-use Rattle.std.specs.List.{flat_map}
-use Rattle.bt_fenc.specs.Properties.{differ}
-use Rattle.bt_fenc.specs.inner.Adding.{IsAfter}
-use Rattle.bt_fenc.specs.inner.Variables.{at_in}
-use Rattle.bt_fenc.proofs.properties.unequal_lits.Given as goal
-
-abbrev pub invariant-loop-other : goal.invariant-loop-other
-invariant-loop-other l = IsAfter (at_in l.pairs) l.initial.formula (flat_map (differ l.first) (take l.other-index l.others)) l.formula l.lits.items

@@ -1,7 +1,0 @@
-use Rattle.std.proofs.Common.{ℕ, ◌<◌, get_or}
-use Rattle.bt_lays.specs.inner.Fitting.{IsLastInside}
-use Rattle.bt_lays.proofs.fitting.are_last.Given as goal
-
--- in front of all so far the rectangle ends
-abbrev pub invariant-loop-i : goal.invariant-loop-i
-invariant-loop-i l = (k d : ℕ) → k < l.i-index → IsLastInside l.rect l.parts (get_or l.indices k d)

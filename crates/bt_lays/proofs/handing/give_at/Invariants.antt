@@ -1,7 +1,0 @@
-use Rattle.std.proofs.Common.{◌≡◌, ℕ, ◌<◌, IsTrue}
-use Rattle.bt_lays.specs.inner.Handed.{mark_at}
-use Rattle.bt_lays.proofs.handing.give_at.Given as goal
-
--- none so far is of the splitter
-abbrev pub invariant-loop-k : goal.invariant-loop-k
-invariant-loop-k l = (i : ℕ) → i < l.k → IsTrue (mark_at l.wishes i).given → (mark_at l.wishes i).start ≡ l.splitter → ⊥

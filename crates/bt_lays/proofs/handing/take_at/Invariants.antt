@@ -1,7 +1,0 @@
-use Rattle.std.proofs.Common.{◌≡◌, ℕ, ◌<◌, IsTrue}
-use Rattle.bt_lays.specs.inner.Handed.{mark_at}
-use Rattle.bt_lays.proofs.handing.take_at.Given as goal
-
--- none so far is of the splitter
-abbrev pub invariant-loop-k : goal.invariant-loop-k
-invariant-loop-k l = (i : ℕ) → i < l.k → IsTrue (mark_at l.wishes i).taken → (mark_at l.wishes i).target ≡ l.splitter → ⊥

@@ -1,5 +1,0 @@
-use Rattle.bt_lin.proofs.Sound
-use Rattle.bt_lin.proofs.law.false_sums_fail.Goals as goal
-
-pub returns : goal.returns
-returns c = Sound.false_sums_fail

@@ -1,7 +1,0 @@
-use Rattle.bt_lin.proofs.ColumnLemmas.{Looks}
-use Rattle.std.proofs.Common.{drop}
-use Rattle.bt_frac.specs.Rows.{columns_of}
-use Rattle.bt_lin.proofs.places.least_column.Given as goal
-
-abbrev pub invariant-loop-column : goal.invariant-loop-column
-invariant-loop-column l = Looks l.least (columns_of l.terms) (columns_of (drop l.column-index l.terms))

@@ -1,8 +1,0 @@
-use Rattle.std.proofs.Common.{take}
-use Rattle.std.specs.List.{Any}
-use Rattle.bt_lin.specs.FalseSums.{IsStrict}
-use Rattle.bt_lin.specs.WeightedRows.{weighted}
-use Rattle.bt_lin.proofs.signs.has_strict.Given as goal
-
-abbrev pub invariant-loop-i : goal.invariant-loop-i
-invariant-loop-i l = Any IsStrict (take l.i (weighted l.rows l.picks l.weights)) → ⊥

@@ -1,8 +1,0 @@
-use Rattle.std.proofs.Common.{take}
-use Rattle.std.specs.List.{All}
-use Rattle.bt_lin.specs.FalseSums.{MayWeigh}
-use Rattle.bt_lin.specs.WeightedRows.{weighted}
-use Rattle.bt_lin.proofs.signs.may_weigh.Given as goal
-
-abbrev pub invariant-loop-i : goal.invariant-loop-i
-invariant-loop-i l = All MayWeigh (take l.i (weighted l.rows l.picks l.weights))

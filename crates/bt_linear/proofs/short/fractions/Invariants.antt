@@ -1,6 +1,0 @@
-use Rattle.std.proofs.Common.{◌≡◌, take}
-use Rattle.bt_linear.specs.Shorts.{terms_over}
-use Rattle.bt_linear.proofs.short.fractions.Given as goal
-
-abbrev pub invariant-loop-entry : goal.invariant-loop-entry
-invariant-loop-entry l = l.fractions.items ≡ terms_over l.under (take l.entry-index l.terms)

@@ -1,6 +1,0 @@
-use Rattle.std.proofs.Common.{◌≡◌, ◌++◌, take, drop, true}
-use Rattle.bt_linear.specs.Shorts.{signed_numbers}
-use Rattle.bt_linear.proofs.short.negated_numbers.Given as goal
-
-abbrev pub invariant-loop-entry : goal.invariant-loop-entry
-invariant-loop-entry l = l.entry-items ≡ signed_numbers true (take l.entry-index l.fn.terms.items) ++ drop l.entry-index l.fn.terms.items
