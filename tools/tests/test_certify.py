@@ -183,6 +183,8 @@ class LeastTest(unittest.TestCase):
             self.assertEqual(least.told(again), ("open: 2x3 is 6 cells, 1x5 2x2 not refuted", 1))
             for grid in ("1x5", "2x2"):
                 again.certificate(grid).touch()
+            self.assertEqual(least.told(again), ("open: 2x3 is 6 cells, 1x5 2x2 not refuted", 1))
+            again.accepted.update(("1x5", "2x2"))
             self.assertEqual(least.told(again), ("least: 6 cells, by 2 certificates", 0))
             with self.assertRaises(least.Refused):
                 again.begin("another net", "basic")
@@ -274,7 +276,43 @@ class LeastTest(unittest.TestCase):
             layout.write_text(layout.read_text().replace("splitter", "transport-belt"))
             self.assertEqual(self.least("--again", room)[::2], (3, "the layout isn't one of the network in 2x5\n"))
             layout.unlink()
-            self.assertEqual(self.least("--again", room)[0], 2)
+            self.assertEqual(self.least("--again", room)[0], 3)
+
+    def test_counts_only_what_it_checked_in_this_run(self):
+        with tempfile.TemporaryDirectory() as room:
+            words = (EXAMPLES / "chain-1-to-3.net", room, "--without-cadical", "--learnt", "500")
+            self.assertEqual(self.least(*words)[:2], (0, "least: 10 cells, by 3 certificates"))
+            certificate = Path(room, "2x4.none")
+            whole = certificate.read_text()
+            certificate.write_text("junk\n")
+            status, written, said = self.least(*words)
+            self.assertEqual((status, written), (0, "least: 10 cells, by 3 certificates"))
+            self.assertIn("2x4: not accepted\nrefuting 2x4\n", said)
+            self.assertEqual(certificate.read_text(), whole)
+            Path(room, "least-layout.json").write_text("{}")
+            status, written, said = self.least(*words)
+            self.assertEqual((status, written), (3, ""))
+            self.assertIn("the layout isn't one of the network in 2x5 of basic parts", said)
+
+    def test_begins_with_the_layout_and_the_tier_of_a_blueprint(self):
+        design = (EXAMPLES / "balancer-4-to-4.json").read_text()
+        with tempfile.TemporaryDirectory() as room:
+            fast = Path(room, "fast.json")
+            for name in ("transport-belt", "underground-belt", "splitter"):
+                design = design.replace(f'"{name}"', f'"fast-{name}"')
+            fast.write_text(design)
+            folder = least.Folder(Path(room, "folder"))
+            least.begin(least.Program(program()), folder, fast.read_bytes(), None)
+            self.assertEqual(folder["tier"], "fast")
+            with self.assertRaises(least.Refused):
+                least.begin(least.Program(program()), least.Folder(Path(room, "other")), fast.read_bytes(), "basic")
+
+    def test_says_at_once_that_a_layout_has_too_many_cells(self):
+        with tempfile.TemporaryDirectory() as room:
+            words = (EXAMPLES / "balancer-16-to-16.json", room, "--without-cadical", "--learnt", "0")
+            status, written, said = self.least(*words)
+            self.assertEqual((status, written), (3, ""))
+            self.assertIn("nothing is said but of a layout of up to 161", said)
 
     def again(self, room):
         """What the tool comes to that checks a folder anew, and what it says."""
