@@ -13,7 +13,7 @@ import sys
 from dataclasses import asdict
 from pathlib import Path
 
-from . import files, inputs, report, running, strings
+from . import files, inputs, known, report, running, strings
 from .answers import Limits
 from .built import (
     FIRST_STEPS, KINDS, MOST_STEPS, TIMES_STEPS, Balancer, Laid, Maker, Unbuilt, is_least, is_over, labelled, same
@@ -117,6 +117,8 @@ def words_of(arguments):
     told = "how many seconds of a processor are spent on the layouts of each balancer, those of before counted"
     parser.add_argument("--seconds", type=at_least(0, float), default=60, help=told)
     parser.add_argument("--jobs", type=at_least(1), default=2, help="how many balancers are laid out at once")
+    told = "designs that are known, as bin/collection takes them: what is better is taken into the book, turned round too"
+    parser.add_argument("--designs", metavar="PATH", action="append", default=[], help=told)
     parser.add_argument("--keep", metavar="FOLDER", help="puts the book, its table and its certificates there too")
     parser.add_argument("--program", metavar="FILE", help="the program to run, in place of that of bin/beltproof")
     return parser.parse_args(arguments)
@@ -148,6 +150,7 @@ def make(asked, program):
     together."""
     folder = Path(asked.output)
     folder.mkdir(parents=True, exist_ok=True)
+    texts = designed_in(asked.designs)
     maker, kept = Maker(program, folder, asked.seconds), read(folder, program)
     asked_for = set(wanted(asked))
     # What the record tells besides stays in the book.
@@ -161,11 +164,19 @@ def make(asked, program):
                 maker.build(it)
                 say(f"{it.name}: {count_of(it)}")
                 write(folder, program, them)
+        for it in known.take_all(maker, of_kind, texts):
+            say(f"{it.name}: {'{} x {}'.format(*it.size)}, a design that is known")
+            write(folder, program, them)
         mark_other(them)
         lay_all(maker, asked.jobs, them, of_kind, FIRST_STEPS)
     lay_all(maker, asked.jobs, them, own, MOST_STEPS)
     write(folder, program, them)
     return [it for it in them if it.laid and it.is_other]
+
+
+def designed_in(paths):
+    """The texts of the blueprints in these files, folders and strings."""
+    return [it.text.decode("utf-8") for it in inputs.designs_of(paths) if it.is_json()] if paths else []
 
 
 def count_of(balancer):

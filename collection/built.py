@@ -91,7 +91,7 @@ class Balancer:
 
     @property
     def name(self):
-        kinds_ = [self.kind, *self.also]
+        kinds_ = [it for it in (self.kind, *self.also) if it != "output" or "balanced" not in self.also]
         return f"{self.inputs} to {self.outputs} {', '.join(KINDS[it]['label'] for it in kinds_)}"
 
     def says(self):

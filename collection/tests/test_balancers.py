@@ -6,7 +6,8 @@ import json
 import os
 import subprocess
 
-from .. import balancers, built, design, files, networks, states, strings, trace
+from .. import balancers, built, design, files, known, networks, states, strings, trace
+from ..program import find
 from ..words import PROPERTIES
 from . import EXAMPLES, Case, belt, blueprint, program_path, run
 
@@ -58,17 +59,17 @@ class Made(Case):
         head, *lines = [it.split("\t") for it in (self.report / "table.tsv").read_text().splitlines()]
         told = {tuple(it[:3]): it[3:] for it in lines}
         self.assertEqual(head, balancers.COLUMNS)
-        self.assertEqual(told["balanced", "1", "1"], ["0", "1", "1", "1", "rows", "none smaller"])
-        self.assertEqual(told["balanced", "1", "2"][0], "none known")
-        self.assertEqual(told["balanced", "2", "2"], ["0", "", "", "", "", ""])
-        self.assertNotIn(("unlimited", "1", "1"), told)
+        self.assertEqual(told["output", "1", "1"], ["0", "1", "1", "1", "rows", "none smaller"])
+        self.assertEqual(told["output", "1", "2"][0], "none known")
+        self.assertEqual(told["output", "2", "2"], ["0", "", "", "", "", ""])
+        self.assertNotIn(("balanced", "1", "1"), told)
         table = (self.report / "report" / "results.tsv").read_text()
         self.assertEqual(table.count("\tyes\t"), 2 * len(PROPERTIES))
         count = len(self.log())
         # What is found isn't built or looked for again; of what isn't, so far as there is time.
         self.assertEqual(self.make("--most", "1"), 0)
         self.assertEqual(len(self.log()), count)
-        self.assertEqual(len(json.loads((self.report / "balancers.json").read_text())["balancers"]), 12)
+        self.assertEqual(len(json.loads((self.report / "balancers.json").read_text())["balancers"]), 16)
 
     def test_kinds_are_chosen_and_words_can_be_wrong(self):
         self.assertEqual(self.make("--most", "1", "--kinds", "universal"), 0)
@@ -178,6 +179,48 @@ class Kept(Case):
                 side_by_side = xs == list(range(xs[0], xs[0] + len(xs)))
                 ends = ["rows"] * (at_border and side_by_side) + ["sides"] * at_border + ["anywhere"]
                 self.assertIn(line.split(" | ")[4], ends, label)
+
+
+class Taken(Case):
+    """Layouts that are known, and the same turned round."""
+
+    def drawn(self, text):
+        """The letters of its parts, row by row."""
+        found = design.read(text)
+        left, top, right, bottom = found.box()
+        letters = {cell: "^>v<"[it.direction] for it in found.parts for cell in it.cells}
+        rows = (range(left, right + 1), range(top, bottom + 1))
+        return ["".join(letters.get((x, y), ".") for x in rows[0]) for y in rows[1]]
+
+    def test_a_belt_that_is_turned_round_leads_to_where_its_items_came_from(self):
+        bent = blueprint(belt(0, 2), belt(0, 1, 2), belt(1, 1))
+        other = known.turned_round(bent)
+        # The output turned on its last belt, so the input gets a belt more.
+        self.assertEqual(self.drawn(bent), [">^", "^."])
+        self.assertEqual(self.drawn(other), [".^", ">^", "^."])
+
+    def test_ends_stand_in_rows_where_they_go_north_side_by_side(self):
+        for text, rows in (
+            (blueprint(belt(0, 0), belt(1, 0)), True),
+            (blueprint(belt(0, 0), belt(2, 0)), False),
+            (blueprint(belt(0, 0, 4), belt(1, 0, 4)), False),
+            (blueprint(belt(0, 0), belt(1, 0), belt(1, 1)), False),
+            (blueprint(belt(0, 0, 4), belt(0, 1)), False),
+            ("{}", False),
+        ):
+            self.assertEqual(known.stand_in_rows(text), rows, text)
+
+    def test_what_is_better_takes_the_place_of_a_balancer(self):
+        maker = built.Maker(find(program_path()), self.folder, 0)
+        them = [built.Balancer(kind, n, m, [], True) for kind in built.KINDS for n in (1, 2, 3, 4) for m in (1, 2, 3, 4)]
+        book = balancers.designed_in([str(EXAMPLES / "balancers" / "book.txt")])
+        label = "2 to 4 balanced"
+        [two_to_four] = [it for it in book if json.loads(it)["blueprint"]["label"] == label]
+        taken = [(it.kind, it.inputs, it.outputs) for it in known.take_all(maker, them, [two_to_four])]
+        self.assertEqual(taken, [(kind, *ends) for ends in ((2, 4), (4, 2)) for kind in ("output", "balanced")])
+        self.assertEqual(list(known.take_all(maker, them, [two_to_four])), [])
+        one = next(it for it in them if (it.kind, it.inputs, it.outputs) == ("balanced", 4, 2))
+        self.assertTrue(built.Maker.shows(maker, one.blueprint, one.laid[one.which]))
 
 
 class Mirrored(Case):
