@@ -117,7 +117,7 @@ def words_of(arguments):
     told = "how many seconds of a processor are spent on the layouts of each balancer, those of before counted"
     parser.add_argument("--seconds", type=at_least(0, float), default=60, help=told)
     parser.add_argument("--jobs", type=at_least(1), default=2, help="how many balancers are laid out at once")
-    told = "designs that are known, as bin/collection takes them: what is better is taken into the book, turned round too"
+    told = "known designs, as bin/collection takes them: what is better is taken into the book, turned round too"
     parser.add_argument("--designs", metavar="PATH", action="append", default=[], help=told)
     parser.add_argument("--keep", metavar="FOLDER", help="puts the book, its table and its certificates there too")
     parser.add_argument("--program", metavar="FILE", help="the program to run, in place of that of bin/beltproof")

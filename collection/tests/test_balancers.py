@@ -212,7 +212,8 @@ class Taken(Case):
 
     def test_what_is_better_takes_the_place_of_a_balancer(self):
         maker = built.Maker(find(program_path()), self.folder, 0)
-        them = [built.Balancer(kind, n, m, [], True) for kind in built.KINDS for n in (1, 2, 3, 4) for m in (1, 2, 3, 4)]
+        ends = [(n, m) for n in range(1, 5) for m in range(1, 5)]
+        them = [built.Balancer(kind, *it, [], True) for kind in built.KINDS for it in ends]
         book = balancers.designed_in([str(EXAMPLES / "balancers" / "book.txt")])
         label = "2 to 4 balanced"
         [two_to_four] = [it for it in book if json.loads(it)["blueprint"]["label"] == label]
