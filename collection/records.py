@@ -1,7 +1,7 @@
 """The command record: whether a design beats what the book of balancers has, and the table of what it has.
 
-A record is the layout of fewest tiles that is known of a kind of balancers, from so many inputs to so many outputs, with
-its ends side by side; of as many tiles that of fewest splitters."""
+A record is the layout of fewest tiles that is known of a kind of balancers, from so many inputs to so many outputs,
+with its ends side by side; of as many tiles that of fewest splitters."""
 
 import argparse
 import sys
