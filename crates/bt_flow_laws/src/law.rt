@@ -1,0 +1,24 @@
+//! Laws of networks, as the contracts of functions that do nothing.
+ghost use Rattle.bt_flow_laws.specs.Mirror.{MirrorTwice, MirrorIsNetwork, MirrorIsSteady, MirrorHolds};
+
+/// The mirror of the mirror of a network is the network.
+pub fn mirror_twice()
+    ensures { MirrorTwice }
+{}
+
+/// The mirror of a network is a network.
+pub fn mirror_is_network()
+    ensures { MirrorIsNetwork }
+{}
+
+/// The mirror of an admissible steady state is an admissible steady state of the mirror, whatever the caps and the
+/// preferred edges.
+pub fn mirror_is_steady()
+    ensures { MirrorIsSteady }
+{}
+
+/// A network has a property exactly where its mirror has the mirror of the property: `balanced` and `drawn-evenly`
+/// change places, and so do `fair` and `drawn-fairly`; `unlimited` and `full` are their own mirrors.
+pub fn mirror_holds()
+    ensures { MirrorHolds }
+{}
