@@ -1,5 +1,6 @@
 //! Laws of networks, as the contracts of functions that do nothing.
 ghost use Rattle.bt_flow_laws.specs.Mirror.{MirrorTwice, MirrorIsNetwork, MirrorIsSteady, MirrorHolds};
+ghost use Rattle.bt_flow_laws.specs.Walk.{WaysGiveWalks};
 
 /// The mirror of the mirror of a network is the network.
 pub fn mirror_twice()
@@ -21,4 +22,11 @@ pub fn mirror_is_steady()
 /// change places, and so do `fair` and `drawn-fairly`; `unlimited` and `full` are their own mirrors.
 pub fn mirror_holds()
     ensures { MirrorHolds }
+{}
+
+/// Where each splitter has a way to an output, walks that leave each splitter by each of its out edges alike are
+/// solved, over one denominator: each number of outputs has its mean at each splitter, between the least and the
+/// greatest; and each load of inputs its share on each out edge.
+pub fn ways_give_walks()
+    ensures { WaysGiveWalks }
 {}

@@ -3,4 +3,4 @@
 
 mod law;
 
-pub use law::{mirror_holds, mirror_is_network, mirror_is_steady, mirror_twice};
+pub use law::{mirror_holds, mirror_is_network, mirror_is_steady, mirror_twice, ways_give_walks};

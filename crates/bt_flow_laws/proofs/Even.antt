@@ -1,0 +1,1 @@
+-- In a balanced network shares at outputs are equal, and means at inputs too.
