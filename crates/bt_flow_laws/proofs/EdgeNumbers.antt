@@ -1,5 +1,5 @@
 -- Sums of numbers of edges, split by the splitters at their ends.
-use Rattle.std.proofs.Common.{◌≡◌, ℕ, zero, suc, ◌+◌, ◌*◌, ◌<◌, ◌≤◌, ◌==◌, Bool, true, false, cond, List, [], ◌∷◌, slice_get, Some, sym, ap, ◌∙◌, refl, subst, arith, mul-le-mul_left}
+use Rattle.std.proofs.Common.{◌≡◌, ℕ, zero, suc, ◌+◌, ◌*◌, ◌≤◌, Bool, true, false, cond, List, [], ◌∷◌, slice_get, Some, sym, ap, ◌∙◌, refl, arith}
 use Rattle.std.specs.List.{AllByRecursion, count_by, fold}
 use Rattle.bt_net.specs.declared.network.Edge.{Edge}
 use Rattle.bt_net.specs.declared.network.Start.{Start}
@@ -8,7 +8,7 @@ use Rattle.bt_net.specs.declared.network.Target.{Target}
 use Rattle.bt_net.specs.declared.network.Target.TheVariants as to
 use Rattle.bt_net.specs.Network.{Network, StartsIn, EndsIn, leaves, enters}
 use Rattle.bt_flow_laws.specs.Walk.{sum_to, sum_of, at_target, at_start}
-use Rattle.bt_flow_laws.proofs.SumTo.{sum_same, sum_plus, sum_times, sum_none, sum_once}
+use Rattle.bt_flow_laws.proofs.SumTo.{sum_same, sum_plus, sum_none, sum_once}
 
 -- ---- sums of numbers of edges
 
@@ -123,12 +123,12 @@ module _ (n : Network) (h g : ℕ → ℕ) where
   start_is (from.Split s) tg cap l = all_more _ (h s) (sum_once n.splitters s h l)
   start_is (from.Input i) tg cap l = no_more _ (g i) (sum_none n.splitters (λ t. 0 * h t) (λ t m. let y : 0 * h t ≡ 0 = omega arith in y))
 
-  targets_each : (es : List Edge) → AllByRecursion (λ e. EndsIn n e.target) es
+  pub targets_each : (es : List Edge) → AllByRecursion (λ e. EndsIn n e.target) es
       → AllByRecursion (λ e. at_target h g e ≡ sum_to n.splitters (λ t. cond (enters t e) 1 0 * h t) + at_output g e) es
   targets_each [] all = tt
   targets_each (e ∷ es) all = (target_is e.start e.target e.cap all.0, targets_each es all.1)
 
-  starts_each : (es : List Edge) → AllByRecursion (λ e. StartsIn n e.start) es
+  pub starts_each : (es : List Edge) → AllByRecursion (λ e. StartsIn n e.start) es
       → AllByRecursion (λ e. at_start h g e ≡ sum_to n.splitters (λ t. cond (leaves t e) 1 0 * h t) + at_input g e) es
   starts_each [] all = tt
   starts_each (e ∷ es) all = (start_is e.start e.target e.cap all.0, starts_each es all.1)

@@ -1,6 +1,6 @@
 -- Rows of a walk: so many times the number of a place is the sum of the numbers of places that it leads to, and of what
 -- is given there. Where each place has a way out, they are solved by putting one place after another into the others.
-use Rattle.std.proofs.Common.{◌≡◌, ℕ, zero, suc, ◌+◌, ◌*◌, ◌<◌, ◌≤◌, ◌==◌, ◌⊎◌, inl, inr, Bool, true, false, cond, sym, ap, ◌∙◌, refl, subst, arith, mul-le-mul_left, mul-le-mul_right, mul-pos}
+use Rattle.std.proofs.Common.{◌≡◌, ℕ, zero, suc, ◌+◌, ◌*◌, ◌<◌, ◌≤◌, ◌==◌, ◌⊎◌, inl, inr, cond, sym, ap, ◌∙◌, refl, subst, arith, mul-le-mul_left, mul-le-mul_right, mul-pos}
 use Rattle.std.proofs.lemmas.Bool.{cases_lt, eq-eqb, ne_eqb}
 use Rattle.bt_flow_laws.specs.Walk.{sum_to}
 use Rattle.bt_flow_laws.proofs.SumTo.{sum_same, sum_times, sum_two, sum_most, sum_part}
@@ -216,14 +216,15 @@ module _ (k : ℕ) (w : ℕ → ℕ → ℕ) (v : ℕ → ℕ) (some : 0 < on k 
               let most_sum = sum_most k (λ t. w k t * h t) (λ t. rest.over * greatest * w k t)
               (λ t m. subst (λ x. x ≤ rest.over * greatest * w k t) (turn (h t) (w k t)) (scaled_most t m (inner t m).1)) in (
                 subst (λ x. u * rest.over * least ≤ x) f
-                (least_last (sum_to k (w k)) (v k) rest.over least (sum_to k (λ t. w k t * h t)) (b k) (subst (λ x. x ≤ sum_to k (λ t. w k t * h t)) low least_sum) at_k.0),
+                    (least_last (sum_to k (w k)) (v k) rest.over least (sum_to k (λ t. w k t * h t)) (b k) (subst (λ x. x ≤ sum_to k (λ t. w k t * h t)) low least_sum) at_k.0),
                 subst (λ x. x ≤ u * rest.over * greatest) f
-                (most_last (sum_to k (w k)) (v k) rest.over greatest (sum_to k (λ t. w k t * h t)) (b k) (subst (λ x. sum_to k (λ t. w k t * h t) ≤ x) high most_sum) at_k.1),
+                    (most_last (sum_to k (w k)) (v k) rest.over greatest (sum_to k (λ t. w k t * h t)) (b k) (subst (λ x. sum_to k (λ t. w k t * h t) ≤ x) high most_sum) at_k.1),
               )
         ]
       where
         scaled_least : (t : ℕ) → t < k → rest.over * least ≤ h t → rest.over * least * w k t ≤ h t * w k t
         scaled_least t m a = mul-le-mul_right (w k t) a
+
         scaled_most : (t : ℕ) → t < k → h t ≤ rest.over * greatest → h t * w k t ≤ rest.over * greatest * w k t
         scaled_most t m a = mul-le-mul_right (w k t) a
 

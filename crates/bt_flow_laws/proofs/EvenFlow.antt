@@ -1,6 +1,6 @@
 -- Small flows that splitters share alike are a steady state.
-use Rattle.std.proofs.Common.{◌≡◌, ℕ, zero, suc, ◌+◌, ◌*◌, ◌<◌, ◌≤◌, ◌==◌, ◌⊎◌, inl, inr, Bool, true, false, cond, if◌then◌else◌, IsTrue, ℤ, pos, ◌+ℤ◌, ◌≤ℤ◌, List, [], ◌∷◌, map, length, slice_get, Some, get_or, sym, ap, ◌∙◌, refl, subst, arith, mul-le-mul_right, eqb-true}
-use Rattle.std.specs.List.{All, AllByRecursion, count_by, range_with_len}
+use Rattle.std.proofs.Common.{◌≡◌, ℕ, zero, suc, ◌+◌, ◌*◌, ◌<◌, ◌≤◌, inl, Bool, true, false, cond, if◌then◌else◌, IsTrue, ℤ, pos, ◌+ℤ◌, ◌≤ℤ◌, List, [], ◌∷◌, map, slice_get, Some, get_or, sym, ap, ◌∙◌, refl, subst, arith, mul-le-mul_right, eqb-true}
+use Rattle.std.specs.List.{count_by}
 use Rattle.std.proofs.lemmas.Int.{ints}
 use Rattle.std.proofs.lemmas.Bool.{false≢true}
 use Rattle.std.proofs.lemmas.List.{length-map, get_or-map}
@@ -18,7 +18,7 @@ use Rattle.bt_flow.specs.Steady.{HasEdge, IsSteady, sum_where}
 use Rattle.bt_flow.specs.SevenLaws.{KeepsSevenLaws}
 use Rattle.bt_flow.specs.Properties.{IsAdmissible, Meets}
 use Rattle.bt_flow.proofs.SevenLaws.{seven_laws}
-use Rattle.bt_flow_laws.specs.Walk.{outs, sum_of, at_start, IsShare}
+use Rattle.bt_flow_laws.specs.Walk.{sum_of, IsShare}
 use Rattle.bt_flow_laws.specs.Even.{even_flow, small_over, even_state, EvenIsSteady}
 use Rattle.bt_flow_laws.proofs.EdgeNumbers.{sum_of_times, count_is, part_of}
 
@@ -43,6 +43,7 @@ one_here p f (x ∷ es) zero e h t once =
     no_more : (b : Bool) → b ≡ true → cond b 1 0 + sum_of p (λ e. 1) es ≡ 1 → sum_of p (λ e. 1) es ≡ 0
     no_more true e h = omega (arith, h)
     no_more false e h = absurd (false≢true e)
+
     plus_none : (x y : ℕ) → y ≡ 0 → x + y ≡ x
     plus_none x y e = omega (arith, e)
 one_here p f (x ∷ es) (suc a) e h t once = at (p x) once (part_of p (λ e. 1) es a e h t) (one_here p f es a e h t)
@@ -109,7 +110,7 @@ module _ (over : ℕ) (load share : ℕ → ℕ) where
     abbrev small : ℕ
     small = small_over n flow
 
-    flow_is : (a : ℕ) (e : Edge) → HasEdge n a e → flow_at s a ≡ pos (flow e)
+    pub flow_is : (a : ℕ) (e : Edge) → HasEdge n a e → flow_at s a ≡ pos (flow e)
     flow_is a e h = get_or-map (λ x. pos (flow x)) n.edges a e (pos 0) (slice_get_within n.edges a e h) ∙ ap (λ x. pos (flow x)) (get_or_from_slice_get n.edges a e e h)
 
     is_free : (a : ℕ) → backed_at s a ≡ true → ⊥

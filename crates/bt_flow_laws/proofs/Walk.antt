@@ -1,6 +1,6 @@
 -- Where each splitter has a way to an output, the rows of walks are solved.
-use Rattle.std.proofs.Common.{◌≡◌, ℕ, zero, suc, ◌+◌, ◌*◌, ◌<◌, ◌≤◌, Bool, true, false, cond, List, [], ◌∷◌, slice_get, Some, length, get_or, sym, ap, ◌∙◌, refl, subst, arith, mul-le-mul_left}
-use Rattle.std.specs.List.{AllByRecursion, All}
+use Rattle.std.proofs.Common.{◌≡◌, ℕ, suc, ◌+◌, ◌*◌, ◌<◌, ◌≤◌, Bool, true, false, cond, List, [], ◌∷◌, sym, ap, ◌∙◌, refl, subst, arith}
+use Rattle.std.specs.List.{AllByRecursion}
 use Rattle.std.proofs.lemmas.Bool.{eq-eqb}
 use Rattle.std.proofs.lemmas.Option.{slice_get_within, get_or_from_slice_get}
 use Rattle.std.proofs.lemmas.List.Elements.{All-get_or}
@@ -13,8 +13,8 @@ use Rattle.bt_net.specs.Network.{Network, IsWired, StartsIn, EndsIn, leaves, ent
 use Rattle.bt_flow.specs.Steady.{HasEdge}
 use Rattle.bt_flow_formula.proofs.Numbers.{all_to}
 use Rattle.bt_flow_laws.specs.Ways.{LeadsOut, feeds, passes}
-use Rattle.bt_flow_laws.specs.Walk.{sum_to, outs, sum_of, at_target, at_start, IsMean, IsShare, IsBetween, HasWalks, WaysGiveWalks}
-use Rattle.bt_flow_laws.proofs.SumTo.{sum_same, sum_times}
+use Rattle.bt_flow_laws.specs.Walk.{sum_to, outs, sum_of, at_target, IsMean, IsShare, IsBetween, WaysGiveWalks}
+use Rattle.bt_flow_laws.proofs.SumTo.{sum_same}
 use Rattle.bt_flow_laws.proofs.EdgeNumbers.{sum_of_same, sum_of_times, sum_of_swapped, count_is, part_of, at_output, at_input, split_targets, split_starts}
 use Rattle.bt_flow_laws.proofs.Eliminated.{HasWay, Solved, solve}
 
@@ -115,6 +115,7 @@ module _ (n : Network) (wired : IsWired n) where
     where
       add_low : (l x y u z : ℕ) → l * x ≤ u → l * y ≤ z → l * (x + y) ≤ u + z
       add_low l x y u z a b = omega (arith, a, b)
+
       add_high : (l x y u z : ℕ) → u ≤ l * x → z ≤ l * y → u + z ≤ l * (x + y)
       add_high l x y u z a b = omega (arith, a, b)
 

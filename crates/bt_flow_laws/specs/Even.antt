@@ -1,5 +1,5 @@
 -- Small flows that each splitter shares alike among its out edges, in a network that is balanced.
-use Rattle.std.specs.Prelude.{◌≡◌, ℕ, ◌+◌, ◌*◌, ◌<◌, Bool, true, false, IsTrue, pos, map}
+use Rattle.std.specs.Prelude.{◌≡◌, ℕ, ◌+◌, ◌*◌, ◌<◌, true, false, IsTrue, pos, map}
 use Rattle.std.specs.List.{range_with_len}
 use Rattle.bt_net.specs.declared.network.Edge.{Edge}
 use Rattle.bt_net.specs.Network.{Network, IsNetwork, HasNoPriorities, is_input, is_output}

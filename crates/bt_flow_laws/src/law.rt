@@ -1,6 +1,7 @@
 //! Laws of networks, as the contracts of functions that do nothing.
 ghost use Rattle.bt_flow_laws.specs.Mirror.{MirrorTwice, MirrorIsNetwork, MirrorIsSteady, MirrorHolds};
 ghost use Rattle.bt_flow_laws.specs.Walk.{WaysGiveWalks};
+ghost use Rattle.bt_flow_laws.specs.Even.{EvenIsSteady, BalancedShares, BalancedMeans};
 
 /// The mirror of the mirror of a network is the network.
 pub fn mirror_twice()
@@ -29,4 +30,21 @@ pub fn mirror_holds()
 /// greatest; and each load of inputs its share on each out edge.
 pub fn ways_give_walks()
     ensures { WaysGiveWalks }
+{}
+
+/// Small flows that each splitter shares alike among its out edges are a steady state in which all edges are free, where
+/// no splitter prefers an edge.
+pub fn even_is_steady()
+    ensures { EvenIsSteady }
+{}
+
+/// In a balanced network each output gets an equal share of what the inputs give.
+pub fn balanced_shares()
+    ensures { BalancedShares }
+{}
+
+/// In a balanced network whose splitters have ways to outputs, the mean at what each input leads to is the mean of all
+/// outputs.
+pub fn balanced_means()
+    ensures { BalancedMeans }
 {}

@@ -3,4 +3,7 @@
 
 mod law;
 
-pub use law::{mirror_holds, mirror_is_network, mirror_is_steady, mirror_twice, ways_give_walks};
+pub use law::{
+    balanced_means, balanced_shares, even_is_steady, mirror_holds, mirror_is_network,
+    mirror_is_steady, mirror_twice, ways_give_walks,
+};
