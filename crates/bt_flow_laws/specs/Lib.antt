@@ -1,0 +1,4 @@
+pub mod Mirror
+pub mod Ways
+pub mod Walk
+pub mod Even
