@@ -84,6 +84,8 @@ class Network(Kept):
     gaps: list = field(default_factory=list)
     is_marked: bool = False
     """Whether what is judged is the network, in which ends are marked, and not the design's text."""
+    lacking: list | tuple | None = None
+    """Of one of several choices the tile at which it lacks room to be led out by belts, or None."""
     choices: int = 0
     """How many choices of bare halves there are, each with a folder of its own."""
 

@@ -81,7 +81,11 @@ def chosen(opening, asked, label):
         said += OF_ENDS["could"].format(labels.spelled([found.would]))
         raise Wrong(f"{said}: {OF_ENDS[found.ends]}")
     if found.choices and (asked.choice or 0) not in range(1, len(found.choices) + 1):
-        lines = (f"--choice {at}: {trace.spelled(it.opened)}" for at, it in enumerate(found.choices, 1))
+        lines = (
+            f"--choice {at}: {trace.spelled(it.opened)}"
+            + (f" ({OF_ENDS['room'].format(trace.tile(it.lacking))})" if it.lacking else "")
+            for at, it in enumerate(found.choices, 1)
+        )
         raise Wrong("\n".join([OF_ENDS["several"].format(pairs, len(found.choices)), *lines]))
     found = found.choices[asked.choice - 1] if found.choices else found
     if found.is_marked:

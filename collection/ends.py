@@ -1,9 +1,10 @@
 """Which bare halves of a design's splitters are ends, where its label tells how many inputs and outputs it has.
 
 A label tells of counts alone, so what can't be told by them stays open: all choices of halves are found with which each
-output is reached from each input, each splitter lies on a way from an input to an output, and all chosen halves can be
-led to beyond the design's border on free tiles, none shared. Choices that make the same network are one. Where two
-networks are left, both are told: none is preferred by where its halves lie.
+output is reached from each input, each splitter lies on a way from an input to an output, and no part stands in front of a
+chosen half. Choices that make the same network are one. Where two networks are left, both are told: none is dropped by
+where its halves lie, also where they can't all be led to beyond the design's border on free tiles, since undergrounds
+may have led them there. Those come last, each with the tile at which there is no room.
 
 It rests on parts and the network that they form, so that the same rule can be written elsewhere line by line."""
 
@@ -38,6 +39,8 @@ class Ends:
     status: str
     choices: tuple
     """The choices, the likely one first: of each the numbers of the halves that are ends, among `bare_ends`."""
+    rooms: tuple
+    """Of each choice the tile at which it lacks room to be led out, or None."""
     gaps: tuple
     """The tiles at which a belt may be missing."""
     stand: tuple
@@ -53,30 +56,31 @@ def ends_of(parts, taken, pairs):
     could = stand[0] + sum(not it.front for it in bare), stand[1] + sum(it.front for it in bare)
     everything = tuple(range(len(bare)))
     if could in pairs:
-        return Ends(ALL if bare else WHOLE, (everything,), (), stand, could)
+        return Ends(ALL if bare else WHOLE, (everything,), (None,), (), stand, could)
     gaps = gaps_of(parts, taken, network, bare)
     if gaps:
-        return Ends(GAP, (), gaps, stand, could)
+        return Ends(GAP, (), (), gaps, stand, could)
     if stand in pairs or not pairs and min(stand) > 0:
-        return Ends(WHOLE, ((),), (), stand, could)
+        return Ends(WHOLE, ((),), (None,), (), stand, could)
     if not pairs:
-        return Ends(ALL, (everything,), (), stand, could)
+        return Ends(ALL, (everything,), (None,), (), stand, could)
     least_x, least_y, most_x, most_y = box_of([cell for part in parts for cell in part.cells])
     cells = (most_x - least_x + 1) * (most_y - least_y + 1)
     if len(network.splitters) > MOST_SPLITTERS or len(bare) > MOST_BARE or cells > MOST_CELLS:
-        return Ends(MANY, (), (), stand, could)
+        return Ends(MANY, (), (), (), stand, could)
     plan, found = Plan(parts, taken, network, bare), []
     for pair in pairs:
         if all(low <= it <= high for low, it, high in zip(stand, pair, could)):
             them = plan.choices(pair)
             if them is None or len(found) + len(them) > MOST_CHOICES:
-                return Ends(MANY, (), (), stand, could)
+                return Ends(MANY, (), (), (), stand, could)
             found += them
-    groups = plan.grouped([it for it in found if plan.is_led_out(it)])
+    groups = plan.grouped(found)
     if groups is None or plan.tiles.visited > MOST_VISITED:
-        return Ends(MANY, (), (), stand, could)
+        return Ends(MANY, (), (), (), stand, could)
     status = NONE if not groups else ONE if len(groups) == 1 else SEVERAL
-    return Ends(status, tuple(groups), (), stand, could)
+    choices, rooms = zip(*groups) if groups else ((), ())
+    return Ends(status, choices, rooms, (), stand, could)
 
 
 def gaps_of(parts, taken, network, bare):
@@ -271,25 +275,32 @@ class Plan:
 
     def make_flow(self):
         """Leads the bare ends into the graph of the free tiles, and finds which can be led out."""
-        self.starts = {}
-        for at in range(self.count):
-            for front in (0, 1):
-                if self.halves[at][front]:
-                    side = self.tiles.node()
-                    self.starts[at, front] = self.tiles.edge(self.tiles.source, side, 0)
-                    for number in self.halves[at][front]:
-                        it = self.bare[number]
-                        self.tiles.lead(side, outside(self.parts[it.part], it))
+        self.starts = []
+        """Of each bare end the edge on which it is led out."""
+        for number in range(len(self.bare)):
+            start = self.tiles.node()
+            self.starts.append(self.tiles.edge(self.tiles.source, start, 0))
+            self.tiles.lead(start, self.beyond(number))
         self.tiles.spread()
         self.outer = self.flooded()
-        self.free = [[sum(self.is_out(it) for it in side) for side in sides] for sides in self.halves]
-        """How many bare ends each splitter has at its back and in front that can be led out alone."""
-        everything = [tuple(sides[front] for sides in self.free) for front in (0, 1)]
-        self.is_all_led_out = self.is_flowing(everything)
+        filled = {cell for part in self.parts for cell in part.cells}
+        self.halves = [
+            tuple([it for it in side if self.beyond(it) not in filled] for side in sides) for sides in self.halves
+        ]
+        self.free = [[len(side) for side in sides] for sides in self.halves]
+        """How many bare ends each splitter has at its back and in front that no part stands in front of."""
+        self.is_all_led_out = False
+        out = [it for sides in self.halves for side in sides for it in side if self.is_out(it)]
+        self.is_all_led_out = self.lacking(out) is None
+        """Whether all bare ends that can be led out alone can be together."""
+
+    def beyond(self, number):
+        """The cell beyond a bare end."""
+        return outside(self.parts[self.bare[number].part], self.bare[number])
 
     def is_out(self, number):
         """Whether a bare end can be led out where it is alone."""
-        cell = outside(self.parts[self.bare[number].part], self.bare[number])
+        cell = self.beyond(number)
         return not self.tiles.is_inside(cell) or cell in self.outer
 
     def flooded(self):
@@ -305,16 +316,20 @@ class Plan:
                     line.append(beside)
         return found
 
-    def is_flowing(self, choice):
-        """Whether the ends of a choice can all be led out together."""
-        room, wanted = list(self.tiles.room), 0
-        for (at, front), edge in self.starts.items():
-            room[edge] = choice[front][at]
-            wanted += choice[front][at]
-        return all(self.tiles.is_raised(self.tiles.source, self.tiles.sink, room) for _ in range(wanted))
-
-    def is_led_out(self, choice):
-        return self.is_all_led_out or self.is_flowing(choice)
+    def lacking(self, halves):
+        """The cell beyond the first of these bare ends that can't be led out, alone or together with those before it;
+        None where all can."""
+        alone = next((it for it in halves if not self.is_out(it)), None)
+        if alone is not None:
+            return self.beyond(alone)
+        if self.is_all_led_out:
+            return None
+        room = list(self.tiles.room)
+        for it in halves:
+            room[self.starts[it]] = 1
+            if not self.tiles.is_raised(self.tiles.source, self.tiles.sink, room):
+                return self.beyond(it)
+        return None
 
     def bounds(self, front, may):
         """How many ends each splitter gets at least and at most, where only some may get any; None where one that must
@@ -378,32 +393,33 @@ class Plan:
         return all(left & self.reach[at] for at in range(self.count))
 
     def halves_of(self, choice):
-        """The bare ends of a choice: of two the one whose straight way is free, and then the shorter."""
+        """The bare ends of a choice: of two one that can be led out, then the one whose straight way is free, and then
+        the shorter."""
         found = []
         for at in range(self.count):
             for front in (0, 1):
-                them = sorted(self.halves[at][front], key=lambda it: (*self.ways[it], it))
-                them = [it for it in them if self.is_out(it)] if len(them) > choice[front][at] > 0 else them
+                them = sorted(self.halves[at][front], key=lambda it: (not self.is_out(it), *self.ways[it], it))
                 found += them[: choice[front][at]]
         return tuple(sorted(found))
 
-    def cost(self, halves):
-        """By what choices are put in order: how many straight ways are taken, and then how many belts there are."""
-        return sum(self.ways[it][0] for it in halves), sum(self.ways[it][1] for it in halves)
+    def cost(self, halves, lacking):
+        """By what choices are put in order: whether they lack room, how many straight ways are taken, and then how many
+        belts there are."""
+        return lacking is not None, sum(self.ways[it][0] for it in halves), sum(self.ways[it][1] for it in halves)
 
     def grouped(self, choices):
-        """The bare ends of one choice for each network that they make, the likely one first, each the likeliest of its
-        network; None where there are too many networks."""
-        kept = sorted(((self.cost(halves), halves) for halves in map(self.halves_of, choices)), key=lambda it: it[0])
+        """The bare ends of one choice for each network that they make, and where they lack room, the likely one first,
+        each the likeliest of its network; None where there are too many networks."""
+        told = [(halves, self.lacking(halves)) for halves in map(self.halves_of, choices)]
         alike, found = {}, []
-        for _, halves in kept:
+        for halves, lacking in sorted(told, key=lambda it: self.cost(*it)):
             marks, edges = self.told(halves)
             colours = refined(marks, edges)
             shape = shape_of(colours, edges)
             others = alike.setdefault(shape, [])
             if not any(is_same(marks, edges, *it) for it in others):
                 others.append((marks, edges))
-                found.append(halves)
+                found.append((halves, lacking))
             if len(found) > MOST_NETWORKS:
                 return None
         return found

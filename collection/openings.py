@@ -57,6 +57,8 @@ class Opened:
     is_marked: bool = False
     """Whether the ends are marked in the network alone, since not all have room for belts: the network is what is
     judged."""
+    lacking: tuple | None = None
+    """Of one of several choices the tile at which it lacks room to be led out by belts, or None."""
 
 
 class Ground:
@@ -336,8 +338,10 @@ def opened(opening, mode, label):
 
 def by_choices(opening, told, shut):
     """Opens the choice of halves that is told, or makes of several a design each; else the design as it stands."""
-    found = [opening.opened_as([opening.ways[it] for it in halves]) for halves in told.choices if halves]
+    pairs = [it for it in zip(told.choices, told.rooms) if it[0]]
+    found = [opening.opened_as([opening.ways[it] for it in halves]) for halves, _ in pairs]
     if None in found:
         return replace(shut, ends=ends.NONE)
-    found = [replace(it, ends=told.status, would=told.could, unopened=[]) for it in found]
+    known = {"ends": told.status, "would": told.could, "unopened": []}
+    found = [replace(it, lacking=lacking, **known) for it, (_, lacking) in zip(found, pairs)]
     return replace(shut, choices=found) if told.status == ends.SEVERAL else found[0] if found else shut

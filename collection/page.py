@@ -427,6 +427,8 @@ def of_choice(row, at, choice):
     folder, (picture, _) = f"designs/{row.id()}/{choice.id()}", choice.picture
     likely = f", {OF_ENDS['likely']}" if at == 1 else ""
     told = element("h4", f"{at}{likely}: ", shown(trace.spelled(choice.of_reading("opened"), MOST_IN_PAGE)))
+    lacking = choice.of_reading("lacking")
+    told += element("p", OF_ENDS["room"].format(trace.tile(lacking)), class_="note") if lacking else ""
     drawn = ""
     if picture and at <= MOST_DRAWN:
         label = f"{files.plain(row.found.name)}, choice {at}"

@@ -259,7 +259,7 @@ def rounds(limits):
 
 def of_opened(found):
     """What a record keeps of how bare halves were opened."""
-    names = ("belts", "opened", "unopened", "before", "after", "would", "ends", "gaps", "is_marked")
+    names = ("belts", "opened", "unopened", "before", "after", "would", "ends", "gaps", "is_marked", "lacking")
     return {name: getattr(found, name) for name in names}
 
 

@@ -171,25 +171,32 @@ class Plan {
   makeFlow() {
     this.flow = new Flow();
     [this.source, this.sink] = [this.flow.node(), this.flow.node()];
+    /** The node of each tile, and of each bare end the edge on which it is led out. */
     [this.into, this.starts] = [new Map(), []];
     const line = [];
-    for (let at = 0; at < this.count; at += 1)
-      for (const front of [0, 1]) {
-        if (!this.halves[at][front].length) continue;
-        const side = this.flow.node();
-        this.starts.push([at, front, this.flow.edge(this.source, side, 0)]);
-        for (const number of this.halves[at][front]) {
-          const cell = outsideOf(this.parts[this.bare[number].part], this.bare[number]);
-          if (this.lead(side, cell)) line.push(cell);
-        }
-      }
+    for (let number = 0; number < this.bare.length; number += 1) {
+      const start = this.flow.node();
+      this.starts.push(this.flow.edge(this.source, start, 0));
+      if (this.lead(start, this.beyond(number))) line.push(this.beyond(number));
+    }
     for (const cell of line) for (let direction = 0; direction < 4; direction += 1) if (
       this.lead(this.into.get(keyOf(cell)) + 1, step(cell, direction))
     ) line.push(step(cell, direction));
     this.outer = this.flooded(line);
-    /** How many bare ends each splitter has at its back and in front that can be led out alone. */
-    this.free = this.halves.map((sides) => sides.map((side) => side.filter((it) => this.isOut(it)).length));
-    this.isAllLedOut = this.isFlowing([0, 1].map((front) => this.free.map((sides) => sides[front])));
+    const filled = new Set(this.parts.flatMap((it) => it.cells).map(keyOf));
+    this.halves = this.halves.map((sides) => sides.map((side) => side.filter(
+      (it) => !filled.has(keyOf(this.beyond(it)))
+    )));
+    /** How many bare ends each splitter has at its back and in front that no part stands in front of. */
+    this.free = this.halves.map((sides) => sides.map((side) => side.length));
+    /** Whether all bare ends that can be led out alone can be together. */
+    this.isAllLedOut = false;
+    this.isAllLedOut = !this.lacking(this.halves.flat(2).filter((it) => this.isOut(it)));
+  }
+
+  /** The cell beyond a bare end. */
+  beyond(number) {
+    return outsideOf(this.parts[this.bare[number].part], this.bare[number]);
   }
 
   /** An edge from a node to a free cell, or out of the box; whether the cell is a new one. */
@@ -211,7 +218,7 @@ class Plan {
 
   /** Whether a bare end can be led out where it is alone. */
   isOut(number) {
-    const cell = outsideOf(this.parts[this.bare[number].part], this.bare[number]);
+    const cell = this.beyond(number);
     return !this.isInside(cell) || this.outer.has(keyOf(cell));
   }
 
@@ -229,20 +236,18 @@ class Plan {
     return found;
   }
 
-  /** Whether the ends of a choice can all be led out together. */
-  isFlowing(choice) {
+  /** The cell beyond the first of these bare ends that can't be led out, alone or together with those before it; null
+      where all can. */
+  lacking(halves) {
+    const alone = halves.find((it) => !this.isOut(it));
+    if (alone !== undefined) return this.beyond(alone);
+    if (this.isAllLedOut) return null;
     const room = [...this.flow.room];
-    let wanted = 0;
-    for (const [at, front, edge] of this.starts) {
-      room[edge] = choice[front][at];
-      wanted += choice[front][at];
+    for (const it of halves) {
+      room[this.starts[it]] = 1;
+      if (!this.flow.isRaised(this.source, this.sink, room)) return this.beyond(it);
     }
-    for (; wanted > 0; wanted -= 1) if (!this.flow.isRaised(this.source, this.sink, room)) return false;
-    return true;
-  }
-
-  isLedOut(choice) {
-    return this.isAllLedOut || this.isFlowing(choice);
+    return null;
   }
 
   /** How many ends each splitter gets at least and at most, where only some may get any; null where one that must may
@@ -307,38 +312,39 @@ class Plan {
     return this.reach.every((reach) => left.some((it) => reach.has(it)));
   }
 
-  /** The bare ends of a choice: of two the one whose straight way is free, and then the shorter. */
+  /** The bare ends of a choice: of two one that can be led out, then the one whose straight way is free, and then the
+      shorter. */
   halvesOf(choice) {
     const found = [];
     for (let at = 0; at < this.count; at += 1)
       for (const front of [0, 1]) {
-        const count = choice[front][at];
-        const [way, belts] = [(it) => this.ways[it][0], (it) => this.ways[it][1]];
-        const them = [...this.halves[at][front]].sort((a, b) => way(a) - way(b) || belts(a) - belts(b) || a - b);
-        found.push(...(them.length > count && count > 0 ? them.filter((it) => this.isOut(it)) : them).slice(0, count));
+        const told = (it) => [this.isOut(it) ? 0 : 1, ...this.ways[it]];
+        const them = [...this.halves[at][front]].sort((a, b) => byNumbers(told(a), told(b)) || a - b);
+        found.push(...them.slice(0, choice[front][at]));
       }
     return found.sort((a, b) => a - b);
   }
 
-  /** By what choices are put in order: how many straight ways are taken, and then how many belts there are. */
-  cost(halves) {
-    return [0, 1].map((which) => total(halves.map((it) => this.ways[it][which])));
+  /** By what choices are put in order: whether they lack room, how many straight ways are taken, and then how many
+      belts there are. */
+  cost(halves, lacking) {
+    return [lacking ? 1 : 0, ...[0, 1].map((which) => total(halves.map((it) => this.ways[it][which])))];
   }
 
-  /** The bare ends of one choice for each network that they make, the likely one first, each the likeliest of its
-      network; null where there are too many networks. */
+  /** The bare ends of one choice for each network that they make, and where they lack room, the likely one first, each
+      the likeliest of its network; null where there are too many networks. */
   grouped(choices) {
-    const kept = choices.map((it) => this.halvesOf(it)).map((halves) => [this.cost(halves), halves]);
-    kept.sort(([a], [b]) => a[0] - b[0] || a[1] - b[1]);
+    const kept = choices.map((it) => this.halvesOf(it)).map((halves) => [halves, this.lacking(halves)]);
+    kept.sort((a, b) => byNumbers(this.cost(...a), this.cost(...b)));
     const [alike, found] = [new Map(), []];
-    for (const [, halves] of kept) {
+    for (const [halves, lacking] of kept) {
       const [marks, edges] = this.told(halves);
       const shape = shapeKey(refined(marks, edges), edges);
       if (!alike.has(shape)) alike.set(shape, []);
       const others = alike.get(shape);
       if (!others.some((it) => isSameShape(marks, edges, ...it))) {
         others.push([marks, edges]);
-        found.push(halves);
+        found.push([halves, lacking]);
       }
       if (found.length > MOST_NETWORKS) return null;
     }
@@ -457,13 +463,15 @@ const endsOf = (parts, taken, pairs) => {
   const bare = bareEnds(parts);
   const stand = [network.inputs.length, network.outputs.length];
   const could = [stand[0] + bare.filter((it) => !it.front).length, stand[1] + bare.filter((it) => it.front).length];
-  const told = (status, choices = [], gaps = []) => ({ status, choices, gaps, stand, could });
+  const told = (status, groups = [], gaps = []) => ({
+    status, choices: groups.map(([halves]) => halves), rooms: groups.map(([, lacking]) => lacking), gaps, stand, could
+  });
   const everything = bare.map((_, at) => at);
-  if (isAmong(could, pairs)) return told(bare.length ? "all" : "whole", [everything]);
+  if (isAmong(could, pairs)) return told(bare.length ? "all" : "whole", [[everything, null]]);
   const gaps = gapsOf(parts, taken, network, bare);
   if (gaps.length) return told("gap", [], gaps);
-  if (isAmong(stand, pairs) || (!pairs.length && Math.min(...stand) > 0)) return told("whole", [[]]);
-  if (!pairs.length) return told("all", [everything]);
+  if (isAmong(stand, pairs) || (!pairs.length && Math.min(...stand) > 0)) return told("whole", [[[], null]]);
+  if (!pairs.length) return told("all", [[everything, null]]);
   const [leastX, leastY, mostX, mostY] = spanOf(parts.flatMap((it) => it.cells));
   const cells = (mostX - leastX + 1) * (mostY - leastY + 1);
   if (network.splitters.length > MOST_SPLITTERS || bare.length > MOST_BARE || cells > MOST_CELLS) return told("many");
@@ -475,7 +483,7 @@ const endsOf = (parts, taken, pairs) => {
       if (!them || found.length + them.length > MOST_CHOICES) return told("many");
       found.push(...them);
     }
-  const groups = plan.grouped(found.filter((it) => plan.isLedOut(it)));
+  const groups = plan.grouped(found);
   if (!groups || plan.flow.visited > MOST_VISITED) return told("many");
   return told(!groups.length ? "none" : groups.length === 1 ? "one" : "several", groups);
 };

@@ -363,10 +363,12 @@ const openedBy = async (opening, mode, label) => {
 /** Opens the choice of halves that is told, or makes of several a design each; else the design as it stands. */
 const byChoices = async (opening, told, shut) => {
   const found = [];
-  for (const halves of told.choices) if (halves.length) found.push(
-    await opening.openedAs(halves.map((it) => opening.ways[it]))
-  );
-  if (found.includes(null)) return { ...shut, ends: "none" };
+  for (const [at, halves] of told.choices.entries()) {
+    if (!halves.length) continue;
+    const one = await opening.openedAs(halves.map((it) => opening.ways[it]));
+    if (!one) return { ...shut, ends: "none" };
+    found.push({ ...one, lacking: told.rooms[at] });
+  }
   const choices = found.map((it) => ({ ...it, ends: told.status, would: told.could, unopened: [] }));
   return told.status === "several" ? { ...shut, choices } : choices[0] ?? shut;
 };

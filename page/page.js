@@ -318,6 +318,7 @@ class View {
         open,
         drawing?.plane ?? null,
         make("p", { class: "note" }, spelled(reading.opened, MOST_REMARKED)),
+        reading.lacking ? make("p", { class: "note" }, filledIn(WORDS.ends.room, tile(reading.lacking))) : null,
       );
     });
     return make("section", {}, make("h3", {}, "Which halves are meant?"), make("ol", { class: "choices" }, ...cards));

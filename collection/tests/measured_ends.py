@@ -1,5 +1,6 @@
 """Measures the rule of ends on designs whose networks are known: the examples, and networks made at random that a
-program lays out, each trimmed to its splitters and each with one belt forgotten.
+program lays out, each trimmed to its splitters, each with its undergrounds there cut too, and each with one belt
+forgotten.
 
     python3 -B -m collection.tests.measured_ends PROGRAM COUNT
 
@@ -11,9 +12,11 @@ import sys
 import time
 from collections import Counter
 
-from .. import design, ends, trace
-from . import trimming
+from .. import design, ends, strings, trace
+from ..books import entries
+from . import EXAMPLES, trimming
 
+BALANCERS = EXAMPLES / "balancers" / "book.txt"
 STEPS = "4000"
 """How many steps the search for a layout may take."""
 MOST_FORGOTTEN = 12
@@ -62,6 +65,8 @@ def laid_out(program, text):
 def designs(program, count, seed=1):
     """So many designs with their labels: the examples, and what is laid out."""
     yield from trimming.designs()
+    for it in entries(strings.inflate(BALANCERS.read_text("utf-8")).decode())[0]:
+        yield "/".join(it.path()), it.text
     random_ = random.Random(seed)
     number = 0
     while number < count:
@@ -80,9 +85,9 @@ def told_network(parts, halves=()):
 
 def judged(text, pair, truth):
     """What the rule makes of a design: right, wrong or open, each with what it says; and how long it took."""
-    parts, begin = design.read(text).parts, time.monotonic()
+    parts, begin = design.read(text).parts, time.process_time()
     told = ends.ends_of(parts, (), [pair])
-    seconds = time.monotonic() - begin
+    seconds = time.process_time() - begin
     same = [ends.is_same(*told_network(parts, halves), *truth) for halves in told.choices]
     if told.status in (ends.WHOLE, ends.ALL, ends.ONE):
         return ("right" if same[0] else "wrong"), told.status, seconds
@@ -99,15 +104,18 @@ def with_one_forgotten(text, most):
 
 
 def main(program, count):
-    trimmed, forgotten, slowest = Counter(), Counter(), 0
+    trimmed, cut, forgotten, slowest = Counter(), Counter(), Counter(), 0
     for name, text in designs(program, int(count)):
         parts, network = trimming.traced(text)
         pair, truth = (len(network.inputs), len(network.outputs)), told_network(parts)
-        word, status, seconds = judged(trimming.trimmed(text), pair, truth)
-        trimmed[word, status] += 1
-        slowest = max(slowest, seconds)
-        if word not in ("right", "open, with it"):
-            print(name, word, status, text)
+        if not network.splitters:
+            continue
+        for counts, undergrounds in ((trimmed, False), (cut, True)):
+            word, status, seconds = judged(trimming.trimmed(text, undergrounds), pair, truth)
+            counts[word, status] += 1
+            slowest = max(slowest, seconds)
+            if word == "wrong" or word == "open" and status not in (ends.MANY, ends.GAP):
+                print(name, word, status)
         for whole in (text, trimming.trimmed(text)):
             for missing in with_one_forgotten(whole, MOST_FORGOTTEN):
                 word, status, _ = judged(missing, pair, truth)
@@ -115,6 +123,7 @@ def main(program, count):
                 if word in ("right", "wrong"):
                     print(name, "with a belt forgotten:", word, status, missing)
     print(dict(trimmed))
+    print("with undergrounds cut:", dict(cut))
     print(dict(forgotten))
     print(f"the slowest took {slowest:.2f} s")
 

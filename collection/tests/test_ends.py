@@ -29,6 +29,11 @@ def parts_of(told):
     return found
 
 
+TOLD_WHERE_CUT = [("right", it) for it in (ends.ONE, ends.ALL, ends.WHOLE)]
+TOLD_WHERE_CUT += [("open, with it", ends.SEVERAL), ("open", ends.MANY), ("open", ends.GAP), ("open", ends.NONE)]
+"""What may be told of designs whose undergrounds at their ends are cut too: never another network."""
+
+
 class Ends(Case):
     def test_each_case(self):
         statuses = Counter()
@@ -39,6 +44,7 @@ class Ends(Case):
                 self.assertEqual(
                     (told.status, list(map(list, told.choices))), (expected["status"], expected["choices"])
                 )
+                self.assertEqual([it and list(it) for it in told.rooms], expected["rooms"])
                 self.assertEqual(list(map(list, told.gaps)), expected["gaps"])
                 self.assertEqual([list(told.stand), list(told.could)], [expected["stand"], expected["could"]])
                 statuses[told.status] += 1
@@ -52,11 +58,13 @@ class Ends(Case):
             word, _, seconds = measured_ends.judged(trimming.trimmed(text), pair, truth)
             words[word] += 1
             self.assertLess(seconds, 0.5)
+            cut = measured_ends.judged(trimming.trimmed(text, True), pair, truth)
+            self.assertIn(cut[:2], TOLD_WHERE_CUT, name)
             for missing in measured_ends.with_one_forgotten(text, 5):
                 with self.subTest(name=name):
                     self.assertEqual(measured_ends.judged(missing, pair, truth)[:2], ("open", ends.GAP))
-        # Halves that aren't used, of two universal balancers, may be ends as well as those that are.
-        self.assertEqual(words, {"right": 44, "open, with it": 2})
+        # Halves that aren't used, of two universal balancers and of a loop, may be ends as well as those that are.
+        self.assertEqual(words, {"right": 43, "open, with it": 3})
 
     def test_many_bare_halves_end_soon(self):
         rows = [f"splitter basic 0 {2 * x} {3 * y}" for x in range(32) for y in range(4)]
@@ -79,8 +87,11 @@ class Ends(Case):
 
     def test_what_stands_in_the_way_of_an_end(self):
         parts = parts_of("splitter basic 0 0 0; belt basic 0 0 1; belt basic 0 0 -1")
-        self.assertEqual(ends.ends_of(parts, [(1, -1)], [(1, 2)]).status, ends.NONE)
-        self.assertEqual(ends.ends_of(parts, (), [(1, 2)]).status, ends.ONE)
+        told = ends.ends_of(parts, [(1, -1)], [(1, 2)])
+        self.assertEqual((told.status, told.rooms), (ends.ONE, ((1, -1),)))
+        self.assertEqual(ends.ends_of(parts, (), [(1, 2)]).rooms, (None,))
+        parts = [*parts, *parts_of("belt basic 1 1 -1")]
+        self.assertEqual(ends.ends_of(parts, (), [(1, 2)]).status, ends.NONE)
 
     def test_which_networks_are_the_same(self):
         ring = [(at, (at + 1) % 6, 4) for at in range(6)]

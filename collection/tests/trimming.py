@@ -33,14 +33,16 @@ def without(text, gone):
     return json.dumps(root)
 
 
-def trimmed(text):
-    """A design without the belts between its ends and their first splitters or undergrounds."""
+def trimmed(text, undergrounds=False):
+    """A design without the belts between its ends and their first splitters or undergrounds, or without undergrounds
+    there either."""
+    kept = ("splitter",) if undergrounds else ("splitter", "entrance", "exit")
     parts, network = traced(text)
     gone = set()
     for edge in network.edges:
         run = [parts[half.part] for _, half in edge.run]
         for end, way in ((edge.source, run), (edge.target, run[::-1])):
-            count = next((k for k, it in enumerate(way) if it.kind != "belt"), len(way))
+            count = next((k for k, it in enumerate(way) if it.kind in kept), len(way))
             gone.update(it.entity for it in way[:count] if end[0] != "s")
     return without(text, gone)
 
