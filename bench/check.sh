@@ -1,17 +1,16 @@
 #!/usr/bin/env bash
-# Times `beltproof check unlimited` as a whole program on a certificate of 100 MB, against the checker alone over the
-# formula of the same network, and prints the ratio. Then times `check` on a short certificate behind the two network
-# texts of 2048 edges that follow, against `flow-check` on the same network with a state, and prints that ratio.
+# Times `beltproof check unlimited` on a certificate of 100 MB and on one of 200 MB, and prints the ratio and the most
+# memory that it takes for the text's size. Then times `check` on a short certificate behind the two network texts of
+# 2048 edges that follow, against `flow-check` on the same network with a state, and prints that ratio.
 set -euo pipefail
 top=$(cd "$(dirname "${BASH_SOURCE[0]}")/.." && pwd)
 folder=$(mktemp -d)
 trap 'rm -rf "$folder"' EXIT
 program=$("$top/tools/program")
-(cd "$top/crates/bt_bench" && rt run -- add-small 1 </dev/null >/dev/null)
-python3 - "$program" "$top/crates/bt_bench/out/bt_bench" "$top/examples" "$folder" <<'PYTHON'
+python3 - "$program" "$top/examples" "$folder" <<'PYTHON'
 import os, subprocess, sys
 
-program, bench, examples, folder = sys.argv[1:]
+program, examples, folder = sys.argv[1:]
 SIZE = 100_000_000
 ORDER = 7
 # The clauses of the flow formula of examples/chain-1-to-3.net and `unlimited`: a certificate numbers its steps after
@@ -79,8 +78,8 @@ def state_text(inputs, outputs, edges):
 
 
 def run(words, path, rounds):
-    """The least processor seconds of some runs, and what was printed."""
-    best, text = None, b""
+    """The least processor seconds of some runs, the most memory in bytes, and what was printed."""
+    best, most, text = None, 0, b""
     for _ in range(rounds):
         with open(path, "rb") as file:
             process = subprocess.Popen(words, stdin=file, stdout=subprocess.PIPE)
@@ -88,7 +87,8 @@ def run(words, path, rounds):
             _, _, usage = os.wait4(process.pid, 0)
         time = usage.ru_utime + usage.ru_stime
         best = time if best is None else min(best, time)
-    return best, text.decode().strip()
+        most = max(most, 1024 * usage.ru_maxrss)
+    return best, most, text.decode().strip()
 
 
 def write(name, text):
@@ -100,17 +100,18 @@ def write(name, text):
 
 network = open(os.path.join(examples, "chain-1-to-3.net")).read()
 certificate = open(os.path.join(examples, "chain-1-to-3.yes-unlimited")).read()
-long = repeated(certificate, SIZE)
-whole, answer = run([program, "check", "unlimited"], write("whole", network + long), 5)
-alone, word = run([bench, "check", network], write("alone", long.split("\n", 1)[1]), 5)
+once = network + repeated(certificate, SIZE)
+time, memory, answer = run([program, "check", "unlimited"], write("once", once), 5)
+double, _, _ = run([program, "check", "unlimited"], write("twice", network + repeated(certificate, 2 * SIZE)), 5)
 print(
-    f"100 MB: {answer}, {word}: {whole:.2f} s, the checker alone {alone:.2f} s: {whole / alone:.2f} times (at most 1.3)"
+    f"100 MB: {answer}: {time:.2f} s, {memory / len(once):.1f} times the text in memory, twice the length "
+    f"{double / time:.2f} times (at most 2.2)"
 )
 
 for name, (inputs, outputs, splitters, edges) in {"belts": belts(), "butterflies": butterflies()}.items():
     text = network_text(inputs, outputs, splitters, edges)
-    short, answer = run([program, "check", "unlimited"], write(name, text + "yes unlimited\nr 0 1 0\nend\n"), 20)
-    judged, other = run(
+    short, _, answer = run([program, "check", "unlimited"], write(name, text + "yes unlimited\nr 0 1 0\nend\n"), 20)
+    judged, _, other = run(
         [program, "flow-check", "unlimited"], write(name + "-state", text + state_text(inputs, outputs, len(edges))), 20
     )
     print(
