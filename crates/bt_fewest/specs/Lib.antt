@@ -1,0 +1,9 @@
+pub mod Ways
+pub mod Least
+pub mod Classes
+pub mod Starts
+pub mod Partial
+pub mod Branches
+pub mod Completed
+pub mod Rows
+pub mod Refuted
