@@ -13,9 +13,6 @@ import os, subprocess, sys
 program, examples, folder = sys.argv[1:]
 SIZE = 100_000_000
 ORDER = 7
-# The clauses of the flow formula of examples/chain-1-to-3.net and `unlimited`: a certificate numbers its steps after
-# them.
-CLAUSES = 38
 
 
 def repeated(certificate, size):
@@ -99,6 +96,9 @@ def write(name, text):
 
 
 network = open(os.path.join(examples, "chain-1-to-3.net")).read()
+formula = subprocess.run([program, "formula", "unlimited"], input=network, capture_output=True, text=True, check=True)
+# A certificate numbers its steps after the clauses of the flow formula.
+CLAUSES = next(int(line.split()[3]) for line in formula.stdout.splitlines() if line.startswith("p cnf"))
 certificate = open(os.path.join(examples, "chain-1-to-3.yes-unlimited")).read()
 once = network + repeated(certificate, SIZE)
 time, memory, answer = run([program, "check", "unlimited"], write("once", once), 5)

@@ -1,20 +1,10 @@
 //! One file for each subject. A row of a table is one text, whose fields stand between bars: a table of structs or tuples
 //! takes far longer to prove. What judges a row lacks memory at most, since an error of its own is dear too.
-mod arena;
-mod cert;
 mod choosers;
-mod cnf;
-mod frac;
-mod frac_delta;
-mod frac_row;
-mod lemmas;
-mod lin;
+mod claims;
 mod plans;
-mod pool;
 mod sat;
 mod seeking;
-mod simplex;
-mod theory;
 
 use bt_cnf::{Chooser, Formula, Lit};
 use bt_frac::{Frac, Relation, Row};
@@ -40,12 +30,6 @@ fn number_of(field: &str) -> usize {
 /// The fraction that a field spells, and 0 where it spells none.
 fn fraction_of(field: &str) -> Frac {
     Frac::read(field.as_bytes()).unwrap_or(Frac::whole(0))
-}
-
-/// The fractions of a field's first three words.
-fn fractions_of(field: &str) -> [Frac; 3] {
-    let [first, second, third, ..] = fields(field, ' ');
-    [fraction_of(first), fraction_of(second), fraction_of(third)]
 }
 
 /// The relation that a sign stands for: `>` or `=`, and any other for at least.
@@ -75,17 +59,6 @@ fn row_of(alloc: Global, field: &str) -> Result<Option<Row>, AllocError> {
     let [relation, bound, first, second, third] = fields(field, ' ');
     let terms = terms_of(alloc, &[first, second, third])?;
     Ok(Row::from_vec(terms, relation_named(relation), fraction_of(bound)))
-}
-
-/// The rows that these texts are; a text that is none is left out.
-fn rows_of(alloc: Global, fields: &[&str]) -> Result<Vec<Row>, AllocError> {
-    let mut rows = Vec::new(alloc);
-    for field in fields {
-        if let Some(row) = row_of(alloc, field)? {
-            rows.push(row)?;
-        }
-    }
-    Ok(rows)
 }
 
 /// The literal of a word: its variable's place plus 1, and a sign. None where the formula lacks the variable.
