@@ -6,3 +6,4 @@ pub mod EdgeNumbers
 pub mod Walk
 pub mod EvenFlow
 pub mod Even
+pub mod Ends

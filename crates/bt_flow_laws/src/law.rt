@@ -1,6 +1,7 @@
 //! Laws of networks, as the contracts of functions that do nothing.
 ghost use Rattle.bt_flow_laws.specs.Mirror.{MirrorTwice, MirrorIsNetwork, MirrorIsSteady, MirrorHolds};
 ghost use Rattle.bt_flow_laws.specs.Walk.{WaysGiveWalks};
+ghost use Rattle.bt_flow_laws.specs.Ends.{MimicKeeps};
 ghost use Rattle.bt_flow_laws.specs.Even.{EvenIsSteady, BalancedShares, BalancedMeans};
 
 /// The mirror of the mirror of a network is the network.
@@ -47,4 +48,10 @@ pub fn balanced_shares()
 /// outputs.
 pub fn balanced_means()
     ensures { BalancedMeans }
+{}
+
+/// A network has each property of another with the same ends where for each of its steady states there is one of the
+/// other that looks like it at the ends. So a smaller network holds what the larger one holds.
+pub fn mimic_keeps()
+    ensures { MimicKeeps }
 {}

@@ -4,6 +4,6 @@
 mod law;
 
 pub use law::{
-    balanced_means, balanced_shares, even_is_steady, mirror_holds, mirror_is_network,
+    balanced_means, balanced_shares, even_is_steady, mimic_keeps, mirror_holds, mirror_is_network,
     mirror_is_steady, mirror_twice, ways_give_walks,
 };
