@@ -7,3 +7,4 @@ pub mod Walk
 pub mod EvenFlow
 pub mod Even
 pub mod Ends
+pub mod Numbers

@@ -3,3 +3,4 @@ pub mod Ways
 pub mod Walk
 pub mod Even
 pub mod Ends
+pub mod Numbers

@@ -2,6 +2,7 @@
 ghost use Rattle.bt_flow_laws.specs.Mirror.{MirrorTwice, MirrorIsNetwork, MirrorIsSteady, MirrorHolds};
 ghost use Rattle.bt_flow_laws.specs.Walk.{WaysGiveWalks};
 ghost use Rattle.bt_flow_laws.specs.Ends.{MimicKeeps};
+ghost use Rattle.bt_flow_laws.specs.Numbers.{BalancedHasNumbers, EvenlyDrawnHasNumbers, NoInputFeedsOutput};
 ghost use Rattle.bt_flow_laws.specs.Even.{EvenIsSteady, BalancedShares, BalancedMeans};
 
 /// The mirror of the mirror of a network is the network.
@@ -54,4 +55,20 @@ pub fn balanced_means()
 /// other that looks like it at the ends. So a smaller network holds what the larger one holds.
 pub fn mimic_keeps()
     ensures { MimicKeeps }
+{}
+
+/// In a balanced network whose splitters have ways to outputs, small flows give each splitter a number for each output
+/// and for each input, with equal shares at the ends.
+pub fn balanced_has_numbers()
+    ensures { BalancedHasNumbers }
+{}
+
+/// So they do in the mirror of a network that draws evenly and whose splitters have ways from inputs.
+pub fn evenly_drawn_has_numbers()
+    ensures { EvenlyDrawnHasNumbers }
+{}
+
+/// In a balanced network of more than one output whose splitters have ways to outputs, no input feeds an output.
+pub fn no_input_feeds_output()
+    ensures { NoInputFeedsOutput }
 {}
