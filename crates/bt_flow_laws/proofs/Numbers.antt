@@ -1,17 +1,23 @@
 -- The numbers of walks in networks that are balanced or draw evenly.
-use Rattle.std.proofs.Common.{◌≡◌, ℕ, ◌*◌, ◌<◌, ◌≤◌, ◌==◌, inl, inr, Bool, true, false, cond, sym, ap, ◌∙◌, refl, arith, mul-le-mul_right}
-use Rattle.std.proofs.lemmas.Bool.{false≢true, cases_eq, eq-eqb, ne_eqb, eqb-true}
+use Rattle.std.proofs.Common.{◌≡◌, ℕ, ◌*◌, ◌<◌, ◌≤◌, ◌==◌, inl, inr, Bool, true, false, cond, sym, ap, ◌∙◌, refl, arith, mul-le-mul_right, Option, slice_get, Some, subst}
+use Rattle.std.proofs.lemmas.Bool.{false≢true, cases_eq, eq-eqb, ne_eqb, eqb-true, cases_lt}
+use Rattle.std.proofs.lemmas.List.Elements.{All-get_or}
+use Rattle.std.proofs.lemmas.Option.{slice_get_within, get_or_from_slice_get}
 use Rattle.bt_net.specs.declared.network.Start.{Start}
 use Rattle.bt_net.specs.declared.network.Start.TheVariants as from
 use Rattle.bt_net.specs.declared.network.Target.{Target}
 use Rattle.bt_net.specs.declared.network.Target.TheVariants as to
-use Rattle.bt_net.specs.Network.{Network, is_output}
-use Rattle.bt_flow.specs.declared.property.Property.TheVariants.{DrawnEvenly}
-use Rattle.bt_flow_formula.proofs.NetEdges.{edge_of_output}
+use Rattle.bt_net.specs.Network.{Network, is_output, EndsIn, is_input, IsNetwork, HasNoPriorities}
+use Rattle.bt_flow.specs.Steady.{HasEdge}
+use Rattle.bt_net.specs.declared.network.Edge.{Edge}
+use Rattle.bt_flow.specs.declared.property.Property.TheVariants.{Balanced, DrawnEvenly}
+use Rattle.bt_flow.specs.EndEdges.{input_edge, output_edge}
+use Rattle.bt_flow.specs.Properties.{Holds}
+use Rattle.bt_flow_formula.proofs.NetEdges.{input_is, edge_of_output}
 use Rattle.bt_flow_laws.specs.Mirror.{mirror_start, mirror_target, mirror_edge, mirror}
 use Rattle.bt_flow_laws.specs.Ways.{IsReached, fed, passed, LeadsOut, feeds, passes}
 use Rattle.bt_flow_laws.specs.Walk.{sum_to, at_target, at_start}
-use Rattle.bt_flow_laws.specs.Numbers.{one_at, BalancedHasNumbers, EvenlyDrawnHasNumbers, NoInputFeedsOutput}
+use Rattle.bt_flow_laws.specs.Numbers.{one_at, BalancedHasNumbers, EvenlyDrawnHasNumbers, NoInputFeedsOutput, BalancedIsOneEdge}
 use Rattle.bt_flow_laws.proofs.SumTo.{sum_same, sum_once}
 use Rattle.bt_flow_laws.proofs.MirrorNetwork.{there, mirror_is_network}
 use Rattle.bt_flow_laws.proofs.Mirror.{mirror_holds}
@@ -122,3 +128,61 @@ no_input_feeds_output n is plain balanced ways many i o a e h t u =
     let found = balanced_means n walks.over (one_at o) mean.0 is plain balanced ways mean.1 i a e h t ∙ times_one walks.over (sum_to n.outputs (one_at o)) (one_in_all n.outputs o l) in
     no_direct n.outputs walks.over (at_target mean.0 (λ p. walks.over * one_at o p) e) many walks.positive
     (output_number mean.0 (λ p. walks.over * one_at o p) e.start e.target e.cap o u ∙ times_one walks.over (one_at o o) (ap (λ b. cond b 1 0) (eq-eqb o o refl))) found
+
+-- ---- without splitters
+
+module _ (n : Network) (is : IsNetwork n) (plain : HasNoPriorities n) (balanced : Holds n Balanced) (none : n.splitters ≡ 0) where
+  ends_at : (st : Start) (tg : Target) (cap : ℕ) → EndsIn n tg → (o : ℕ) × (is_output o (record { start = st; target = tg; cap = cap }) ≡ true)
+  ends_at st (to.Output o) cap l = (o, eq-eqb o o refl)
+  ends_at st (to.Split s) cap l = absurd (omega (arith, l, none))
+
+  ends_in : (a : ℕ) (e : Edge) → HasEdge n a e → EndsIn n e.target
+  ends_in a e h = subst (λ x. EndsIn n x.target) (get_or_from_slice_get n.edges a e e h) (All-get_or (λ x. EndsIn n x.target) n.edges a e (slice_get_within n.edges a e h) is.wired.targets)
+
+  -- the edge of an input is that of an output
+  goes : (i : ℕ) → i < n.inputs → (o : ℕ) × (o < n.outputs) × (input_edge n i ≡ output_edge n o)
+  goes i l =
+      let e = input_is n is i l in
+      let o = ends_at e.0.start e.0.target e.0.cap (ends_in (input_edge n i) e.0 e.1) in
+      let at = edge_of_output n is o.0 (input_edge n i) e.0 e.1 o.1 in
+      (o.0, at.0, at.1)
+
+  one_output : n.outputs ≡ 1
+  one_output =
+      let some = is.some_output in
+      elim (cases_lt 1 n.outputs) [
+        | inl many ↦
+            let e = input_is n is 0 is.some_input in
+            let o = ends_at e.0.start e.0.target e.0.cap (ends_in (input_edge n 0) e.0 e.1) in
+            absurd (no_input_feeds_output n is plain balanced (λ s l. absurd (omega (arith, l, none))) many 0 o.0 (input_edge n 0) e.0 e.1 e.2 o.1)
+        | inr few ↦ omega (arith, few, some)
+      ]
+
+  two_inputs : (st : Start) (tg : Target) (cap : ℕ) → is_input 0 (record { start = st; target = tg; cap = cap }) ≡ true → is_input 1 (record { start = st; target = tg; cap = cap }) ≡ true → ⊥
+  two_inputs (from.Input k) tg cap t u = let a = eqb-true k 0 t in let b = eqb-true k 1 u in absurd (omega (arith, a, b))
+  two_inputs (from.Split s) tg cap t u = absurd (false≢true t)
+
+  one_input : n.inputs ≡ 1
+  one_input =
+      let some = is.some_input in
+      elim (cases_lt 1 n.inputs) [
+        | inl many ↦
+            let first = goes 0 some in
+            let second = goes 1 many in
+            let l = first.1 in
+            let m = second.1 in
+            let only = one_output in
+            let same : first.0 ≡ second.0 = omega (arith, l, m, only) in
+            let place : input_edge n 0 ≡ input_edge n 1 = first.2 ∙ ap (output_edge n) same ∙ sym second.2 in
+            let e = input_is n is 0 some in
+            let f = input_is n is 1 many in
+            let equal : e.0 ≡ f.0 = same_edge (slice_get n.edges (input_edge n 0)) (slice_get n.edges (input_edge n 1)) e.0 f.0 (ap (slice_get n.edges) place) e.1 f.1 in
+            absurd (two_inputs e.0.start e.0.target e.0.cap e.2 (subst (λ x. is_input 1 x ≡ true) (sym equal) f.2))
+        | inr few ↦ omega (arith, few, some)
+      ]
+    where
+      same_edge : (x y : Option Edge) (e f : Edge) → x ≡ y → x ≡ Some e → y ≡ Some f → e ≡ f
+      same_edge x y e f p q r = cc
+
+pub balanced_is_one_edge : BalancedIsOneEdge
+balanced_is_one_edge n is plain balanced none = (one_input n is plain balanced none, one_output n is plain balanced none)

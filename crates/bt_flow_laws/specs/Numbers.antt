@@ -53,3 +53,7 @@ EvenlyDrawnHasNumbers = (n : Network) → IsNetwork n → HasNoPriorities n → 
 abbrev pub NoInputFeedsOutput : Type 0
 NoInputFeedsOutput = (n : Network) → IsNetwork n → HasNoPriorities n → Holds n Balanced → ((s : ℕ) → s < n.splitters → LeadsOut n s) → 1 < n.outputs
     → (i o a : ℕ) (e : Edge) → HasEdge n a e → IsTrue (is_input i e) → IsTrue (is_output o e) → ⊥
+
+-- a balanced network without splitters is one edge
+abbrev pub BalancedIsOneEdge : Type 0
+BalancedIsOneEdge = (n : Network) → IsNetwork n → HasNoPriorities n → Holds n Balanced → n.splitters ≡ 0 → (n.inputs ≡ 1) × (n.outputs ≡ 1)

@@ -2,7 +2,7 @@
 ghost use Rattle.bt_flow_laws.specs.Mirror.{MirrorTwice, MirrorIsNetwork, MirrorIsSteady, MirrorHolds};
 ghost use Rattle.bt_flow_laws.specs.Walk.{WaysGiveWalks};
 ghost use Rattle.bt_flow_laws.specs.Ends.{MimicKeeps};
-ghost use Rattle.bt_flow_laws.specs.Numbers.{BalancedHasNumbers, EvenlyDrawnHasNumbers, NoInputFeedsOutput};
+ghost use Rattle.bt_flow_laws.specs.Numbers.{BalancedHasNumbers, EvenlyDrawnHasNumbers, NoInputFeedsOutput, BalancedIsOneEdge};
 ghost use Rattle.bt_flow_laws.specs.Even.{EvenIsSteady, BalancedShares, BalancedMeans};
 
 /// The mirror of the mirror of a network is the network.
@@ -71,4 +71,9 @@ pub fn evenly_drawn_has_numbers()
 /// In a balanced network of more than one output whose splitters have ways to outputs, no input feeds an output.
 pub fn no_input_feeds_output()
     ensures { NoInputFeedsOutput }
+{}
+
+/// A balanced network without splitters is one edge.
+pub fn balanced_is_one_edge()
+    ensures { BalancedIsOneEdge }
 {}
