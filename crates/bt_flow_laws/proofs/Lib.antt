@@ -6,3 +6,5 @@ pub mod EdgeNumbers
 pub mod Walk
 pub mod EvenFlow
 pub mod Even
+pub mod Ends
+pub mod Numbers

@@ -1,6 +1,8 @@
 //! Laws of networks, as the contracts of functions that do nothing.
 ghost use Rattle.bt_flow_laws.specs.Mirror.{MirrorTwice, MirrorIsNetwork, MirrorIsSteady, MirrorHolds};
 ghost use Rattle.bt_flow_laws.specs.Walk.{WaysGiveWalks};
+ghost use Rattle.bt_flow_laws.specs.Ends.{MimicKeeps};
+ghost use Rattle.bt_flow_laws.specs.Numbers.{BalancedHasNumbers, EvenlyDrawnHasNumbers, NoInputFeedsOutput, BalancedIsOneEdge};
 ghost use Rattle.bt_flow_laws.specs.Even.{EvenIsSteady, BalancedShares, BalancedMeans};
 
 /// The mirror of the mirror of a network is the network.
@@ -47,4 +49,31 @@ pub fn balanced_shares()
 /// outputs.
 pub fn balanced_means()
     ensures { BalancedMeans }
+{}
+
+/// A network has each property of another with the same ends where for each of its steady states there is one of the
+/// other that looks like it at the ends. So a smaller network holds what the larger one holds.
+pub fn mimic_keeps()
+    ensures { MimicKeeps }
+{}
+
+/// In a balanced network whose splitters have ways to outputs, small flows give each splitter a number for each output
+/// and for each input, with equal shares at the ends.
+pub fn balanced_has_numbers()
+    ensures { BalancedHasNumbers }
+{}
+
+/// So they do in the mirror of a network that draws evenly and whose splitters have ways from inputs.
+pub fn evenly_drawn_has_numbers()
+    ensures { EvenlyDrawnHasNumbers }
+{}
+
+/// In a balanced network of more than one output whose splitters have ways to outputs, no input feeds an output.
+pub fn no_input_feeds_output()
+    ensures { NoInputFeedsOutput }
+{}
+
+/// A balanced network without splitters is one edge.
+pub fn balanced_is_one_edge()
+    ensures { BalancedIsOneEdge }
 {}

@@ -4,6 +4,7 @@
 mod law;
 
 pub use law::{
-    balanced_means, balanced_shares, even_is_steady, mirror_holds, mirror_is_network,
-    mirror_is_steady, mirror_twice, ways_give_walks,
+    balanced_has_numbers, balanced_is_one_edge, balanced_means, balanced_shares, even_is_steady,
+    evenly_drawn_has_numbers, mimic_keeps, mirror_holds, mirror_is_network, mirror_is_steady,
+    mirror_twice, no_input_feeds_output, ways_give_walks,
 };
