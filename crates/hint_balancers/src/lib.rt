@@ -4,8 +4,10 @@
 
 mod block;
 mod combining;
+mod dropping;
 mod known;
 mod lessening;
+mod notation;
 mod pruning;
 mod reading;
 mod rules;
@@ -13,5 +15,7 @@ mod stages;
 mod tabled;
 mod universal;
 
+pub use dropping::{Belts, dropped};
 pub use rules::candidates;
 pub use std::alloc::AllocError as Memory;
+pub use tabled::MOST_TABLED;

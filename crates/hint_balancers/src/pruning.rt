@@ -145,7 +145,7 @@ fn passed(
 }
 
 /// Numbers the splitters that have edges, in their order.
-fn number_anew(alloc: Global, block: &mut Block) -> Result<(), AllocError> {
+pub fn number_anew(alloc: Global, block: &mut Block) -> Result<(), AllocError> {
     let numbers = new_numbers(alloc, block)?;
     let mut count = 0;
     for number in &numbers {

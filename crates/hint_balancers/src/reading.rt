@@ -74,7 +74,8 @@ fn text_of(alloc: Global, block: &Block) -> Result<Vec<u8>, AllocError> {
 /// The text of a block up to its edges.
 fn edges_text(alloc: Global, block: &Block) -> Result<Vec<u8>, AllocError> {
     let mut text = Vec::new(alloc);
-    push_header(&mut text, block.inputs, block.outputs)?;
+    text.extend_from_slice(b"net")?;
+    push_ends(&mut text, block.inputs, block.outputs)?;
     push_number(&mut text, block.splitters)?;
     text.push(b'\n')?;
     for edge in &block.edges {
@@ -83,9 +84,9 @@ fn edges_text(alloc: Global, block: &Block) -> Result<Vec<u8>, AllocError> {
     Ok(text)
 }
 
-/// Adds the front of the first line of a network with these ends, up to the number of splitters.
-pub fn push_header(text: &mut Vec<u8>, inputs: u32, outputs: u32) -> Result<(), AllocError> {
-    text.extend_from_slice(b"net ")?;
+/// Adds the numbers of inputs and outputs, with a blank in front of each and one behind them.
+pub fn push_ends(text: &mut Vec<u8>, inputs: u32, outputs: u32) -> Result<(), AllocError> {
+    text.push(b' ')?;
     push_number(text, inputs)?;
     text.push(b' ')?;
     push_number(text, outputs)?;
@@ -116,7 +117,7 @@ fn push_end(text: &mut Vec<u8>, letter: u8, number: u32) -> Result<(), AllocErro
 }
 
 /// Adds a number.
-fn push_number(text: &mut Vec<u8>, number: u32) -> Result<(), AllocError> {
+pub fn push_number(text: &mut Vec<u8>, number: u32) -> Result<(), AllocError> {
     let mut buffer = Buffer::new();
     text.extend_from_slice(buffer.format(number).as_bytes())
 }

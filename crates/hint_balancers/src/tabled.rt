@@ -2,11 +2,12 @@
 
 use crate::block::Block;
 use crate::known::KNOWN;
-use crate::reading::{block_of, push_header, read_net};
+use crate::notation::noted_net;
+use crate::reading::{block_of, push_ends};
 use bt_flow::Property;
 use bt_gen::Wish;
 use bt_net::Net;
-use bt_text::{after_word, first_line, line_feeds};
+use bt_text::{after_word, cut, first_line, line_feeds};
 use std::alloc::{AllocError, Global};
 
 /// The most inputs and outputs of a network of the table.
@@ -31,22 +32,23 @@ pub fn push_tabled(
     outputs: u32,
 ) -> Result<(), AllocError> {
     let mut front = Vec::new(alloc);
-    push_header(&mut front, inputs, outputs)?;
+    push_ends(&mut front, inputs, outputs)?;
     let mut rest = KNOWN.as_bytes();
     for _ in 0..line_feeds(rest) {
-        let (line, text) = first_line(rest);
-        if is_wanted(wish, line, &front, text) {
-            push_read(nets, alloc, text)?;
+        let (line, behind) = first_line(rest);
+        let (names, note) = cut(line, b' ');
+        if is_wanted(wish, names, &front, note) {
+            push_noted(nets, alloc, note)?;
         }
-        rest = text;
+        rest = behind;
     }
     Ok(())
 }
 
-/// Whether a line names each wished property, and the text behind it begins with `front`.
-fn is_wanted(wish: Wish, line: &[u8], front: &[u8], text: &[u8]) -> bool {
-    match Wish::named(line) {
-        Some(held) => covers(held, wish) && after_word(text, front).is_some(),
+/// Whether the names are those of each wished property at least, and the note of a network begins with `front`.
+fn is_wanted(wish: Wish, names: &[u8], front: &[u8], note: &[u8]) -> bool {
+    match Wish::named(names) {
+        Some(held) => covers(held, wish) && after_word(note, front).is_some(),
         None => false,
     }
 }
@@ -61,9 +63,9 @@ fn covers(held: Wish, wish: Wish) -> bool {
     true
 }
 
-/// Adds the network at the front of a text, where there is one.
-fn push_read(nets: &mut Vec<Net>, alloc: Global, text: &[u8]) -> Result<(), AllocError> {
-    match read_net(alloc, text)? {
+/// Adds the network of a note, where it is one.
+fn push_noted(nets: &mut Vec<Net>, alloc: Global, note: &[u8]) -> Result<(), AllocError> {
+    match noted_net(alloc, note)? {
         Some(net) => {
             nets.push(net)?;
             Ok(())
@@ -91,7 +93,7 @@ pub fn tabled(
 }
 
 /// Whether a splitter of a network prefers an edge.
-fn prefers(net: &Net) -> bool {
+pub fn prefers(net: &Net) -> bool {
     for splitter in 0..net.splitters() {
         if net.take(splitter as usize).is_some() || net.give(splitter as usize).is_some() {
             return true;
