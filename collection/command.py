@@ -11,7 +11,7 @@ from . import built, cleaning, compare, files, inputs, labels, openings, report,
 from .answers import UNKNOWN, Limits
 from .program import NoProgram, find
 from .rows import LABELS, Row
-from .words import PROPERTIES
+from .words import PROPERTIES, UNIVERSAL, WORDS
 from .work import DESIGN_JSON, DESIGN_NET, Folder, Reading, Worker, all_of
 
 ENDED_WELL, FAILED, WRONG_WORDS, UNEXPECTED, STOPPED, UNHEARD = 0, 1, 2, 3, 130, 141
@@ -54,14 +54,18 @@ def opening(parser):
 
 
 def listed(known):
-    """Reads names out of these, with commas between."""
+    """Reads names out of these, or those that the field has for them, with commas between."""
+
+    also = {name: [it["name"]] for it in WORDS["properties"] for name in it["also"]}
+    also[UNIVERSAL["name"]] = UNIVERSAL["properties"]
 
     def read(words):
-        found = [it.strip() for it in words.split(",")]
+        named = [it.strip() for it in words.split(",")]
+        found = [name for it in named for name in ([it] if it in known else also.get(it, [it]))]
         wrong = [it for it in found if it not in known]
         if wrong:
             raise argparse.ArgumentTypeError(f"{wrong[0]!r} is none of {', '.join(known)}")
-        return found
+        return list(dict.fromkeys(found))
 
     return read
 
@@ -78,11 +82,13 @@ def expecting(parser):
 
 
 def asked_for(asked, rows):
-    """The properties that are decided: those that are named, or all; and those that have to hold."""
+    """The properties that are decided: those that are named, or where none has to hold, all; and those that have to
+    hold."""
     claimed = {
         prop for row in rows for prop in labels.claims(row.found.label()).properties
     } if asked.expect_labels else set()
-    wanted = {*(asked.properties or PROPERTIES), *asked.expect, *claimed}
+    all_of_them = () if asked.expect else PROPERTIES
+    wanted = {*(asked.properties or all_of_them), *asked.expect, *claimed}
     return tuple(it for it in PROPERTIES if it in wanted)
 
 

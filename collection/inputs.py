@@ -7,6 +7,7 @@ import stat
 from collections import Counter
 from dataclasses import dataclass, replace
 from functools import cached_property
+from itertools import chain, islice
 from pathlib import Path
 
 from . import strings
@@ -166,10 +167,11 @@ def bounded(design):
 
 def from_strings(text, name, source):
     """The designs of the blueprint strings in a text."""
-    found, designs, line, at = strings.find(text), [], 1, 0
-    for it in found:
+    designs, line, at, found = [], 1, 0, strings.find(text)
+    first = list(islice(found, 2))
+    for it in chain(first, found):
         line, at = line + text.count("\n", at, it.start), it.start
-        called = name if len(found) == 1 else f"{name}, line {line}"
+        called = name if len(first) == 1 else f"{name}, line {line}"
         if it.trouble:
             designs.append(Design(called, source, "", None, it.trouble))
         elif not it.data.lstrip(BLANKS).startswith(b"{"):

@@ -13,6 +13,10 @@ from .words import NUMBERS
 
 MOST_INFLATED, MOST_DESIGNS = NUMBERS["most_inflated"], NUMBERS["most_designs"]
 """How many bytes a string inflates to at most, and how many strings of a text are read."""
+MOST_IN_ALL, LONGEST_DESIGN = NUMBERS["most_in_all"], NUMBERS["longest_design"]
+"""How many bytes all strings of a text inflate to at most, and one that is a design and no book."""
+STEP = 2**18
+"""How many bytes are inflated at a time."""
 
 VERSION = "0"
 SIGNS = "A-Za-z0-9+/"
@@ -23,11 +27,32 @@ LINE = re.compile(r"\s*(0\S*)[ \t]*\r?(?:\n|\Z)")
 """A line of one word that begins with the version byte: where a string may begin, it is one, or a damaged one."""
 FIRST = re.compile(r"\s*(\d\S*)[ \t]*\r?(?:\n|\Z)")
 """The same of a text's first line: with another version byte too."""
+OF_DESIGN = re.compile(rb'\s*\{\s*"blueprint"\s*:')
+"""How what is a design begins, and no book."""
+GOING_ON = re.compile(rf"\S*(?:\r?\n(?!0e)[{SIGNS}]{{16,}}=*(?=\s|\Z))*")
+"""A string that isn't read to its end, with the lines over which it goes on."""
 PADDING, SIGN, WORD = re.compile("=*"), re.compile(f"[{SIGNS}]"), re.compile(r"\S*")
 
 
 class Damaged(Exception):
     """Why a text is no blueprint string, in words."""
+
+
+class Dropped(Damaged):
+    """Why a string isn't read to its end, in words."""
+
+
+@dataclass
+class Allowance:
+    """How many bytes the strings of a text may still inflate to."""
+
+    left: int = MOST_IN_ALL
+
+    def take(self, count):
+        """Takes so many; Dropped where there are fewer."""
+        self.left -= count
+        if self.left < 0:
+            raise Dropped(INPUTS["all"].format(MOST_IN_ALL // 2**20))
 
 
 @dataclass(frozen=True)
@@ -47,7 +72,17 @@ def decoded(signs):
         raise Damaged(f"the string is damaged: it is no base64 ({fault})") from None
 
 
-def held_at(text, start):
+def pieces(unpacking, packed):
+    """What these bytes inflate to, piece by piece."""
+    while True:
+        piece = unpacking.decompress(packed, STEP)
+        packed = unpacking.unconsumed_tail
+        yield piece
+        if unpacking.eof or len(piece) < STEP and not packed:
+            return
+
+
+def held_at(text, start, allowance):
     """What the string that begins here holds, and where it ends."""
     if text[start : start + 1] != VERSION:
         there = repr(text[start : start + 1])
@@ -60,12 +95,13 @@ def held_at(text, start):
         packed = decoded(signs[: len(signs) - (len(signs) % 4 if block else 0)])
         rest = signs[len(signs) - len(signs) % 4 :]
         try:
-            held.append(unpacking.decompress(packed, MOST_INFLATED + 1 - size))
+            for piece in pieces(unpacking, packed):
+                held.append(piece)
+                size += len(piece)
+                allowance.take(len(piece))
+                bound(size, held[0])
         except zlib.error as fault:
             raise Damaged(f"the string is damaged: it doesn't inflate ({fault})") from None
-        size += len(held[-1])
-        if size > MOST_INFLATED:
-            raise Damaged(f"the string inflates past {MOST_INFLATED // 2**20} MB")
         if unpacking.eof:
             needed = -(-(len(packed) - len(unpacking.unused_data)) * 4 // 3)
             return b"".join(held), past_padding(text, max(begin, at - (len(signs) - needed)))
@@ -73,6 +109,14 @@ def held_at(text, start):
             sign = text[at : at + 1].strip("= \t\r\n")
             why = f"it is no base64 where {sign!r} stands" if sign else "it ends too early"
             raise Damaged(f"the string is damaged: {why}")
+
+
+def bound(size, begin):
+    """Dropped where a string is too long that begins so."""
+    if size > LONGEST_DESIGN and OF_DESIGN.match(begin):
+        raise Dropped(INPUTS["design"].format(LONGEST_DESIGN // 2**20))
+    if size > MOST_INFLATED:
+        raise Dropped(f"the string inflates past {MOST_INFLATED // 2**20} MB")
 
 
 def past_padding(text, at):
@@ -84,27 +128,32 @@ def past_padding(text, at):
 
 
 def find(text):
-    """The strings in a text, whole or damaged, in order."""
-    found, at = [], 0
+    """The strings in a text, whole or damaged, in order: one at a time, so that of what is long no more is held."""
+    count, at, allowance = 0, 0, Allowance()
     while True:
         line, start = (LINE if at else FIRST).match(text, at), START.search(text, at)
         if line is None and start is None:
-            return found
+            return
         begin = line.start(1) if line else start.start()
-        if len(found) >= MOST_DESIGNS:
-            return [*found, Found(begin, None, INPUTS["designs"].format(MOST_DESIGNS))]
+        if count >= MOST_DESIGNS:
+            yield Found(begin, None, INPUTS["designs"].format(MOST_DESIGNS))
+            return
+        count += 1
         try:
-            data, at = held_at(text, begin)
-            found.append(Found(begin, data))
+            data, at = held_at(text, begin, allowance)
+            found = Found(begin, data)
         except Damaged as fault:
-            found.append(Found(begin, None, str(fault)))
-            at = WORD.match(text, begin).end()
+            found = Found(begin, None, str(fault))
+            at = (GOING_ON if isinstance(fault, Dropped) else WORD).match(text, begin).end()
+        yield found
+        if allowance.left < 0:
+            return
 
 
 def inflate(string):
     """The bytes that a blueprint string holds."""
     string = string.strip()
-    data, end = held_at(string, 0)
+    data, end = held_at(string, 0, Allowance())
     if string[end:]:
         raise Damaged("the string is damaged: more follows where its content ends")
     return data

@@ -90,9 +90,9 @@ const fromJson = (bytes, name) => {
 };
 
 /** The designs of one blueprint string. */
-const fromString = async (string, name) => {
+const fromString = async (string, name, allowance) => {
   try {
-    const bytes = await inflate(string.replace(/-/g, "+").replace(/_/g, "/"));
+    const bytes = await inflate(string.replace(/-/g, "+").replace(/_/g, "/"), allowance);
     if (!isJson(bytes)) throw new Damaged("the string holds no object of JSON");
     return fromJson(bytes, name);
   } catch (fault) {
@@ -135,10 +135,11 @@ const designsIn = async (given, name) => {
     bounded({ name, books: [], place: "", bytes: encoder.encode(written.replace(/\r\n/g, "\n")) })
   ];
   const found = stringsIn(written);
-  const designs = [];
-  for (const [at, it] of found.slice(0, MOST_DESIGNS).entries()) designs.push(
-    ...(await fromString(it, found.length === 1 ? name : `${name}, string ${at + 1}`))
-  );
+  const [designs, allowance] = [[], new Allowance()];
+  for (const [at, it] of found.slice(0, MOST_DESIGNS).entries()) {
+    designs.push(...(await fromString(it, found.length === 1 ? name : `${name}, string ${at + 1}`, allowance)));
+    if (allowance.left < 0) return designs;
+  }
   if (found.length > MOST_DESIGNS) designs.push(
     { name: "the rest", books: [], place: "", bytes: null, trouble: filledIn(WORDS.inputs.designs, MOST_DESIGNS) }
   );

@@ -342,8 +342,10 @@ def wished(page, address):
             if page.saved(f"{slug(name)}.yes-{prop}") != program("decide", prop, data=text).stdout:
                 yield f"what is saved of {prop} of {name} isn't of the network that the command builds"
     wish(page, "universal", 33, 33)
-    if page.wait("document.getElementById('wish-told').textContent.startsWith('The program knows none')") is None:
-        yield f"that no balancer is known isn't told: {page.text('#wish-told')}"
+    page.wait("document.getElementById('what').textContent.startsWith('Building')")
+    page.value("document.getElementById('stop').click()")
+    if page.wait("document.getElementById('wish-told').textContent.includes('before it was stopped')", 10) is None:
+        yield f"that building was stopped isn't told: {page.text('#wish-told')}"
 
 
 def wish(page, kind, inputs, outputs):

@@ -528,14 +528,27 @@ const addDesigns = (found) => {
   return choose(given.length - found.length);
 };
 
+/** How often something was given. */
+let opening = 0;
+
 /** Opens what was given: its designs take the place of those before. */
 const openBytes = async (bytes, name) => {
   if (bytes.length > MOST_READ) {
     $("given").textContent = `It is longer than ${MOST_READ / 2 ** 20} MB.`;
     return;
   }
-  $("given").textContent = bytes.length > LONGEST_WRITTEN ? "Reading it…" : "";
-  const found = await designsIn(bytes, name);
+  $("given").textContent = "Reading it…";
+  opening += 1;
+  const own = opening;
+  let found = null;
+  try {
+    found = await readAside(unpackedReader, bytes, name);
+  } catch (fault) {
+    if (own === opening) $("given").textContent = `The browser couldn't read it (${fault.message}).`;
+    return;
+  }
+  // Where something else was given meanwhile, that is shown.
+  if (own !== opening) return;
   $("given").textContent = found.length ? "" : "There is nothing to open.";
   if (!found.length) return;
   given = found;

@@ -15,12 +15,12 @@ const crcOf = (bytes) => {
 
 /** Bytes as an archive keeps them: deflated, with their checksum and their length. */
 const packedOf = async (bytes) => {
-  const packed = await through(bytes, new CompressionStream("deflate-raw"), Infinity);
+  const packed = await through(bytes, new CompressionStream("deflate-raw"), () => {});
   return { crc: crcOf(bytes), length: bytes.length, packed };
 };
 
 /** The bytes that were packed so. */
-const unpackedOf = ({ length, packed }) => through(packed, new DecompressionStream("deflate-raw"), length);
+const unpackedOf = ({ packed }) => through(packed, new DecompressionStream("deflate-raw"), () => {});
 
 /** A number in so many bytes, the least first. */
 const little = (number, count) => Uint8Array.from({ length: count }, (_, at) => Math.floor(number / 256 ** at) % 256);

@@ -16,9 +16,12 @@ FIRST = "strings unpacking boot".split()
 
 SCRIPTS = (
     "words books design trace picture states refusals entities links rigs cleaning labels ends leading openings inputs"
-    " runs sentences judging networks graph saving lanes dom drawing table asking wishes page"
+    " reading runs sentences judging networks graph saving lanes dom drawing table asking wishes page"
 ).split()
 """What is packed with the program, and put into the page by its own text, whose digest the page's policy names."""
+
+READER = "strings words books design refusals inputs reading".split()
+"""What reads what was given, in a thread of its own."""
 
 PICTURE_RULES = re.compile(r"^\.body\{.*?(?=^@media)", re.M | re.S)
 COLORS = re.compile(r"^:root\{.*?\n(?=\*\{)", re.M | re.S)
@@ -103,7 +106,8 @@ def unsqueezed(text):
 def packed(module, script):
     """The scripts, the examples and the program, packed: the length of the former in four bytes, their JSON, and the
     module."""
-    told = json.dumps({"script": script, "samples": samples()}, separators=(",", ":")).encode()
+    texts = {"script": script, "reader": scripts(READER), "samples": samples()}
+    told = json.dumps(texts, separators=(",", ":")).encode()
     return squeezed(struct.pack("<I", len(told)) + told + module)
 
 

@@ -48,8 +48,9 @@ const toBase64 = (bytes) => {
   return btoa(parts.join(""));
 };
 
-/** What passes through a stream, at most so many bytes of it: more is an error. */
-const through = async (bytes, stream, most) => {
+/** What passes through a stream; each piece is told to `pass`, with the first one and how many bytes came so far, which
+    throws where that is too much. */
+const through = async (bytes, stream, pass) => {
   const writer = stream.writable.getWriter();
   // What goes wrong here shows where it is read.
   writer.write(bytes).then(() => writer.close()).catch(() => {});
@@ -60,17 +61,41 @@ const through = async (bytes, stream, most) => {
     const { done, value } = await reader.read();
     if (done) break;
     length += value.length;
-    if (length > most) {
-      reader.cancel().catch(() => {});
-      throw new Damaged(`the string inflates past ${most / 2 ** 20} MB`);
-    }
     parts.push(value);
+    try {
+      pass(value.length, length, parts[0]);
+    } catch (fault) {
+      reader.cancel().catch(() => {});
+      throw fault;
+    }
   }
   return glued(parts);
 };
 
+/** How what is a design begins, and no book. */
+const OF_DESIGN = /^\s*\{\s*"blueprint"\s*:/;
+
+/** How many bytes the strings of a text may still inflate to. */
+class Allowance {
+  constructor() {
+    this.left = WORDS.numbers.most_in_all;
+  }
+
+  /** Takes so many of a string that has so many by now, and begins so; throws where that is too much. */
+  take(count, length, begin) {
+    const { most_inflated: mostInflated, most_in_all: mostInAll, longest_design: longest } = WORDS.numbers;
+    const told = (text, most) => new Damaged(filledIn(text, Math.floor(most / 2 ** 20)));
+    this.left -= count;
+    if (this.left < 0) throw told(WORDS.inputs.all, mostInAll);
+    if (length > longest && OF_DESIGN.test(new TextDecoder().decode(begin.subarray(0, 256)))) throw told(
+      WORDS.inputs.design, longest
+    );
+    if (length > mostInflated) throw told("the string inflates past {0} MB", mostInflated);
+  }
+}
+
 /** The bytes that a blueprint string holds. */
-const inflate = async (string) => {
+const inflate = async (string, allowance = new Allowance()) => {
   if (!string.startsWith("0")) throw new Damaged(
     `a blueprint string begins with 0, its version byte, and not with ${string.slice(0, 1)}`
   );
@@ -81,7 +106,7 @@ const inflate = async (string) => {
     throw new Damaged("the string is damaged: it is no base64");
   }
   try {
-    return await through(packed, new DecompressionStream("deflate"), WORDS.numbers.most_inflated);
+    return await through(packed, new DecompressionStream("deflate"), (...told) => allowance.take(...told));
   } catch (fault) {
     if (fault instanceof Damaged) throw fault;
     throw new Damaged("the string is damaged: it doesn't inflate, or it ends too early, or more follows behind it");
@@ -89,4 +114,4 @@ const inflate = async (string) => {
 };
 
 /** The blueprint string of these bytes. */
-const deflate = async (bytes) => `0${toBase64(await through(bytes, new CompressionStream("deflate"), Infinity))}`;
+const deflate = async (bytes) => `0${toBase64(await through(bytes, new CompressionStream("deflate"), () => {}))}`;

@@ -125,6 +125,8 @@ def large():
     yield "blanks", b" \n" * (size // 2)
     yield "a bomb", strings.deflate(b'{"blueprint":{"entities":[' + b" " * (30 * 2**20) + b"]}}").encode()
     yield "a larger bomb", strings.deflate(bytes(60 * 2**20)).encode()
+    book = b'{"blueprint_book":{"description":"' + b"A" * (32 * 2**20 - 100) + b'","blueprints":[]}}'
+    yield "thirty bombs", "\n".join([strings.deflate(book)] * 30).encode()
     yield "belts", opened + b",".join(
         b'{"name":"transport-belt","position":{"x":%d.5,"y":0.5}}' % at for at in range(280000)
     ) + b"]}}"

@@ -158,29 +158,66 @@ class Started(Case):
             self.assertEqual(self.start("bare-ends", *words)[0], 2)
         self.assertEqual(list(self.folder.iterdir()), [])
 
-    def test_help_follows_words_that_are_no_command(self):
-        all_of_it = "  check-same\n      reads two designs"
-        of_one = "  decide PROPERTY [--learnt N] [--pivots N]\n      reads a design; writes"
-        for words in ([], ["nothing"]):
-            status, out, wrong = self.start("beltproof", *words)
-            self.assertEqual((status, out), (2, "usage\n"))
-            self.assertIn(all_of_it, wrong)
-            self.assertIn(of_one, wrong)
-        for words in (["help"], ["--help"], ["help", "nothing"], ["help", "help"]):
-            status, out, wrong = self.start("beltproof", *words)
-            self.assertEqual((status, all_of_it in out, of_one in out, wrong), (0, True, True, ""))
-        for words in (["help", "decide"], ["--help", "decide"]):
-            status, out, wrong = self.start("beltproof", *words)
-            self.assertEqual((status, all_of_it in out, of_one in out, wrong), (0, False, True, ""))
-        for words in (["decide"], ["decide", "balanced", "--no"]):
-            status, out, wrong = self.start("beltproof", *words)
-            self.assertEqual((status, out, all_of_it in wrong, of_one in wrong), (2, "usage\n", False, True))
-        for words in (["make"], ["make", "0x"]):
-            status, out, wrong = self.start("beltproof", *words)
-            self.assertEqual((status, out, "make K --chain" in wrong), (2, "usage\n", True))
+    def test_wrong_words_name_the_fault(self):
+        for words, told in (
+            ([], "a command is wanted"),
+            (["dcide"], "dcide is no command; did you mean decide?"),
+            (["decide"], "a property is wanted: balanced, "),
+            (["decide", "balence"], "balence is no property; did you mean balanced?"),
+            (["decide", "balanced", "--no"], "--no is no option of decide"),
+            (["decide", "balanced", "--learnt", "x"], "--learnt is a number up to 1000000000, and x is not"),
+            (["build", "fair", "65", "65"], "N is from 1 to 64, and 65 is not"),
+            (["build", "universal,tu", "3", "3"], "unlimited is wished twice"),
+            (["layout"], "--grid WxH is wanted"),
+            (["make", "0x"], "K is from 1 to 7, and 0x is not"),
+        ):
+            with self.subTest(words=words):
+                status, out, wrong = self.start("beltproof", *words)
+                self.assertEqual((status, out, wrong.count("\n")), (2, "usage\n", 2))
+                self.assertIn(f"beltproof: {told}", wrong)
         for words in (["make", "2"], ["decide", "full"], ["recover"]):
             status, _, wrong = self.start("beltproof", *words, given=(EXAMPLES / "one-belt.net").read_bytes())
             self.assertEqual((status, wrong), (0, ""))
+
+    def test_help_fits_a_screen_and_tells_of_one_command(self):
+        for words in (["help"], ["--help"], ["help", "nothing"], ["help", "help"]):
+            status, out, wrong = self.start("beltproof", *words)
+            self.assertEqual((status, wrong, "\n  check-same " in out), (0, "", True))
+            self.assertLessEqual(out.count("\n"), 24)
+        for words in (["help", "decide"], ["--help", "decide"]):
+            status, out, wrong = self.start("beltproof", *words)
+            self.assertEqual((status, wrong, "check-same" in out), (0, "", False))
+            self.assertIn("bin/beltproof decide PROPERTY [--learnt N] [--pivots N]\n", out)
+
+    def test_the_page_of_commands_is_that_of_the_help_and_its_examples_run(self):
+        page = subprocess.run([TOP / "tools" / "help", "--page"], capture_output=True, text=True, check=True).stdout
+        self.assertEqual((TOP / "docs" / "COMMANDS.md").read_text(), page)
+        examples = [it.strip() for it in page.splitlines() if it.startswith("    ") and "bin/beltproof" in it]
+        self.assertEqual(len(examples), page.count("\n## "))
+        for it in examples:
+            with self.subTest(example=it):
+                ended = subprocess.run(
+                    ["bash", "-c", it], cwd=TOP, stdin=subprocess.DEVNULL, capture_output=True, check=False
+                )
+                self.assertIn(ended.returncode, (0, 1))
+
+    def test_the_words_of_the_field_are_taken(self):
+        text = (EXAMPLES / "splitter-2-to-2.net").read_bytes()
+        for word, name in (("tu", "unlimited"), ("input-balanced", "drawn-evenly"), ("output-balanced", "balanced")):
+            told = self.start("beltproof", "decide", word, given=text)
+            self.assertEqual(told, self.start("beltproof", "decide", name, given=text))
+        built = self.start("beltproof", "build", "universal", "2", "2")[1]
+        status, out, _ = self.start("beltproof", "decide", "universal", given=built.encode())
+        self.assertEqual(status, 0)
+        status, told, _ = self.start("beltproof", "check", "universal", given=(built + out).encode())
+        self.assertEqual((status, told), (0, "yes fair\nyes drawn-fairly\nyes unlimited\n"))
+        without = out[: out.index("yes unlimited")]
+        self.assertEqual(self.start("beltproof", "check", "universal", given=(built + without).encode())[0], 9)
+        butterfly = (EXAMPLES / "butterfly-4-to-4.net").read_bytes()
+        status, out, _ = self.start("beltproof", "decide", "universal", given=butterfly)
+        self.assertEqual((status, out.split("\n")[0]), (1, "no fair"))
+        status, out, _ = self.start("beltproof", "check", "universal", given=butterfly + out.encode())
+        self.assertEqual((status, out), (1, "no fair\n"))
 
     def test_the_version_and_the_range_of_a_grid_are_told(self):
         status, out, _ = self.start("beltproof", "--version")

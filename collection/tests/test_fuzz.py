@@ -38,9 +38,9 @@ class Hostile(Case):
             self.assertEqual((len(found), fault), (most, None))
         string = strings.deflate(b'{"blueprint":{}}')
         for count, told in ((2000, [None]), (2001, [None, "more than 2000 designs stand here"])):
-            found = strings.find("\n".join([string] * count))
+            found = list(strings.find("\n".join([string] * count)))
             self.assertEqual((len(found), sorted({it.trouble for it in found}, key=str)), (count, told))
-        self.assertEqual(len(strings.find("0e" + "A" * 30 + "! ")), 1)
+        self.assertEqual(len(list(strings.find("0e" + "A" * 30 + "! "))), 1)
 
     def test_what_a_spreadsheet_takes_for_a_formula(self):
         for text in ("=1", "+1", "-1", "@a", '"=1"', "'=1", "＝1", " =1", "＠a", "''=1", '"a"'):

@@ -23,6 +23,7 @@ LARGE = (
     "entities of 3 MB",
     "beginnings of strings",
     "a bomb",
+    "thirty bombs",
     "belts",
     "a description",
     "members",
