@@ -13,7 +13,7 @@ use Rattle.bt_net.specs.inner.Preferred.{HasPlace, told}
 use Rattle.bt_net.specs.Network.{Network, none_each, HasNoPriorities, IsPrioritised, preferred_in, give_of, take_of, merges_any, leaves, enters}
 use Rattle.bt_net.specs.PinRefusals.{BeginsWithItems}
 use Rattle.bt_net.specs.declared.network.Admitted.{Admitted}
-use Rattle.bt_net.specs.Priorities.{preferring, Owns, IsPriorityHere, IsFreeFor, with_priority, Becomes}
+use Rattle.bt_net.specs.Priorities.{Owns, IsPriorityHere, IsFreeFor, with_priority, Becomes}
 use Rattle.bt_net.specs.Wiring.{HasSmallSizes}
 use Rattle.bt_net.proofs.PrioritySpelling.{here_apart, here-lacks, here-some}
 use Rattle.bt_net.proofs.ItemLines.{items_push, shorter}

@@ -12,10 +12,8 @@ use Rattle.bt_net.specs.declared.network.Priority.{Priority}
 use Rattle.bt_net.specs.declared.network.Priority.TheVariants.{Give, Take, Any}
 use Rattle.bt_net.specs.declared.network.TheConstants.{MOST_OF_EACH}
 use Rattle.bt_net.specs.Network.{Network}
-use Rattle.bt_net.specs.Priorities.{priority_text, Owns, IsPriorityLine, IsPriorityHere, AdmitsPriority}
+use Rattle.bt_net.specs.Priorities.{priority_text, Owns, IsPriorityLine, IsPriorityHere}
 use Rattle.bt_net.specs.declared.network.Admitted.{Admitted}
-use Rattle.bt_net.specs.declared.priority.Preferred.{Preferred}
-use Rattle.bt_net.specs.inner.Preferred.{IsNextOwned, IsNextPriority}
 use Rattle.bt_net.specs.Wiring.{HasSmallSizes}
 use Rattle.bt_net.specs.inner.Preferred.{PriorityFits}
 use Rattle.bt_net.proofs.PinSpelling.{some_bytes}

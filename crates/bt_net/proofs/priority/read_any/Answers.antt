@@ -1,4 +1,4 @@
-use Rattle.std.proofs.Common.{◌≡◌, codes, decimal, length, ◌∙◌, sym, subst, refl, arith, length-append}
+use Rattle.std.proofs.Common.{codes, decimal, length, subst, refl, arith, length-append}
 use Rattle.std.proofs.lemmas.Bool.{iff_false}
 use Rattle.std.proofs.lemmas.List.{get_or_at}
 use Rattle.bt_text.specs.Lines.{Lacks}

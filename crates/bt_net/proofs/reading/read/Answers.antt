@@ -1,8 +1,8 @@
-use Rattle.std.proofs.Common.{◌∙◌, ap, length, subst, sym, arith}
+use Rattle.std.proofs.Common.{◌∙◌, ap, subst, arith}
 use Rattle.std.proofs.lemmas.Result.{err_from_is_err_and}
 use Rattle.bt_net.specs.Network.{IsNetwork}
 use Rattle.bt_net.specs.Priorities.{preferring, merging}
-use Rattle.bt_net.proofs.OneReading.{header_answers, memory_answers, edges_answer, last_answers, net_answers, end_prioritised, end_less, end_within, stands}
+use Rattle.bt_net.proofs.OneReading.{header_answers, edges_answer, last_answers, net_answers, end_prioritised, end_less, end_within, stands}
 use Rattle.bt_net.proofs.reading.read.Goals as goal
 
 pub returns-in_err-wiring : goal.returns-in_err-wiring
