@@ -314,10 +314,13 @@ def thrown_priorities(chance, splitters, edges):
     for n in range(splitters):
         for word, place in ("give", 1), ("take", 2):
             near = [e for e, line in enumerate(edges) if line.split()[place] == f"s{n}"]
-            if near and chance.randrange(2):
+            if word == "take" and chance.randrange(4) == 0:
+                lines.append(f"take s{n} any")
+            elif near and chance.randrange(2):
                 lines.append(f"{word} s{n} {chance.choice(near)}")
     if chance.randrange(12) == 0:
-        lines.append(f"{chance.choice(('give', 'take'))} s{chance.randrange(4)} {chance.randrange(8)}")
+        edge = chance.choice((chance.randrange(8), "any"))
+        lines.append(f"{chance.choice(('give', 'take'))} s{chance.randrange(4)} {edge}")
     chance.shuffle(lines)
     return lines
 

@@ -182,6 +182,17 @@ class Networks(unittest.TestCase):
         both = "net 2 2 1\nedge i0 s0\nedge i1 s0\nedge s0 o0\nedge s0 o1\ntake s0 1\ngive s0 3\nend"
         self.assertEqual(run("recover", both)[1].split("\n")[5:7], ["give s0 3", "take s0 1"])
 
+    def test_any(self):
+        merge = TAKEN.replace("take s0 0", "take s0 any")
+        self.assertEqual(run("recover", merge), (0, merge))
+        for line in "take s0 any", "take s0 0":
+            refused = run("recover", merge.replace("end", line + "\nend"))
+            self.assertEqual(refused, (3, "refused 40 NetLine 6\n"))
+        state = "no drawn-evenly\nload 1 1\nroom 1\nflow 1/4 3/4 1\nmark b b f\nend\n"
+        self.assertEqual(run("flow-check drawn-evenly", merge + state), (0, "breaks drawn-evenly\n"))
+        of_law = run("flow-check drawn-evenly", TAKEN.replace("take s0 0", "take s0 1") + state)
+        self.assertEqual(of_law, (9, "refused 54 NotBreaking prior-in 1\n"))
+
     def test_refused(self):
         table = [
             ("", "40 NetLine 1"), (" " + BELT, "40 NetLine 1"), ("0eNq", "40 NetLine 1"),

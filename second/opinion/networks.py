@@ -21,6 +21,7 @@ LONG = "(0|[1-9][0-9]{0,8})"
 NET_LINE = re.compile("net (0|[1-9][0-9]*) (0|[1-9][0-9]*) (0|[1-9][0-9]*)")
 EDGE_LINE = re.compile(f"edge ([is]){SHORT} ([so]){SHORT}(?: ([1-4]))?")
 PRIORITY_LINE = re.compile(f"(give|take) s{SHORT} {SHORT}")
+ANY_LINE = re.compile(f"take s{SHORT} any")
 PIN_LINE = re.compile(f"pin ([io]){SHORT} {LONG} {LONG}(?: ({'|'.join(WAYS)}))?")
 SIDE_LINE = re.compile(f"side (?:([io]){SHORT}|(inputs|outputs)) ({'|'.join(WAYS)})")
 ROW_LINE = re.compile("row (inputs|outputs)")
@@ -79,6 +80,7 @@ class Net:
         self.outs = defaultdict(list)  # of each end, the numbers of the edges that leave it
         self.ins = defaultdict(list)  # and of those that lead to it
         self.first = {"give": {}, "take": {}}  # of a splitter, the edge that comes first
+        self.any = set()  # the splitters that may prefer any edge into them, or none
 
     def ends(self, letter):
         """All ends of a letter."""
@@ -123,7 +125,8 @@ class Net:
         """The edges that a splitter weighs against the one beside them, as tuples.
 
         Whether the edge comes first, the side (0 out of the splitter, 1 into it), the edge, and
-        the one beside it. Where one edge of a side comes first, the other is not weighed.
+        the one beside it. Where one edge of a side comes first, the other is not weighed; none is
+        of those into a splitter that may prefer any.
         """
         sides = (self.outs, self.first["give"]), (self.ins, self.first["take"])
         return [
@@ -131,7 +134,7 @@ class Net:
             for side, (near, first) in enumerate(sides)
             for letter, splitter in self.ends("s")
             for edge, other in permutations(near[letter, splitter], 2)
-            if first.get(splitter, edge) == edge
+            if first.get(splitter, edge) == edge and not (side and splitter in self.any)
         ]
 
     def text(self):
@@ -144,6 +147,8 @@ class Net:
             for word, first in self.first.items():
                 if splitter in first:
                     lines.append(f"{word} s{splitter} {first[splitter]}")
+            if splitter in self.any:
+                lines.append(f"take s{splitter} any")
         return "\n".join([*lines, "end"])
 
 
@@ -198,6 +203,8 @@ def sort_of(line, extras):
     sorts = [(0, take_edge, EDGE_LINE)]
     if extras is not Extras.NOTHING:
         sorts += [(1, take_priority, PRIORITY_LINE)]
+    if extras is Extras.PRIORITIES:
+        sorts += [(1, take_any, ANY_LINE)]
     if extras is Extras.PINS:
         sorts += [(2, take_pin, PIN_LINE), (2, take_side, SIDE_LINE), (2, take_row, ROW_LINE)]
         sorts += [(3, take_block, BLOCK_LINE)]
@@ -225,8 +232,17 @@ def take_priority(read, match, number):
     word, splitter, edge = match[1], int(match[2]), int(match[3])
     near = read.net.outs if word == "give" else read.net.ins
     first = read.net.first[word]
-    need(splitter not in first and edge in near["s", splitter], 40, "NetLine", number)
+    is_told = splitter in first or word == "take" and splitter in read.net.any
+    need(not is_told and edge in near["s", splitter], 40, "NetLine", number)
     first[splitter] = edge
+
+
+def take_any(read, match, number):
+    """`take sN any`: splitter N may prefer any edge into it, or none; nothing was told of these."""
+    splitter, net = int(match[1]), read.net
+    is_told = splitter in net.first["take"] or splitter in net.any
+    need(not is_told and splitter < net.counts["s"], 40, "NetLine", number)
+    net.any.add(splitter)
 
 
 def take_pin(read, match, number):

@@ -45,7 +45,7 @@ module _ (most : ℕ) (n : Network) (is_cap : IsCap most) (is : IsNetwork n) whe
   pub capped_is_network : IsNetwork (with_caps most n)
   capped_is_network = record {
     wired = capped_is_wired;
-    prioritised = plain_is_prioritised (with_caps most n) (record { gives = refl; takes = refl });
+    prioritised = plain_is_prioritised (with_caps most n) (record { gives = refl; takes = refl; merges = refl });
     few_inputs = is.few_inputs;
     few_outputs = is.few_outputs;
     few_splitters = is.few_splitters;

@@ -1,5 +1,5 @@
 -- Where the edges of all outputs have one cap, outputs that share fairly and are open carry the same.
-use Rattle.std.proofs.Common.{◌≡◌, ℕ, ◌<◌, ◌+◌, ◌*◌, ◌⊎◌, inl, inr, IsTrue, true, ℤ, pos, ◌≤ℤ◌, ◌<ℤ◌, length, get_or, ap, sym, ◌∙◌, refl, subst, arith}
+use Rattle.std.proofs.Common.{◌≡◌, ℕ, ◌+◌, ◌*◌, ◌⊎◌, inl, inr, IsTrue, true, ℤ, pos, ◌≤ℤ◌, ◌<ℤ◌, ap, sym, ◌∙◌, refl, arith}
 use Rattle.std.proofs.lemmas.Int.{ints}
 use Rattle.std.proofs.lemmas.Bool.{false≢true, cases_lt}
 use Rattle.std.proofs.lemmas.Option.{slice_get_within, get_or_from_slice_get}
@@ -9,7 +9,7 @@ use Rattle.bt_net.specs.declared.network.Start.{Start}
 use Rattle.bt_net.specs.declared.network.Target.{Target}
 use Rattle.bt_net.specs.declared.network.Target.TheVariants as to
 use Rattle.bt_net.specs.Network.{Network, IsNetwork, is_output}
-use Rattle.bt_flow.specs.declared.property.Property.TheVariants.{Balanced, Fair}
+use Rattle.bt_flow.specs.declared.property.Property.TheVariants.{Balanced}
 use Rattle.bt_flow.specs.declared.ports.Role.TheVariants.{ToOutput}
 use Rattle.bt_flow.specs.States.{Flows, flow_at, room_at, cap_in}
 use Rattle.bt_flow.specs.Steady.{HasEdge, IsSteady}

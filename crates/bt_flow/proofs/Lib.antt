@@ -17,6 +17,7 @@ pub mod Compared
 pub mod Each
 pub mod EqualCaps
 pub mod SevenLaws
+pub mod FewerLaws
 pub mod Scaled
 pub mod Judged
 pub mod Numbers

@@ -1,5 +1,5 @@
 -- A steady state whose numbers are so many times as great is steady.
-use Rattle.std.proofs.Common.{◌≡◌, ℕ, ◌<◌, ◌*◌, ◌⊎◌, inl, inr, Bool, true, false, ℤ, pos, ◌+ℤ◌, ◌*ℤ◌, ◌≤ℤ◌, if◌then◌else◌, List, [], ◌∷◌, length, map, get_or, ap, sym, ◌∙◌, refl, subst, arith, zero, suc}
+use Rattle.std.proofs.Common.{◌≡◌, ℕ, ◌<◌, ◌⊎◌, inl, inr, Bool, true, false, ℤ, pos, ◌+ℤ◌, ◌*ℤ◌, ◌≤ℤ◌, if◌then◌else◌, List, [], ◌∷◌, length, map, get_or, ap, sym, ◌∙◌, refl, subst, zero, suc}
 use Rattle.std.proofs.Math.IntN.{zero-*ℤ}
 use Rattle.bt_frac.proofs.Ring.{mul_assoc, mul_distrib_right}
 use Rattle.bt_frac.proofs.Order.{mul_le}

@@ -2,7 +2,7 @@
 -- none.
 use Rattle.std.proofs.Common.{◌≡◌, ℕ, Option, Some, None}
 use Rattle.bt_net.specs.Network.{Network, HasNoPriorities, give_of, take_of}
-use Rattle.bt_net.proofs.Preference.{plain_gives, plain_takes}
+use Rattle.bt_net.proofs.Preference.{plain_gives, plain_takes, plain_merges}
 use Rattle.bt_flow.specs.States.{Flows}
 use Rattle.bt_flow.specs.Steady.{IsSteady}
 use Rattle.bt_flow.specs.SevenLaws.{KeepsSevenLaws, SevenLawsAreAll}
@@ -16,7 +16,7 @@ module _ (n : Network) (plain : HasNoPriorities n) (s : Flows) where
     range = h.range;
     conserve = h.conserve;
     even_out = λ a l k b e f x y o p q m. h.even_out a l k b e f x y o p q (plain_gives n plain k) m;
-    even_in = λ a l k b e f x y o p q m. h.even_in a l k b e f x y o p q (plain_takes n plain k) m;
+    even_in = λ a l k b e f x y o p q m. h.even_in a l k b e f x y o p q (plain_takes n plain k, plain_merges n plain k) m;
     backing = h.backing;
     input = h.input;
     output = h.output;

@@ -8,7 +8,7 @@ use Rattle.std.proofs.lemmas.Option.{slice_get-get_or, get_or_from_slice_get}
 use Rattle.bt_net.specs.declared.network.Edge.{Edge}
 use Rattle.bt_net.specs.declared.network.Start.TheVariants as from
 use Rattle.bt_net.specs.declared.network.Target.TheVariants as to
-use Rattle.bt_net.specs.Network.{Network, give_of, take_of, leaves, enters}
+use Rattle.bt_net.specs.Network.{Network, TakesEvenly, give_of, take_of, merges_any, leaves, enters}
 use Rattle.bt_flow.specs.declared.ports.Port.{Port}
 use Rattle.bt_flow.specs.declared.ports.Role.{Role}
 use Rattle.bt_flow.specs.declared.ports.Role.TheVariants.{FromInput, ToOutput, OutOf, Into}
@@ -38,11 +38,24 @@ preferred_of n ToOutput k = None
 preferred_of n OutOf k = give_of n k
 preferred_of n Into k = take_of n k
 
+-- none is preferred there, and the splitter may not prefer any
+abbrev pub IsEven : Network → Role → ℕ → Type 0
+IsEven n FromInput k = preferred_of n FromInput k ≡ None
+IsEven n ToOutput k = preferred_of n ToOutput k ≡ None
+IsEven n OutOf k = give_of n k ≡ None
+IsEven n Into k = TakesEvenly n k
+
+even_none : (n : Network) (r : Role) (k : ℕ) → IsEven n r k → preferred_of n r k ≡ None
+even_none n FromInput k even = even
+even_none n ToOutput k even = even
+even_none n OutOf k even = even
+even_none n Into k even = even.0
+
 -- where none is preferred there, an edge without the mark has a flow at least that of each other edge with the same
 -- role at its splitter, or is full
 abbrev Evens : Network → Flows → Role → Bool → ℕ → Type 0
 Evens n s r mark a = (k b : ℕ) (e f : Edge) → HasEdge n a e → HasEdge n b f → b ≢ a → IsTrue (plays r k e) → IsTrue (plays r k f)
-    → preferred_of n r k ≡ None → backed_at s a ≡ not mark → (flow_at s b ≤ℤ flow_at s a) ⊎ IsFull s a e
+    → IsEven n r k → backed_at s a ≡ not mark → (flow_at s b ≤ℤ flow_at s a) ⊎ IsFull s a e
 
 -- where it is preferred there, an edge without the mark is full, or each other edge with the same role at its splitter
 -- is empty
@@ -98,12 +111,12 @@ module _ (n : Network) (s : Flows) (edges : List Edge) (a : ℕ) (d : Edge) (sam
     same_splitter m e x p = eqb-true k m (sym (has m) ∙ subst (λ z. IsTrue (plays r m z)) (sym (it_is e x)) p)
 
     -- at its splitter it is even as the edges of the port are
-    pub evens_at : (v : Bool) → IsTrue v ↔ SharesAt n s port (preferred_of n r k) mark a → IsTrue v ↔ Evens n s r mark a
-    evens_at v h =
+    pub evens_at : (preferred_of n r k ≡ None → IsEven n r k) → (v : Bool) → IsTrue v ↔ SharesAt n s port (preferred_of n r k) mark a → IsTrue v ↔ Evens n s r mark a
+    evens_at even v h =
         let ports = each n r k port is_port (λ b. flow_at s b ≤ℤ flow_at s a) in (
-          λ t m b e f x y o p q none other.
+          λ t m b e f x y o p q is_even other.
               let at = same_splitter m e x p in
-              elim (h.0 t (ap (preferred_of n r) at ∙ none)) [
+              elim (h.0 t (ap (preferred_of n r) at ∙ even_none n r m is_even)) [
                 | inl rests ↦ elim (rests e x) [ inl marked ↦ absurd (not_both (backed_at s a) mark marked other) | inr full ↦ inr full ]
                 | inr all ↦ inl (ports.0 all b f y (subst (λ z. IsTrue (plays r z f)) (sym at) q))
               ],
@@ -111,10 +124,20 @@ module _ (n : Network) (s : Flows) (edges : List Edge) (a : ℕ) (d : Edge) (sam
             | inl rests ↦ inl rests
             | inr neither ↦ inr (ports.1 (λ b f y q. elim (cases_eq b a) [
               | inl e ↦ subst (λ z. flow_at s z ≤ℤ flow_at s a) (sym e) (≤ℤ_refl (flow_at s a))
-              | inr o ↦ elim (g k b (get_or edges a d) f there y o here q none neither.0) [ inl l ↦ l | inr full ↦ absurd (neither.1 full) ]
+              | inr o ↦ elim (g k b (get_or edges a d) f there y o here q (even none) neither.0) [ inl l ↦ l | inr full ↦ absurd (neither.1 full) ]
             ]))
           ]),
         )
+
+    -- and where its splitter may prefer any, nothing is asked
+    pub evens_any : r ≡ Into → merges_any n k ≡ true → IsTrue true ↔ Evens n s r mark a
+    evens_any into any = (
+      λ t m b e f x y o p q is_even other.
+          let at = same_splitter m e x p in
+          let even : TakesEvenly n m = subst (λ z. IsEven n z m) into is_even in
+          absurd (false≢true (sym even.1 ∙ ap (merges_any n) (sym at) ∙ any)),
+      λ _. refl,
+    )
 
     -- at its splitter it comes first as among the edges of the port
     pub precedes_at : (v : Bool) → IsTrue v ↔ ComesFirstAt n s port (preferred_of n r k) mark a → IsTrue v ↔ Precedes n s r mark a

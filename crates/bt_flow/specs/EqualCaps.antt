@@ -1,7 +1,7 @@
 -- The laws of a steady state where no cap differs from another.
 use Rattle.std.specs.Prelude.{◌≡◌, ◌≢◌, ◌↔◌, ℕ, ◌<◌, true, false, None, IsTrue, length, All, ◌≤ℤ◌}
 use Rattle.bt_net.specs.declared.network.Edge.{Edge}
-use Rattle.bt_net.specs.Network.{Network, give_of, take_of, leaves, enters}
+use Rattle.bt_net.specs.Network.{Network, TakesEvenly, give_of, leaves, enters}
 use Rattle.bt_flow.specs.States.{Flows, flow_at, backed_at}
 use Rattle.bt_flow.specs.Steady.{HasEdge, KeepsRange, Conserves, GivesFirst, TakesFirst, Backs, FeedsInput, FillsOutput, IsSteady}
 
@@ -15,11 +15,10 @@ abbrev pub EvensOutAlways : Network → Flows → ℕ → Type 0
 EvensOutAlways n s a = (k b : ℕ) (e f : Edge) → HasEdge n a e → HasEdge n b f → b ≢ a → IsTrue (leaves k e) → IsTrue (leaves k f)
     → give_of n k ≡ None → backed_at s a ≡ false → flow_at s b ≤ℤ flow_at s a
 
--- a backed in edge of a splitter that prefers no in edge has a flow at least that of the splitter's other in edge, full
--- or not
+-- a backed in edge of a splitter that takes evenly has a flow at least that of the splitter's other in edge, full or not
 abbrev pub EvensInAlways : Network → Flows → ℕ → Type 0
 EvensInAlways n s a = (k b : ℕ) (e f : Edge) → HasEdge n a e → HasEdge n b f → b ≢ a → IsTrue (enters k e) → IsTrue (enters k f)
-    → take_of n k ≡ None → backed_at s a ≡ true → flow_at s b ≤ℤ flow_at s a
+    → TakesEvenly n k → backed_at s a ≡ true → flow_at s b ≤ℤ flow_at s a
 
 -- the state is steady by laws that let no splitter be uneven: the nine, but these two of even flows
 pub record IsEvenlySteady (n : Network) (s : Flows) : Type 0 where

@@ -3,6 +3,7 @@ pub mod Steady
 pub mod EqualCaps
 pub mod Fairness
 pub mod SevenLaws
+pub mod FewerLaws
 pub mod Properties
 pub mod Scaling
 pub mod Tests

@@ -2,7 +2,7 @@
 -- Steady-States of Splitter Networks) and two of splitters that prefer an edge.
 use Rattle.std.specs.Prelude.{◌≡◌, ◌≢◌, ℕ, ◌<◌, Bool, true, false, IsTrue, List, [], ◌∷◌, length, slice_get, Some, None, ℤ, pos, ◌+ℤ◌, ◌≤ℤ◌, if◌then◌else◌, ◌⊎◌}
 use Rattle.bt_net.specs.declared.network.Edge.{Edge}
-use Rattle.bt_net.specs.Network.{Network, give_of, take_of, leaves, enters, is_input, is_output}
+use Rattle.bt_net.specs.Network.{Network, TakesEvenly, give_of, take_of, leaves, enters, is_input, is_output}
 use Rattle.bt_flow.specs.States.{Flows, flow_at, backed_at, load_at, room_at, cap_in}
 
 -- this is the edge of the network with this number
@@ -37,11 +37,11 @@ abbrev pub EvensOut : Network → Flows → ℕ → Type 0
 EvensOut n s a = (k b : ℕ) (e f : Edge) → HasEdge n a e → HasEdge n b f → b ≢ a → IsTrue (leaves k e) → IsTrue (leaves k f)
     → give_of n k ≡ None → backed_at s a ≡ false → (flow_at s b ≤ℤ flow_at s a) ⊎ IsFull s a e
 
--- even-in: a backed in edge of a splitter that prefers no in edge has a flow at least that of the splitter's other in
--- edge, or is full
+-- even-in: a backed in edge of a splitter that takes evenly has a flow at least that of the splitter's other in edge, or
+-- is full
 abbrev pub EvensIn : Network → Flows → ℕ → Type 0
 EvensIn n s a = (k b : ℕ) (e f : Edge) → HasEdge n a e → HasEdge n b f → b ≢ a → IsTrue (enters k e) → IsTrue (enters k f)
-    → take_of n k ≡ None → backed_at s a ≡ true → (flow_at s b ≤ℤ flow_at s a) ⊎ IsFull s a e
+    → TakesEvenly n k → backed_at s a ≡ true → (flow_at s b ≤ℤ flow_at s a) ⊎ IsFull s a e
 
 -- prior-out: where the out edge that a splitter prefers is free, it is full, or the splitter's other out edge is empty
 abbrev pub GivesFirst : Network → Flows → ℕ → Type 0

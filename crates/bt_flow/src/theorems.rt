@@ -6,6 +6,7 @@ ghost use Rattle.bt_flow.specs.declared.reading.line.TheConstants.{TITLE, LOADS,
 ghost use Rattle.bt_flow.specs.States.{Flows, Fractions, AreLowest, StandsFor, Fits};
 ghost use Rattle.bt_flow.specs.EqualCaps.{EqualCapsEven};
 ghost use Rattle.bt_flow.specs.Fairness.{FairIsBalanced};
+ghost use Rattle.bt_flow.specs.FewerLaws.{FewerLaws};
 ghost use Rattle.bt_flow.specs.SevenLaws.{SevenLawsAreAll};
 ghost use Rattle.bt_flow.specs.Properties.{Holds, Breaks};
 ghost use Rattle.bt_flow.specs.Scaling.{ScaledIsSteady};
@@ -28,6 +29,12 @@ pub fn equal_caps_even()
 /// Naves, which say nothing of preferred edges.
 pub fn seven_laws()
     ensures { SevenLawsAreAll }
+{}
+
+/// Where a splitter may prefer any in edge, fewer laws are asked: each steady state of a network in which it takes evenly
+/// or prefers one that is named is a steady state there too, so what holds there holds of that network.
+pub fn fewer_laws()
+    ensures { FewerLaws }
 {}
 
 /// An admissible steady state is one over any greater denominator too: with its denominator and its numbers so many

@@ -161,20 +161,23 @@ impl<'a> Trial<'a> {
         }
     }
 
-    /// Whether an edge into a splitter that prefers none is free, full or of the greatest flow there.
+    /// Whether an edge into a splitter that takes evenly is free, full or of the greatest flow there.
     fn passes_even_in(&self, edge: usize) -> bool
         requires { edge < length self.now.network.edges }
         ensures { Decides self.now Test.EvenIn edge result }
     {
         match self.net.edges()[edge].target {
-            Target::Split(splitter) => shares_at(
-                self.net,
-                self.state,
-                self.ports.into[splitter as usize],
-                self.net.take(splitter as usize),
-                edge,
-                false,
-            ),
+            Target::Split(splitter) => {
+                self.net.merges_any(splitter as usize)
+                    || shares_at(
+                        self.net,
+                        self.state,
+                        self.ports.into[splitter as usize],
+                        self.net.take(splitter as usize),
+                        edge,
+                        false,
+                    )
+            }
             Target::Output(_) => true,
         }
     }

@@ -8,7 +8,7 @@ use Rattle.std.proofs.lemmas.List.{get_or_append_left, get_or-append-add, get_or
 use Rattle.std.proofs.lemmas.Option.{slice_get-get_or, slice_get_within}
 use Rattle.bt_frac.specs.Values.{RowHolds}
 use Rattle.bt_net.specs.declared.network.Edge.{Edge}
-use Rattle.bt_net.specs.Network.{Network, IsNetwork, give_of, take_of, leaves, enters}
+use Rattle.bt_net.specs.Network.{Network, IsNetwork, give_of, merges_any, take_of, leaves, enters}
 use Rattle.bt_flow.specs.States.{Flows, IsStateOf, flow_at, backed_at, load_at, room_at, cap_in}
 use Rattle.bt_flow.specs.Steady.{HasEdge, IsFull, IsEmpty, IsSteady}
 use Rattle.bt_flow.specs.Properties.{IsAdmissible}
@@ -22,7 +22,7 @@ use Rattle.bt_flow_formula.specs.declared.state_literal.StateLiteral.TheVariants
 use Rattle.bt_flow_formula.specs.declared.clause_family.ClauseFamily.{ClauseFamily}
 use Rattle.bt_flow_formula.specs.declared.clause_family.ClauseFamily.TheVariants as of
 use Rattle.bt_flow.specs.EndEdges.{input_edge, output_edge, cap_at, load_column, room_column}
-use Rattle.bt_flow_formula.specs.Columns.{in_edges, out_edges, edges_at, preferred_at, at_least, at_most, below as below_cap, beyond, not_below, above}
+use Rattle.bt_flow_formula.specs.Columns.{in_edges, out_edges, edges_at, unless_any, preferred_at, at_least, at_most, below as below_cap, beyond, not_below, above}
 use Rattle.bt_flow_formula.specs.Families.{clauses_at, places, family_clauses, families, range_clauses, end_clauses, excuse, even_clause, even_clauses, prior_clause, side_clauses, backing_clause}
 use Rattle.bt_flow_formula.specs.Pairs.{first_row, pair_clause, beside, side_pairs, full, loaded, filled}
 use Rattle.bt_flow_formula.specs.Laws.{HasTrue}
@@ -218,9 +218,10 @@ module _ (n : Network) (is : IsNetwork n) (s : Flows) (state : IsStateOf n s) (l
   even_out_true k none =
       evens_true (leaves k) Out k (λ a b e f h g p q o m. steady.even_out a (below a e h) k b e f h g o p q none m) (out_edges n k) (edges_with n (leaves k))
 
-  even_in_true : (k : ℕ) → take_of n k ≡ None → AllTrue (even_clauses n In k (in_edges n k))
-  even_in_true k none =
-      evens_true (enters k) In k (λ a b e f h g p q o m. steady.even_in a (below a e h) k b e f h g o p q none m) (in_edges n k) (edges_with n (enters k))
+  even_in_true : (k : ℕ) (any : Bool) → merges_any n k ≡ any → take_of n k ≡ None → AllTrue (even_clauses n In k (unless_any any (in_edges n k)))
+  even_in_true k true any none = tt
+  even_in_true k false even none =
+      evens_true (enters k) In k (λ a b e f h g p q o m. steady.even_in a (below a e h) k b e f h g o p q (none, even) m) (in_edges n k) (edges_with n (enters k))
 
   empty_true : (b : ℕ) (f : Edge) → HasEdge n b f → IsEmpty s b → RowHolds (at_most b 0) (rows.over (w n is s state level) s.denominator)
   empty_true b f g empty =
@@ -255,7 +256,7 @@ module _ (n : Network) (is : IsNetwork n) (s : Flows) (state : IsStateOf n s) (l
 
   sharing_true : (side : Side) (k : ℕ) (o : Option ℕ) → preferred_at n side k ≡ o → AllTrue (side_clauses o n side k (edges_at n side k))
   sharing_true Out k None none = even_out_true k none
-  sharing_true In k None none = even_in_true k none
+  sharing_true In k None none = even_in_true k (merges_any n k) refl none
   sharing_true side k (Some x) first = priors_true side k x first (edges_at n side k) refl (side_edges n side k)
 
   -- the order of whole numbers is total, so of each pair a row holds
@@ -311,7 +312,7 @@ module _ (n : Network) (is : IsNetwork n) (s : Flows) (state : IsStateOf n s) (l
   at_true admits of.Rooms k l = rooms_true admits k l
   at_true admits of.Conserve k l = conserve_true k l
   at_true admits of.OutPairs k l = pairs_true (preferred_at n Out k) Out k (out_edges n k)
-  at_true admits of.InPairs k l = pairs_true (preferred_at n In k) In k (in_edges n k)
+  at_true admits of.InPairs k l = pairs_true (preferred_at n In k) In k (edges_at n In k)
   at_true admits of.FullPairs k l = (full_or_not k (cap_at n k), tt)
   at_true admits of.LoadPairs k l = (two_true (input_edge n k) (load_column n k), tt)
   at_true admits of.RoomPairs k l = (two_true (output_edge n k) (room_column n k), tt)

@@ -2,14 +2,14 @@
 use Rattle.std.proofs.Common.{◌≡◌, ℕ, ◌+◌, List, [], ◌∷◌, ◌++◌, length, map, ap, refl}
 use Rattle.std.specs.List.{flat_map, range_with_len}
 use Rattle.bt_net.specs.Network.{Network, HasNoPriorities}
-use Rattle.bt_net.proofs.Preference.{plain_gives, plain_takes}
+use Rattle.bt_net.proofs.Preference.{plain_gives, plain_takes, plain_merges}
 use Rattle.bt_flow_formula.specs.declared.state_literal.Side.TheVariants.{Out, In}
 use Rattle.bt_flow_formula.specs.declared.state_literal.Pair.{Pair}
 use Rattle.bt_flow_formula.specs.declared.state_literal.Pair.TheVariants.{Even, Empty, Full, Loaded, Filled}
 use Rattle.bt_flow_formula.specs.declared.state_literal.StateLiteral.{StateLiteral}
 use Rattle.bt_flow_formula.specs.declared.clause_family.ClauseFamily.{ClauseFamily}
 use Rattle.bt_flow_formula.specs.declared.clause_family.ClauseFamily.TheVariants as of
-use Rattle.bt_flow_formula.specs.Columns.{out_edges, in_edges}
+use Rattle.bt_flow_formula.specs.Columns.{out_edges, in_edges, unless_any}
 use Rattle.bt_flow_formula.specs.Pairs.{pair_clause, side_pairs}
 use Rattle.bt_flow_formula.specs.Families.{clauses_at, side_clauses, places, bounds, families}
 use Rattle.bt_flow_formula.specs.Properties.{property_clauses}
@@ -24,12 +24,12 @@ module _ (n : Network) (plain : HasNoPriorities n) where
   at_place of.Rooms k = refl
   at_place of.Conserve k = refl
   at_place of.OutPairs k = ap (λ o. map pair_clause (side_pairs o Out k (out_edges n k))) (plain_gives n plain k)
-  at_place of.InPairs k = ap (λ o. map pair_clause (side_pairs o In k (in_edges n k))) (plain_takes n plain k)
+  at_place of.InPairs k = λ i. map pair_clause (side_pairs (plain_takes n plain k i) In k (unless_any (plain_merges n plain k i) (in_edges n k)))
   at_place of.FullPairs k = refl
   at_place of.LoadPairs k = refl
   at_place of.RoomPairs k = refl
   at_place of.EvenOut k = ap (λ o. side_clauses o n Out k (out_edges n k)) (plain_gives n plain k)
-  at_place of.EvenIn k = ap (λ o. side_clauses o n In k (in_edges n k)) (plain_takes n plain k)
+  at_place of.EvenIn k = λ i. side_clauses (plain_takes n plain k i) n In k (unless_any (plain_merges n plain k i) (in_edges n k))
   at_place of.Backing k = refl
   at_place of.Inputs k = refl
   at_place of.Outputs k = refl

@@ -10,7 +10,7 @@ use Rattle.bt_frac.specs.declared.relation.Relation.{Relation}
 use Rattle.bt_frac.specs.declared.relation.Relation.TheVariants.{AtLeast, Above, Equal}
 use Rattle.bt_frac.proofs.Gcds.{whole_lowest}
 use Rattle.bt_net.specs.declared.network.Edge.{Edge}
-use Rattle.bt_net.specs.Network.{Network, IsNetwork, IsCap, leaves, enters}
+use Rattle.bt_net.specs.Network.{Network, IsNetwork, IsCap, merges_any, leaves, enters}
 use Rattle.bt_flow.specs.declared.property.Property.{Property}
 use Rattle.bt_flow.specs.declared.property.Property.TheVariants.{Balanced, DrawnEvenly, Unlimited, Full, Fair, DrawnFairly}
 use Rattle.bt_flow.specs.Ports.{numbers_where}
@@ -23,9 +23,9 @@ use Rattle.bt_flow_formula.specs.declared.state_literal.StateLiteral.TheVariants
 use Rattle.bt_flow_formula.specs.declared.clause_family.ClauseFamily.{ClauseFamily}
 use Rattle.bt_flow_formula.specs.declared.clause_family.ClauseFamily.TheVariants as of
 use Rattle.bt_flow.specs.EndEdges.{input_edge, output_edge, input_edges, output_edges, cap_at, load_column, room_column}
-use Rattle.bt_flow_formula.specs.Columns.{in_edges, out_edges, preferred_at, whole, plus, minus, zero_row, at_least, at_most, below, beyond, less, not_below, above, in_less_out, above_outputs}
+use Rattle.bt_flow_formula.specs.Columns.{in_edges, out_edges, edges_at, preferred_at, whole, plus, minus, zero_row, at_least, at_most, below, beyond, less, not_below, above, in_less_out, above_outputs}
 use Rattle.bt_flow_formula.specs.Families.{clauses_at, places, family_clauses, families, range_clauses, end_clauses, even_clauses, side_clauses, backing_clause}
-use Rattle.bt_flow_formula.proofs.Sides.{beside_edge}
+use Rattle.bt_flow_formula.proofs.Sides.{left_all, beside_edge}
 use Rattle.bt_flow_formula.specs.Pairs.{pair_clause, beside, side_pairs, full, loaded, filled}
 use Rattle.bt_flow_formula.specs.Properties.{property_clauses, loaded_clauses, open_clauses, short_clauses, unequal_clause, differ}
 use Rattle.bt_flow_formula.specs.FlowFormula.{steady_clauses, flow_clauses}
@@ -201,12 +201,12 @@ module _ (n : Network) (is : IsNetwork n) where
   at_rows of.Rooms o l = range_rows (room_column n o) (cap_at n (output_edge n o)) (room_is o l) (cap_fits (output_edge n o))
   at_rows of.Conserve k l = (((conserve_row k, tt), tt), tt)
   at_rows of.OutPairs k l = pair_rows (preferred_at n Out k) Out k (out_edges n k) (edges_are (leaves k))
-  at_rows of.InPairs k l = pair_rows (preferred_at n In k) In k (in_edges n k) (edges_are (enters k))
+  at_rows of.InPairs k l = pair_rows (preferred_at n In k) In k (edges_at n In k) (left_all IsColumn (merges_any n k) (in_edges n k) (edges_are (enters k)))
   at_rows of.FullPairs a l = (((at_least_row a (cap_at n a) (flow_column a l) (cap_fits a), tt), ((below_row a (cap_at n a) (flow_column a l) (cap_fits a), tt), tt)), tt)
   at_rows of.LoadPairs i l = (two_rows (input_edge n i) (load_column n i) (input_is i) (load_is i l), tt)
   at_rows of.RoomPairs o l = (two_rows (output_edge n o) (room_column n o) (output_is o) (room_is o l), tt)
   at_rows of.EvenOut k l = sharing_rows (preferred_at n Out k) Out k (out_edges n k)
-  at_rows of.EvenIn k l = sharing_rows (preferred_at n In k) In k (in_edges n k)
+  at_rows of.EvenIn k l = sharing_rows (preferred_at n In k) In k (edges_at n In k)
   at_rows of.Backing k l =
       each-flat_map _ (λ x. Unit {0}) _ (in_edges n k) (each_any (in_edges n k))
       (λ a l. each-map _ (λ x. Unit {0}) (backing_clause n a) (out_edges n k) (each_any (out_edges n k)) (λ x m. (tt, (tt, (tt, tt)))))

@@ -202,7 +202,7 @@ module _ (n : Network) where
       let before = bounds ++ of.OutPairs ∷ [] in
       let at = split_at before (of.FullPairs ∷ of.LoadPairs ∷ of.RoomPairs ∷ []) of.InPairs k h.0 in
       let till = clauses_till n before of.InPairs k in
-      even_stands In k a b _ till at.0 (in_edges n k) (at.1 ∙ ap (λ pairs. till ++ (map pair_clause pairs ++ at.0)) (even_at n In k h.1)) h.2
+      even_stands In k a b _ till at.0 (edges_at n In k) (at.1 ∙ ap (λ pairs. till ++ (map pair_clause pairs ++ at.0)) (even_at n In k h.1)) h.2
   pair_stands (Empty Out k a) h =
       let at = split_at bounds (of.InPairs ∷ of.FullPairs ∷ of.LoadPairs ∷ of.RoomPairs ∷ []) of.OutPairs k h.0 in
       let till = clauses_till n bounds of.OutPairs k in

@@ -4,7 +4,7 @@ use Rattle.std.specs.List.{AllByRecursion, flat_map, range_with_len}
 use Rattle.bt_frac.specs.Ratio.{Ratio}
 use Rattle.bt_frac.specs.Rows.{RowParts, columns_of}
 use Rattle.bt_net.specs.declared.network.Edge.{Edge}
-use Rattle.bt_net.specs.Network.{Network, IsNetwork, leaves, enters}
+use Rattle.bt_net.specs.Network.{Network, IsNetwork, merges_any, leaves, enters}
 use Rattle.bt_flow.specs.Ports.{numbers_where}
 use Rattle.bt_flow_formula.specs.declared.state_literal.Side.{Side}
 use Rattle.bt_flow_formula.specs.declared.state_literal.Side.TheVariants.{Out, In}
@@ -14,12 +14,12 @@ use Rattle.bt_flow_formula.specs.declared.state_literal.StateLiteral.TheVariants
 use Rattle.bt_flow_formula.specs.declared.clause_family.ClauseFamily.{ClauseFamily}
 use Rattle.bt_flow_formula.specs.declared.clause_family.ClauseFamily.TheVariants as of
 use Rattle.bt_flow.specs.EndEdges.{input_edge, output_edge, cap_at, load_column, room_column}
-use Rattle.bt_flow_formula.specs.Columns.{in_edges, out_edges, preferred_at, plus, minus, not_below, above, in_less_out}
+use Rattle.bt_flow_formula.specs.Columns.{in_edges, out_edges, edges_at, preferred_at, plus, minus, not_below, above, in_less_out}
 use Rattle.bt_flow_formula.specs.Families.{clauses_at, places, family_clauses, families, range_clauses, end_clauses, even_clauses, side_clauses, backing_clause}
 use Rattle.bt_flow_formula.specs.Pairs.{pair_clause, side_pairs, full, loaded, filled}
 use Rattle.bt_flow_formula.specs.FlowFormula.{steady_clauses}
 use Rattle.bt_flow_formula.specs.Numbering.{mentioned, rows_in}
-use Rattle.bt_flow_formula.proofs.Sides.{beside_edge}
+use Rattle.bt_flow_formula.proofs.Sides.{left_all, beside_edge}
 use Rattle.bt_flow_formula.proofs.Withins.{each-flat_map, each-map, each-range, each_any, numbers_below, input_below, output_below}
 
 -- a column that is far below what 64 bits hold
@@ -134,12 +134,12 @@ module _ (n : Network) (is : IsNetwork n) where
   at_narrow of.Rooms o l = range_narrow (room_column n o) (cap_at n (output_edge n o)) (room_narrow o l)
   at_narrow of.Conserve k l = (((conserve_narrow k, tt), tt), tt)
   at_narrow of.OutPairs k l = pairs_narrow (preferred_at n Out k) Out k (out_edges n k) (edges_narrow (leaves k))
-  at_narrow of.InPairs k l = pairs_narrow (preferred_at n In k) In k (in_edges n k) (edges_narrow (enters k))
+  at_narrow of.InPairs k l = pairs_narrow (preferred_at n In k) In k (edges_at n In k) (left_all IsNarrow (merges_any n k) (in_edges n k) (edges_narrow (enters k)))
   at_narrow of.FullPairs a l = let c = flow_narrow a l in ((((c, tt), tt), (((c, tt), tt), tt)), tt)
   at_narrow of.LoadPairs i l = (two_narrow (input_edge n i) (load_column n i) (input_narrow i) (load_narrow i l), tt)
   at_narrow of.RoomPairs o l = (two_narrow (output_edge n o) (room_column n o) (output_narrow o) (room_narrow o l), tt)
   at_narrow of.EvenOut k l = sharing_narrow (preferred_at n Out k) Out k (out_edges n k)
-  at_narrow of.EvenIn k l = sharing_narrow (preferred_at n In k) In k (in_edges n k)
+  at_narrow of.EvenIn k l = sharing_narrow (preferred_at n In k) In k (edges_at n In k)
   at_narrow of.Backing k l =
       each-flat_map _ (λ x. Unit {0}) _ (in_edges n k) (each_any (in_edges n k))
       (λ a l. each-map _ (λ x. Unit {0}) (backing_clause n a) (out_edges n k) (each_any (out_edges n k)) (λ x m. (tt, (tt, (tt, tt)))))

@@ -1,13 +1,13 @@
 -- The edges at a side of a splitter, the one that it prefers there, and the one beside that.
-use Rattle.std.proofs.Common.{◌≡◌, ◌≢◌, ℕ, ◌<◌, ◌≤◌, ◌+◌, ◌==◌, ◌⊎◌, inl, inr, Bool, true, false, Some, None, List, [], ◌∷◌, cond, ap, sym, ◌∙◌, refl, subst, arith}
+use Rattle.std.proofs.Common.{◌≡◌, ◌≢◌, ℕ, ◌<◌, ◌≤◌, ◌+◌, ◌==◌, ◌⊎◌, inl, inr, Bool, true, false, Some, None, List, [], ◌∷◌, cond, ap, sym, ◌∙◌, refl, arith}
 use Rattle.std.specs.List.{AllByRecursion}
 use Rattle.std.proofs.lemmas.Bool.Decides.{eqb_tells}
 use Rattle.bt_net.specs.declared.network.Edge.{Edge}
-use Rattle.bt_net.specs.Network.{Network, IsNetwork, leaves, enters}
+use Rattle.bt_net.specs.Network.{Network, IsNetwork, take_of, merges_any, leaves, enters}
 use Rattle.bt_flow.specs.Ports.{numbers_where}
 use Rattle.bt_flow_formula.specs.declared.state_literal.Side.{Side}
 use Rattle.bt_flow_formula.specs.declared.state_literal.Side.TheVariants.{Out, In}
-use Rattle.bt_flow_formula.specs.Columns.{edges_at, preferred_at}
+use Rattle.bt_flow_formula.specs.Columns.{edges_at, unless_any, preferred_at}
 use Rattle.bt_flow_formula.specs.Pairs.{beside, even_pairs, side_pairs, pairs_at}
 use Rattle.bt_flow_formula.proofs.NetEdges.{IsEdgeWith, edges_with}
 
@@ -16,12 +16,27 @@ abbrev pub at_side : Side → ℕ → Edge → Bool
 at_side Out k = leaves k
 at_side In k = enters k
 
-pub edges_are : (n : Network) (side : Side) (k : ℕ) → edges_at n side k ≡ numbers_where (at_side side k) 0 n.edges
-edges_are n Out k = refl
-edges_are n In k = refl
+-- what holds of all edges holds of those that are left
+pub left_all : (P : ℕ → Type 0) (any : Bool) (edges : List ℕ) → AllByRecursion P edges → AllByRecursion P (unless_any any edges)
+left_all P true edges all = tt
+left_all P false edges all = all
+
+-- two that are left are all
+two_left : (any : Bool) (edges : List ℕ) (a b : ℕ) → unless_any any edges ≡ a ∷ b ∷ [] → edges ≡ a ∷ b ∷ []
+two_left true edges a b e = absurd (cc)
+two_left false edges a b e = e
+
+-- a splitter that prefers an in edge may not prefer any
+pub even_where_named : (n : Network) → IsNetwork n → (k a : ℕ) → take_of n k ≡ Some a → merges_any n k ≡ false
+even_where_named n is k a some = by (merges_any n k) refl
+  where
+    by : (any : Bool) → merges_any n k ≡ any → merges_any n k ≡ false
+    by true any = absurd (let none : take_of n k ≡ None = is.prioritised.one_of_both k any in cc)
+    by false even = even
 
 pub side_edges : (n : Network) (side : Side) (k : ℕ) → AllByRecursion (IsEdgeWith n (at_side side k)) (edges_at n side k)
-side_edges n side k = subst (AllByRecursion (IsEdgeWith n (at_side side k))) (sym (edges_are n side k)) (edges_with n (at_side side k))
+side_edges n Out k = edges_with n (at_side Out k)
+side_edges n In k = left_all (IsEdgeWith n (at_side In k)) (merges_any n k) (numbers_where (at_side In k) 0 n.edges) (edges_with n (at_side In k))
 
 -- the numbers of edges ascend
 
@@ -50,7 +65,8 @@ ascend p m a b rest (x ∷ es) e = ascend_by (p x) m a b (numbers_where p (m + 1
 
 -- the two edges at a side ascend
 pub side_ascends : (n : Network) (side : Side) (k a b : ℕ) → edges_at n side k ≡ a ∷ b ∷ [] → a < b
-side_ascends n side k a b e = ascend (at_side side k) 0 a b [] n.edges (sym (edges_are n side k) ∙ e)
+side_ascends n Out k a b e = ascend (at_side Out k) 0 a b [] n.edges e
+side_ascends n In k a b e = ascend (at_side In k) 0 a b [] n.edges (two_left (merges_any n k) (numbers_where (at_side In k) 0 n.edges) a b e)
 
 -- the preferred edge is one of the edges there
 pub preferred_is : (n : Network) → IsNetwork n → (side : Side) (k x : ℕ) → preferred_at n side k ≡ Some x → IsEdgeWith n (at_side side k) x

@@ -19,7 +19,7 @@ use Rattle.bt_flow_formula.specs.Pairs.{pair_clause, side_pairs, full}
 use Rattle.bt_flow_formula.specs.declared.clause_family.ClauseFamily.{ClauseFamily}
 use Rattle.bt_flow_formula.specs.declared.clause_family.ClauseFamily.TheVariants as of
 use Rattle.bt_flow.specs.EndEdges.{input_edge, output_edge, input_edges, output_edges, cap_at}
-use Rattle.bt_flow_formula.specs.Columns.{in_edges, out_edges, preferred_at}
+use Rattle.bt_flow_formula.specs.Columns.{in_edges, out_edges, edges_at, preferred_at}
 use Rattle.bt_flow_formula.specs.Families.{clauses_at, places, family_clauses, families, even_clause, even_clauses, side_clauses, backing_clause}
 use Rattle.bt_flow_formula.specs.Properties.{property_clauses, loaded_clauses, open_clauses, short_clauses, unequal_clause, differ}
 use Rattle.bt_flow_formula.specs.Numbering.{mentioned, rows_in, clauses_from, formula_of}
@@ -110,12 +110,12 @@ module _ (n : Network) (is : IsNetwork n) where
   at_few of.Rooms k l = record { count = omega arith; rows = omega arith }
   at_few of.Conserve k l = record { count = omega arith; rows = omega arith }
   at_few of.OutPairs k l = pairs_few (preferred_at n Out k) Out k (out_edges n k)
-  at_few of.InPairs k l = pairs_few (preferred_at n In k) In k (in_edges n k)
+  at_few of.InPairs k l = pairs_few (preferred_at n In k) In k (edges_at n In k)
   at_few of.FullPairs k l = record { count = omega arith; rows = omega arith }
   at_few of.LoadPairs k l = record { count = omega arith; rows = omega arith }
   at_few of.RoomPairs k l = record { count = omega arith; rows = omega arith }
   at_few of.EvenOut k l = sharing_few (preferred_at n Out k) Out k (out_edges n k)
-  at_few of.EvenIn k l = sharing_few (preferred_at n In k) In k (in_edges n k)
+  at_few of.EvenIn k l = sharing_few (preferred_at n In k) In k (edges_at n In k)
   at_few of.Backing k l = backing_few (in_edges n k) (out_edges n k) (few_edges Into k l) (few_edges OutOf k l)
   at_few of.Inputs k l = record { count = omega arith; rows = omega arith }
   at_few of.Outputs k l = record { count = omega arith; rows = omega arith }

@@ -29,7 +29,7 @@ use Rattle.bt_flow_formula.specs.declared.state_literal.StateLiteral.TheVariants
 use Rattle.bt_flow_formula.specs.declared.clause_family.ClauseFamily.{ClauseFamily}
 use Rattle.bt_flow_formula.specs.declared.clause_family.ClauseFamily.TheVariants as of
 use Rattle.bt_flow.specs.EndEdges.{input_edge, output_edge, input_edges, output_edges, cap_at, load_column, room_column}
-use Rattle.bt_flow_formula.specs.Columns.{in_edges, out_edges, at_least, not_below}
+use Rattle.bt_flow_formula.specs.Columns.{in_edges, out_edges, edges_at, unless_any, at_least, not_below}
 use Rattle.bt_flow_formula.specs.Families.{clauses_at, places, family_clauses, families, range_clauses, end_clauses, excuse, even_clause, even_clauses, prior_clause, side_clauses, backing_clause}
 use Rattle.bt_flow_formula.specs.Pairs.{first_row, full, filled}
 use Rattle.bt_flow_formula.specs.Pairs.{loaded as has_load}
@@ -43,7 +43,7 @@ use Rattle.bt_flow_formula.proofs.Withins.{each-left, each-right, each-map, each
 use Rattle.bt_flow_formula.proofs.NetEdges.{cap_is, input_is, output_is, edge_of_input, edge_of_output}
 use Rattle.bt_flow_formula.proofs.RowValues.{At, AllAt, at_least_says, at_most_says, not_below_says, above_says, conserve_says, above_outputs_says}
 use Rattle.bt_flow_formula.proofs.Claimed.{met_claims}
-use Rattle.bt_flow_formula.proofs.Sides.{beside_other}
+use Rattle.bt_flow_formula.proofs.Sides.{beside_other, even_where_named}
 use Rattle.bt_flow_formula.proofs.Named.{families_named, flow_named}
 use Rattle.bt_flow_formula.proofs.Leveled.{base_met, level_met, level_fails}
 
@@ -208,15 +208,17 @@ module _ (n : Network) (is : IsNetwork n) (f : ℕ → Bool) (v : ℕ → Ratio)
         prior_said Out k a b e g h j m (prior_pair (leaves k) Out k (out_edges n k) refl at.1 a b e g h j t u o said)
 
     even_in : (a : ℕ) → a < length n.edges → EvensIn n s a
-    even_in a l = λ k b e g h j o t u none m.
+    even_in a l = λ k b e g h j o t u even m.
         let at = splitter Into k a e h t in
-        let said = subst (λ q. AllTrue (side_clauses q n In k (in_edges n k))) none (all of.EvenIn k at.0) in
+        let unnamed = subst (λ q. AllTrue (side_clauses q n In k (edges_at n In k))) even.0 (all of.EvenIn k at.0) in
+        let said = subst (λ any. AllTrue (even_clauses n In k (unless_any any (in_edges n k)))) even.1 unnamed in
         even_said In k a b e g h j m (pair_said (enters k) In k (in_edges n k) refl at.1 said a b e g h j t u o)
 
     prior_in : (a : ℕ) → a < length n.edges → TakesFirst n s a
     prior_in a l = λ k b e g h j o t u first m.
         let at = splitter Into k a e h t in
-        let said = subst (λ q. AllTrue (side_clauses q n In k (in_edges n k))) first (all of.EvenIn k at.0) in
+        let named = subst (λ q. AllTrue (side_clauses q n In k (edges_at n In k))) first (all of.EvenIn k at.0) in
+        let said = subst (λ any. AllTrue (side_clauses (Some a) n In k (unless_any any (in_edges n k)))) (even_where_named n is k a first) named in
         prior_said In k a b e g h j m (prior_pair (enters k) In k (in_edges n k) refl at.1 a b e g h j t u o said)
 
     back_said : (a b : ℕ) (e g : Edge) → HasEdge n a e → HasEdge n b g → backed_at s a ≡ true → True (backing_clause n a b) → (backed_at s b ≡ true) ⊎ IsFull s b g

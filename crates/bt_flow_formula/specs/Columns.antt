@@ -1,12 +1,12 @@
 -- The columns of the flow formula, and rows over them.
 use Rattle.std.specs.List.{range_with_len}
-use Rattle.std.specs.Prelude.{ℕ, ◌+◌, nat_lt, pos, Option, List, [], ◌∷◌, ◌++◌, map, if◌then◌else◌}
+use Rattle.std.specs.Prelude.{ℕ, ◌+◌, nat_lt, pos, Bool, true, false, Option, List, [], ◌∷◌, ◌++◌, map, if◌then◌else◌}
 use Rattle.bt_frac.specs.Ratio.{Ratio, negated}
 use Rattle.bt_frac.specs.Rows.{RowParts}
 use Rattle.bt_frac.specs.declared.relation.Relation.{Relation}
 use Rattle.bt_frac.specs.declared.relation.Relation.TheVariants.{AtLeast, Above}
 use Rattle.bt_net.specs.declared.network.Edge.{Edge}
-use Rattle.bt_net.specs.Network.{Network, give_of, take_of, leaves, enters}
+use Rattle.bt_net.specs.Network.{Network, give_of, merges_any, take_of, leaves, enters}
 use Rattle.bt_flow.specs.Ports.{numbers_where}
 use Rattle.bt_flow.specs.Properties.{is_last}
 use Rattle.bt_flow_formula.specs.declared.state_literal.Side.{Side}
@@ -20,10 +20,15 @@ out_edges n k = numbers_where (leaves k) 0 n.edges
 abbrev pub in_edges : Network → ℕ → List ℕ
 in_edges n k = numbers_where (enters k) 0 n.edges
 
--- the numbers of the edges at a side of a splitter, in ascending order
+-- the edges, of which none is left where the splitter may prefer any
+abbrev pub unless_any : Bool → List ℕ → List ℕ
+unless_any true edges = []
+unless_any false edges = edges
+
+-- the numbers of the edges at a side of a splitter that share there as a law says, in ascending order
 abbrev pub edges_at : Network → Side → ℕ → List ℕ
 edges_at n Out k = out_edges n k
-edges_at n In k = in_edges n k
+edges_at n In k = unless_any (merges_any n k) (in_edges n k)
 
 -- the edge at a side of a splitter that it prefers there, where it prefers one
 abbrev pub preferred_at : Network → Side → ℕ → Option ℕ

@@ -51,7 +51,7 @@ fn rows_at(port: Port, preferred: Option<usize>) -> usize
     }
 }
 
-/// The edges at a side of a splitter.
+/// The edges at a side of a splitter that share there as a law says: none, where it may prefer any in edge.
 pub fn port_at(net: &Net, ports: &Ports, side: Side, splitter: usize) -> Port
     requires ports { ArePorts net.now ports.now }
     requires splitter { splitter < net.now.splitters }
@@ -59,7 +59,13 @@ pub fn port_at(net: &Net, ports: &Ports, side: Side, splitter: usize) -> Port
 {
     match side {
         Side::Out => ports.out_of[splitter],
-        Side::In => ports.into[splitter],
+        Side::In => {
+            if net.merges_any(splitter) {
+                Port::Unused
+            } else {
+                ports.into[splitter]
+            }
+        }
     }
 }
 

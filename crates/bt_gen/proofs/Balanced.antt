@@ -158,7 +158,7 @@ module _ (order : ℕ) (net : IsNetwork (butterfly_net order)) (s : Flows) (stat
       by_mark : (mark : Bool) → backed_at s a ≡ mark → flow_at s b ≤ℤ flow_at s a
       by_mark true is = full_at_least (flow_at s a) (flow_at s b) full (backed_full_at (suc t) line a (omega (arith, l)) c (omega (arith, l)) is) (at_most b f has' cap')
       by_mark false is =
-          elim (steady.even_out a (slice_get_within (butterfly_edges order) a e has) (number order t p) b e f has has' other of of' (plain_gives (butterfly_net order) (record { gives = refl; takes = refl }) (number order t p)) is) [
+          elim (steady.even_out a (slice_get_within (butterfly_edges order) a e has) (number order t p) b e f has has' other of of' (plain_gives (butterfly_net order) (record { gives = refl; takes = refl; merges = refl }) (number order t p)) is) [
             | inl most ↦ most
             | inr full_one ↦ full_at_least (flow_at s a) (flow_at s b) full (full_one ∙ cap_is e cap) (at_most b f has' cap')
           ]

@@ -5,7 +5,7 @@ use Rattle.std.proofs.lemmas.Bool.{false≢true}
 use Rattle.std.proofs.lemmas.Option.{slice_get_within}
 use Rattle.bt_net.specs.declared.network.Edge.{Edge}
 use Rattle.bt_net.specs.Network.{Network, HasNoPriorities, give_of, take_of, leaves, enters}
-use Rattle.bt_net.proofs.Preference.{plain_gives, plain_takes}
+use Rattle.bt_net.proofs.Preference.{plain_gives, plain_takes, plain_merges}
 use Rattle.bt_flow.specs.States.{Flows, IsStateOf, flow_at, backed_at, load_at, room_at, cap_in}
 use Rattle.bt_flow.specs.Steady.{HasEdge, IsFull, IsSteady, KeepsRange, Conserves, EvensOut, EvensIn, Backs, FeedsInput, FillsOutput, sum_where}
 use Rattle.bt_flow.specs.Properties.{AdmitsLoad, AdmitsRoom, IsAdmissible, is_last}
@@ -232,7 +232,7 @@ module _ (x y : Network) (c : LeadsBack x y) (s : Flows) (state : IsStateOf y s)
         let w = entering k b f j u in
         at_least_or n b v.of.m w.of.m e v.of.d v.of.flow w.of.flow v.of.cap
         (steady.even_in v.of.m (slice_get_within y.edges v.of.m v.of.d v.of.there) k w.of.m v.of.d w.of.d v.of.there w.of.there
-        (λ same. other (w.from ∙ ap (λ z. moved c.place z) same ∙ sym v.from)) v.enters_too w.enters_too (plain_takes y c.plain k) (sym v.of.mark ∙ backed))
+        (λ same. other (w.from ∙ ap (λ z. moved c.place z) same ∙ sym v.from)) v.enters_too w.enters_too (plain_takes y c.plain k, plain_merges y c.plain k) (sym v.of.mark ∙ backed))
 
     backs : (n : ℕ) → Backs x cut_state n
     backs n k b e f h j t u backed =

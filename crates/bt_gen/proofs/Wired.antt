@@ -217,8 +217,8 @@ module _ (n : Network) where
 
 -- a butterfly is a network
 pub butterfly_is_network : (order : ℕ) → IsOrder MOST_STAGES order → IsNetwork (butterfly_net order)
-butterfly_is_network order within = is_network (butterfly_net order) (order + 2) (record { gives = refl; takes = refl }) (each_from (λ k. passes (k + 2) (butterfly_net k)) 1 MOST_STAGES order butterflies_pass within.0 (omega (arith, within.1)))
+butterfly_is_network order within = is_network (butterfly_net order) (order + 2) (record { gives = refl; takes = refl; merges = refl }) (each_from (λ k. passes (k + 2) (butterfly_net k)) 1 MOST_STAGES order butterflies_pass within.0 (omega (arith, within.1)))
 
 -- a chain is a network
 pub chain_is_network : (order : ℕ) → IsOrder MOST_IN_CHAIN order → IsNetwork (chain_net order)
-chain_is_network order within = is_network (chain_net order) 7 (record { gives = refl; takes = refl }) (each_from (λ k. passes 7 (chain_net k)) 1 MOST_IN_CHAIN order chains_pass within.0 (omega (arith, within.1)))
+chain_is_network order within = is_network (chain_net order) 7 (record { gives = refl; takes = refl; merges = refl }) (each_from (λ k. passes 7 (chain_net k)) 1 MOST_IN_CHAIN order chains_pass within.0 (omega (arith, within.1)))

@@ -60,6 +60,18 @@ fn takes_of(alloc: Global, net: &Net) -> Result<Vec<Option<usize>>, AllocError>
     Ok(takes)
 }
 
+/// Whether each splitter may prefer any in edge.
+fn merges_of(alloc: Global, net: &Net) -> Result<Vec<bool>, AllocError>
+    requires { IsNetwork net.now }
+    ensures { IfOk result (λ merges. merges.items ≡ net.now.merges) }
+{
+    let mut merges = Vec::new(alloc);
+    for splitter in 0..net.splitters() {
+        merges.push(net.merges_any(splitter as usize))?;
+    }
+    Ok(merges)
+}
+
 /// The same network again.
 fn copy_of(alloc: Global, net: &Net) -> Result<Net, AllocError>
     requires { IsNetwork net.now }
@@ -67,6 +79,7 @@ fn copy_of(alloc: Global, net: &Net) -> Result<Net, AllocError>
 {
     let gives = gives_of(alloc, net)?;
     let takes = takes_of(alloc, net)?;
+    let merges = merges_of(alloc, net)?;
     let bare = bare_copy_of(alloc, net)?;
-    Ok(bare.preferring(gives, takes))
+    Ok(bare.preferring(gives, takes).merging(merges))
 }

@@ -1,5 +1,5 @@
 -- A layout has one network with its own numbering.
-use Rattle.std.proofs.Common.{◌≡◌, ◌<◌, List, ap, sym, ◌∙◌, subst, arith}
+use Rattle.std.proofs.Common.{replicate, false, ◌≡◌, ◌<◌, List, ap, sym, ◌∙◌, subst, arith}
 use Rattle.std.specs.List.{AllZip, AllPairs}
 use Rattle.bt_parts.specs.declared.part.Part.{Part}
 use Rattle.bt_net.specs.Network.{Network, HasNoPriorities, none_each}
@@ -34,7 +34,8 @@ same_edges parts m n a plain other h k =
     let none = ap none_each splitters in
     let gives : m.gives ≡ n.gives = plain.gives ∙ none ∙ sym other.gives in
     let takes : m.takes ≡ n.takes = plain.takes ∙ none ∙ sym other.takes in
-    λ i. record { inputs = inputs i; outputs = outputs i; splitters = splitters i; edges = edges i; gives = gives i; takes = takes i }
+    let merges : m.merges ≡ n.merges = plain.merges ∙ ap (λ k. replicate k false) splitters ∙ sym other.merges in
+    λ i. record { inputs = inputs i; outputs = outputs i; splitters = splitters i; edges = edges i; gives = gives i; takes = takes i; merges = merges i }
 
 pub same_network : (parts : List Part) (m n : Network) (a b : Naming) → HasNoPriorities m → HasNoPriorities n → IsNumbered parts m a → IsNumbered parts n b → m ≡ n
 same_network parts m n a b plain other h k = same_edges parts m n a plain other h (subst (λ name. IsNumbered parts n name) (sym (same_naming parts m n a b h k)) k)

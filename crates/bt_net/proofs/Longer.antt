@@ -9,9 +9,7 @@ use Rattle.bt_text.proofs.Longer.{IsWhole, IsLineRead, rest_whole, line_read, sp
 use Rattle.bt_net.specs.declared.fault.NetFault.{NetFault}
 use Rattle.bt_net.specs.declared.fault.NetFault.TheVariants.{NetLine, TooLarge, NoEnds, Memory}
 use Rattle.bt_net.specs.declared.network.Admitted.{Admitted}
-use Rattle.bt_net.specs.declared.network.Block.{Block}
 use Rattle.bt_net.specs.declared.network.Edge.{Edge}
-use Rattle.bt_net.specs.declared.network.Demand.{Demand}
 use Rattle.bt_net.specs.Network.{Network}
 use Rattle.bt_net.specs.NetText.{header, IsEdgeLine}
 use Rattle.bt_net.specs.PinText.{IsDemandHere, IsBlockHere}

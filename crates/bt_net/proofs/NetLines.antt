@@ -1,5 +1,5 @@
 -- A network's text, line by line.
-use Rattle.std.proofs.Common.{◌≡◌, ◌≢◌, ℕ, ◌<◌, ◌≤◌, Bool, cond, eq-eqb, List, [], ◌∷◌, ◌++◌, length, get_or, map, drop, refl, sym, ◌∙◌, ap, subst, inl, inr, ⊎_elim, arith, length-append}
+use Rattle.std.proofs.Common.{◌≡◌, ◌≢◌, ℕ, ◌<◌, ◌≤◌, Bool, false, replicate, cond, eq-eqb, List, [], ◌∷◌, ◌++◌, length, get_or, map, drop, refl, sym, ◌∙◌, ap, subst, inl, inr, ⊎_elim, arith, length-append}
 use Rattle.std.specs.Prelude.{codes, decimal}
 use Rattle.std.specs.List.{All, AllZip, count_by, flat_map}
 use Rattle.std.proofs.lemmas.Bool.{cases_eq, ne_eqb}
@@ -203,23 +203,23 @@ partly_front n es gs wired is = record {
 
 -- sizes that are the same are so in both directions
 pub back : (m n : Network) → SameSizes m n → SameSizes n m
-back m n s = record { inputs = sym s.inputs; outputs = sym s.outputs; splitters = sym s.splitters; gives = sym s.gives; takes = sym s.takes }
+back m n s = record { inputs = sym s.inputs; outputs = sym s.outputs; splitters = sym s.splitters; gives = sym s.gives; takes = sym s.takes; merges = sym s.merges }
 
 -- where one network has no priorities, nor has one of the same sizes
 plain_same : (m n : Network) → SameSizes m n → HasNoPriorities m → HasNoPriorities n
-plain_same m n s plain = record { gives = sym s.gives ∙ plain.gives ∙ ap none_each s.splitters; takes = sym s.takes ∙ plain.takes ∙ ap none_each s.splitters }
+plain_same m n s plain = record { gives = sym s.gives ∙ plain.gives ∙ ap none_each s.splitters; takes = sym s.takes ∙ plain.takes ∙ ap none_each s.splitters; merges = sym s.merges ∙ plain.merges ∙ ap (λ k. replicate k false) s.splitters }
 
 -- networks with the same numbers and edges
 pub same_network : (m n : Network) → SameSizes m n → m.edges ≡ n.edges → m ≡ n
-same_network m n s e = let a = s.inputs in let b = s.outputs in let c = s.splitters in let g = s.gives in let t = s.takes in
-    λ i. record { inputs = a i; outputs = b i; splitters = c i; edges = e i; gives = g i; takes = t i }
+same_network m n s e = let a = s.inputs in let b = s.outputs in let c = s.splitters in let g = s.gives in let t = s.takes in let u = s.merges in
+    λ i. record { inputs = a i; outputs = b i; splitters = c i; edges = e i; gives = g i; takes = t i; merges = u i }
 
 -- two networks with one header have the same sizes
 pub SameSizes-header : (m n : Network) → HasSmallSizes m → HasSmallSizes n → header m ≡ header n → SameSizes m n
 SameSizes-header m n p q e =
     let h = header_unique (header n) m.inputs m.outputs m.splitters n.inputs n.outputs n.splitters (rw e at (IsHeader-header m p)) (IsHeader-header n q) in
     let none : none_each m.splitters ≡ none_each n.splitters = ap none_each h.2 in
-    record { inputs = h.0; outputs = h.1; splitters = h.2; gives = p.plain.gives ∙ none ∙ sym q.plain.gives; takes = p.plain.takes ∙ none ∙ sym q.plain.takes }
+    record { inputs = h.0; outputs = h.1; splitters = h.2; gives = p.plain.gives ∙ none ∙ sym q.plain.gives; takes = p.plain.takes ∙ none ∙ sym q.plain.takes; merges = p.plain.merges ∙ ap (λ k. replicate k false) h.2 ∙ sym q.plain.merges }
 
 -- the header of a small network is not refused
 pub header_stands : (first : List ℕ) (n : Network) (fault : NetFault) → HasSmallSizes n → first ≡ header n → HeaderRefused first fault → ⊥
@@ -236,13 +236,13 @@ All-at es g gs all = subst EdgeFits (get_or_at es g gs g (length es) refl) (all 
 pub one_more : (w n : Network) (g : Edge) (gs : List Edge) → SameSizes w n → IsPartlyWired n → n.edges ≡ w.edges ++ g ∷ gs → IsPartlyWired (with_edge w g)
 one_more w n g gs sizes wired is =
     let part = partly_front n (w.edges ++ g ∷ []) gs wired (is ∙ sym (append_assoc w.edges (g ∷ []) gs)) in
-    let same : SameSizes (with_edge w g) (record n { edges = w.edges ++ g ∷ [] }) = record { inputs = sizes.inputs; outputs = sizes.outputs; splitters = sizes.splitters; gives = sizes.gives; takes = sizes.takes } in
+    let same : SameSizes (with_edge w g) (record n { edges = w.edges ++ g ∷ [] }) = record { inputs = sizes.inputs; outputs = sizes.outputs; splitters = sizes.splitters; gives = sizes.gives; takes = sizes.takes; merges = sizes.merges } in
     rw (same_network (with_edge w g) (record n { edges = w.edges ++ g ∷ [] }) same refl) part
 
 -- the edge that comes last has small numbers and a cap
 last_fits : (w : Network) (e : Edge) → HasSmallSizes w → IsPartlyWired (with_edge w e) → EdgeFits e
 last_fits w e small new = All-at w.edges e [] (edges_fit (with_edge w e) (record {
-  plain = record { gives = small.plain.gives; takes = small.plain.takes };
+  plain = record { gives = small.plain.gives; takes = small.plain.takes; merges = small.plain.merges };
   few_inputs = small.few_inputs;
   few_outputs = small.few_outputs;
   few_splitters = small.few_splitters;

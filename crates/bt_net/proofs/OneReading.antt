@@ -1,5 +1,5 @@
 -- Two right answers to a text are equal.
-use Rattle.std.proofs.Common.{◌≡◌, ℕ, ◌+◌, ◌<◌, ◌≤◌, ◌-◌, ◌⊎◌, List, [], ◌∷◌, ◌++◌, length, drop, refl, sym, ◌∙◌, ap, subst, inl, inr, ⊎_elim, arith, length-append}
+use Rattle.std.proofs.Common.{◌≡◌, ℕ, ◌+◌, ◌<◌, ◌≤◌, ◌-◌, ◌⊎◌, false, replicate, List, [], ◌∷◌, ◌++◌, length, drop, refl, sym, ◌∙◌, ap, subst, inl, inr, ⊎_elim, arith, length-append}
 use Rattle.std.specs.Prelude.{Result, Ok, Err, codes}
 use Rattle.std.specs.List.{AllZip, flat_map}
 use Rattle.std.proofs.lemmas.List.{append_assoc}
@@ -16,6 +16,7 @@ use Rattle.bt_net.specs.declared.network.Block.{Block}
 use Rattle.bt_net.specs.declared.network.Demand.{Demand}
 use Rattle.bt_net.specs.declared.network.Priority.{Priority}
 use Rattle.bt_net.specs.declared.priority.Preferred.{Preferred}
+use Rattle.bt_net.specs.inner.Preferred.{told}
 use Rattle.bt_net.specs.Network.{Network, IsWired, IsNetwork, IsNetOf, IsPrioritised, HasNoPriorities, none_each}
 use Rattle.bt_net.specs.NetText.{header, alone, IsEdgeLine, BeginsWithNet}
 use Rattle.bt_net.specs.PinText.{AreLinesFrom, IsDemandHere, IsBlockHere}
@@ -33,7 +34,8 @@ use Rattle.bt_net.proofs.OneNet.{same_used}
 use Rattle.bt_net.proofs.EdgeLines.{edges-some}
 use Rattle.bt_net.proofs.SideSpelling.{demand_here_apart, block_here_apart, demand_here-some, block_here-some, demand_here-lacks, block_here-lacks}
 use Rattle.bt_net.proofs.PrioritySpelling.{here_apart, here-lacks, here-some}
-use Rattle.bt_net.proofs.Preference.{plain_is_prioritised, preferring_network}
+use Rattle.bt_net.specs.Priorities.{preferring}
+use Rattle.bt_net.proofs.Preference.{plain_is_prioritised, told_network, less_prioritised}
 use Rattle.bt_net.proofs.Preferring.{SameWires, becomes_wires, becomes_prioritised}
 use Rattle.bt_net.proofs.ItemLines.{more_lines, lines_items, items_lines}
 use Rattle.bt_net.proofs.Bodies.{end_stops, body_same, body_stands, one_body}
@@ -51,7 +53,7 @@ alone_wired n wired = record {
 }
 
 alone_small : (n : Network) → IsNetwork n → HasSmallSizes (alone n)
-alone_small n is = record { plain = record { gives = refl; takes = refl }; few_inputs = is.few_inputs; few_outputs = is.few_outputs; few_splitters = is.few_splitters }
+alone_small n is = record { plain = record { gives = refl; takes = refl; merges = refl }; few_inputs = is.few_inputs; few_outputs = is.few_outputs; few_splitters = is.few_splitters }
 
 -- a network that became another by priorities is that one without them
 alone_is : (w m : Network) → HasNoPriorities w → SameWires w m → alone m ≡ w
@@ -62,7 +64,8 @@ alone_is w m plain s =
     let edges = sym s.edges in
     let gives : none_each m.splitters ≡ w.gives = ap none_each splitters ∙ sym plain.gives in
     let takes : none_each m.splitters ≡ w.takes = ap none_each splitters ∙ sym plain.takes in
-    λ i. record { inputs = inputs i; outputs = outputs i; splitters = splitters i; edges = edges i; gives = gives i; takes = takes i }
+    let merges : replicate m.splitters false ≡ w.merges = ap (λ k. replicate k false) splitters ∙ sym plain.merges in
+    λ i. record { inputs = inputs i; outputs = outputs i; splitters = splitters i; edges = edges i; gives = gives i; takes = takes i; merges = merges i }
 
 -- what stands behind the edges of what was read
 abbrev behind_of : (may : Admitted) (bytes rest : List ℕ) (read : Reading) → BeginsWithAll may bytes read rest → Behind
@@ -308,7 +311,7 @@ module _ (may : Admitted) (text first rest : List ℕ) (m w : Network) (is : IsF
 
   module _ (preferred : Preferred) (demands : List Demand) (blocks : List Block) (number : ℕ) (a c : List ℕ) (edges : EdgesEnd w rest a) (items : ItemsStand may w a preferred demands blocks number c) where
     abbrev pub became : Network
-    became = preferring w preferred.gives.items preferred.takes.items
+    became = told w preferred
 
     -- what stands behind the edges
     abbrev pub behind : Behind
@@ -397,6 +400,10 @@ module _ (may : Admitted) (text first rest : List ℕ) (m w : Network) (is : IsF
         let small = HasSmallSizes-same m w sizes start.small in
         becomes_prioritised may w w became (length w.edges + 2) a items.after_priorities items.priorities_end.priorities (record { inputs = refl; outputs = refl; splitters = refl; edges = refl }) (plain_is_prioritised w small.plain) items.priorities_end.starts items.priorities_end.becomes
 
+    -- and so they do without those by which they may prefer any
+    pub end_less : IsPrioritised (preferring w preferred.gives.items preferred.takes.items)
+    end_less = less_prioritised w preferred (HasSmallSizes-same m w sizes start.small).plain end_prioritised
+
     -- where the text ends
     pub end_within : (after : List ℕ) → IsFirstLine c (codes "end") after → (length after ≤ length text) × (drop (length text - length after) text ≡ after)
     end_within after next = let parts = all_parts may text first rest after m w behind is start sizes (goes_on (codes "end") after next) in (parts.1, parts.2)
@@ -411,7 +418,7 @@ module _ (may : Admitted) (text first rest : List ℕ) (m w : Network) (is : IsF
         let B : List ℕ → Type 0 = λ r. BeginsWithAll may text (record { net = became; demands = demands; blocks = blocks; used = used; lines = number }) r in
         let here : (b : B (drop used text)) × (b.priorities ≡ behind.priorities) = subst (λ r. (b : B r) × (b.priorities ≡ behind.priorities)) (sym left) all in
         read_answers may text (Ok (record { net = became; demands = demands; blocks = blocks; used = used; lines = number })) (record {
-          network = preferring_network w preferred.gives.items preferred.takes.items net end_prioritised;
+          network = told_network w preferred net end_prioritised;
           begins = here.0;
           used = omega (arith, is_used);
           lines = omega (arith, number_next, ap length here.1);

@@ -1,17 +1,18 @@
 -- Texts without pins, sides, rows, blocks and preferred edges, whatever may stand behind the edges.
-use Rattle.std.proofs.Common.{◌≡◌, ◌≢◌, ℕ, ◌+◌, List, [], ◌∷◌, ◌++◌, length, drop, Option, Some, None, Ok, refl, sym, ◌∙◌, ap, subst, arith}
+use Rattle.std.proofs.Common.{◌≡◌, ◌≢◌, ℕ, ◌+◌, Bool, true, false, replicate, List, [], ◌∷◌, ◌++◌, length, drop, Option, Some, None, Ok, refl, sym, ◌∙◌, ap, subst, arith}
 use Rattle.std.specs.Prelude.{codes}
 use Rattle.std.proofs.lemmas.List.{get_or-set_same, get_or-set_other}
 use Rattle.bt_text.specs.Lines.{BeginsWithLines}
 use Rattle.bt_net.specs.declared.network.Admitted.{Admitted}
 use Rattle.bt_net.specs.declared.network.Priority.{Priority}
-use Rattle.bt_net.specs.declared.network.Priority.TheVariants.{Give, Take}
-use Rattle.bt_net.specs.Network.{Network, HasNoPriorities, none_each, give_of, take_of}
+use Rattle.bt_net.specs.declared.network.Priority.TheVariants.{Give, Take, Any}
+use Rattle.bt_net.specs.Network.{Network, HasNoPriorities, none_each, give_of, take_of, merges_any}
 use Rattle.bt_net.specs.NetText.{header, alone}
 use Rattle.bt_net.specs.PinText.{AreLinesFrom, IsDemandHere, IsBlockHere}
 use Rattle.bt_net.specs.Priorities.{IsPriorityHere, Owns, with_priority, Becomes}
 use Rattle.bt_net.specs.Readings.{Reading, IsNetRead, ReadAlike}
-use Rattle.bt_net.proofs.Preference.{none_long, plain_gives, plain_takes, plain_alone}
+use Rattle.std.proofs.lemmas.List.{length-replicate}
+use Rattle.bt_net.proofs.Preference.{none_long, plain_gives, plain_takes, plain_merges, plain_alone}
 
 -- lines of nothing
 no_lines : {X : Type 0} (IsLine : ℕ → List ℕ → X → Type 0) (number : ℕ) (lines : List (List ℕ)) (xs : List X) → AreLinesFrom IsLine number lines xs → xs ≡ [] → lines ≡ []
@@ -25,6 +26,9 @@ are_none IsLine number xs none = subst (AreLinesFrom IsLine number []) (sym none
 not_both : (o : Option ℕ) (a : ℕ) → o ≡ None → o ≡ Some a → ⊥
 not_both o a none some = absurd (cc)
 
+true_or_false : {b : Bool} → b ≡ false → b ≡ true → ⊥
+true_or_false is any = absurd (cc)
+
 -- an edge that is preferred stays so
 give_stays : (m n : Network) (ps : List Priority) (k a : ℕ) → Becomes m ps n → give_of m k ≡ Some a → give_of n k ≡ Some a
 give_stays m n [] k a is some = ap (λ x. give_of x k) (sym is) ∙ some
@@ -32,13 +36,24 @@ give_stays m n (Give j b ∷ ps) k a is some =
     let apart : k ≢ j = λ e. not_both (give_of m k) a (ap (give_of m) e ∙ is.0) some in
     give_stays (with_priority m (Give j b)) n ps k a is.1 (get_or-set_other m.gives j k (Some b) None apart ∙ some)
 give_stays m n (Take j b ∷ ps) k a is some = give_stays (with_priority m (Take j b)) n ps k a is.1 some
+give_stays m n (Any j ∷ ps) k a is some = give_stays (with_priority m (Any j)) n ps k a is.1 some
 
 take_stays : (m n : Network) (ps : List Priority) (k a : ℕ) → Becomes m ps n → take_of m k ≡ Some a → take_of n k ≡ Some a
 take_stays m n [] k a is some = ap (λ x. take_of x k) (sym is) ∙ some
 take_stays m n (Give j b ∷ ps) k a is some = take_stays (with_priority m (Give j b)) n ps k a is.1 some
 take_stays m n (Take j b ∷ ps) k a is some =
-    let apart : k ≢ j = λ e. not_both (take_of m k) a (ap (take_of m) e ∙ is.0) some in
+    let apart : k ≢ j = λ e. not_both (take_of m k) a (ap (take_of m) e ∙ is.0.0) some in
     take_stays (with_priority m (Take j b)) n ps k a is.1 (get_or-set_other m.takes j k (Some b) None apart ∙ some)
+take_stays m n (Any j ∷ ps) k a is some = take_stays (with_priority m (Any j)) n ps k a is.1 some
+
+-- so does a splitter that may prefer any
+any_stays : (m n : Network) (ps : List Priority) (k : ℕ) → Becomes m ps n → merges_any m k ≡ true → merges_any n k ≡ true
+any_stays m n [] k is any = ap (λ x. merges_any x k) (sym is) ∙ any
+any_stays m n (Give j b ∷ ps) k is any = any_stays (with_priority m (Give j b)) n ps k is.1 any
+any_stays m n (Take j b ∷ ps) k is any = any_stays (with_priority m (Take j b)) n ps k is.1 any
+any_stays m n (Any j ∷ ps) k is any =
+    let apart : k ≢ j = λ e. true_or_false (ap (merges_any m) e ∙ is.0.1) any in
+    any_stays (with_priority m (Any j)) n ps k is.1 (get_or-set_other m.merges j k true false apart ∙ any)
 
 -- so by some priorities no network becomes one without any
 module _ (n : Network) (plain : HasNoPriorities n) where
@@ -49,6 +64,9 @@ module _ (n : Network) (plain : HasNoPriorities n) where
   one_too_many (Take k a) ps owns is =
       let there : take_of (with_priority (alone n) (Take k a)) k ≡ Some a = get_or-set_same (none_each n.splitters) k (Some a) None (omega (arith, owns.0, none_long n.splitters)) in
       not_both (take_of n k) a (plain_takes n plain k) (take_stays (with_priority (alone n) (Take k a)) n ps k a is there)
+  one_too_many (Any k) ps owns is =
+      let there : merges_any (with_priority (alone n) (Any k)) k ≡ true = get_or-set_same (replicate n.splitters false) k true false (omega (arith, owns, length-replicate n.splitters false)) in
+      true_or_false (plain_merges n plain k) (any_stays (with_priority (alone n) (Any k)) n ps k is there)
 
   none_here : (may : Admitted) (number : ℕ) (lines : List (List ℕ)) (ps : List Priority) → AreLinesFrom (IsPriorityHere may (alone n)) number lines ps → Becomes (alone n) ps n → ps ≡ []
   none_here may number lines [] are is = refl

@@ -1,5 +1,5 @@
 -- A network of splitters: its edges join inputs, splitters and outputs.
-use Rattle.std.specs.Prelude.{◌≡◌, ℕ, zero, suc, ◌<◌, ◌≤◌, ◌==◌, ◌⊎◌, Bool, false, IsTrue, List, [], ◌∷◌, length, count_by, All, Option, Some, None, slice_get, slice_index_or, Result, Ok, Err}
+use Rattle.std.specs.Prelude.{◌≡◌, ℕ, zero, suc, ◌<◌, ◌≤◌, ◌==◌, ◌⊎◌, Bool, false, IsTrue, List, [], ◌∷◌, length, count_by, All, Option, Some, None, replicate, slice_get, slice_index_or, Result, Ok, Err}
 use Rattle.bt_net.specs.declared.fault.NetFault.{NetFault}
 use Rattle.bt_net.specs.declared.fault.NetFault.TheVariants.{NetLine, TooLarge, NoEnds, Memory}
 use Rattle.bt_net.specs.declared.network.Edge.{Edge}
@@ -12,7 +12,7 @@ use Rattle.bt_net.specs.declared.network.Target.TheVariants as to
 use Rattle.bt_net.specs.declared.network.TheConstants.{MOST_OF_EACH, MOST_CAP}
 
 -- numbers of inputs, outputs and splitters, the edges in their order, and for each splitter the out edge and the in
--- edge that it prefers, where it prefers one
+-- edge that it prefers, where it prefers one, and whether it may prefer any in edge or none
 pub record Network : Type 0 where
   pub inputs : ℕ
   pub outputs : ℕ
@@ -20,21 +20,23 @@ pub record Network : Type 0 where
   pub edges : List Edge
   pub gives : List (Option ℕ)
   pub takes : List (Option ℕ)
+  pub merges : List Bool
 
 -- for each of so many splitters no edge
 abbrev pub none_each : ℕ → List (Option ℕ)
 none_each zero = []
 none_each (suc k) = None ∷ none_each k
 
--- the network of these numbers and edges, of which no splitter prefers an edge
+-- the network of these numbers and edges, of which no splitter prefers an edge, and each is even
 abbrev pub network_of : ℕ → ℕ → ℕ → List Edge → Network
 network_of inputs outputs splitters edges =
-    record { inputs = inputs; outputs = outputs; splitters = splitters; edges = edges; gives = none_each splitters; takes = none_each splitters }
+    record { inputs = inputs; outputs = outputs; splitters = splitters; edges = edges; gives = none_each splitters; takes = none_each splitters; merges = replicate splitters false }
 
--- no splitter prefers an edge
+-- no splitter prefers an edge, and each is even
 pub record HasNoPriorities (n : Network) : Type 0 where
   pub gives : n.gives ≡ none_each n.splitters
   pub takes : n.takes ≡ none_each n.splitters
+  pub merges : n.merges ≡ replicate n.splitters false
 
 -- the edge that such a list has for a splitter, where it has one
 abbrev pub preferred_in : List (Option ℕ) → ℕ → Option ℕ
@@ -47,6 +49,14 @@ give_of n k = preferred_in n.gives k
 -- the in edge that a splitter prefers, where it prefers one
 abbrev pub take_of : Network → ℕ → Option ℕ
 take_of n k = preferred_in n.takes k
+
+-- whether a splitter may prefer any of its in edges, or none: no law says how it takes from them
+abbrev pub merges_any : Network → ℕ → Bool
+merges_any n k = slice_index_or n.merges k false
+
+-- a splitter prefers no in edge, and may prefer none: it takes evenly
+abbrev pub TakesEvenly : Network → ℕ → Type 0
+TakesEvenly n k = (take_of n k ≡ None) × (merges_any n k ≡ false)
 
 -- the edge leaves this splitter
 abbrev pub leaves : ℕ → Edge → Bool
@@ -110,12 +120,15 @@ pub record IsWired (n : Network) : Type 0 where
   pub few_in : (s : ℕ) → s < n.splitters → count_by (enters s) n.edges ≤ 2
   pub few_out : (s : ℕ) → s < n.splitters → count_by (leaves s) n.edges ≤ 2
 
--- for each splitter there is one of its out edges or none, and one of its in edges or none
+-- for each splitter there is one of its out edges or none, and one of its in edges or none; and where it may prefer any
+-- in edge, none is named
 pub record IsPrioritised (n : Network) : Type 0 where
   pub gives_each : length n.gives ≡ n.splitters
   pub takes_each : length n.takes ≡ n.splitters
+  pub merges_each : length n.merges ≡ n.splitters
   pub gives : (k a : ℕ) → give_of n k ≡ Some a → (e : Edge) × (slice_get n.edges a ≡ Some e) × IsTrue (leaves k e)
   pub takes : (k a : ℕ) → take_of n k ≡ Some a → (e : Edge) × (slice_get n.edges a ≡ Some e) × IsTrue (enters k e)
+  pub one_of_both : (k : ℕ) → IsTrue (merges_any n k) → take_of n k ≡ None
 
 -- a count or the number of edges is more than `MOST_OF_EACH`
 abbrev pub IsLarge : Network → Type 0

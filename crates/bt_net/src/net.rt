@@ -5,7 +5,7 @@ ghost use Rattle.bt_net.specs.Network.{IsWired, IsNetOf, network_of};
 
 use crate::fault::NetFault;
 use crate::network::{Edge, MOST_OF_EACH};
-use crate::priority::{Preferred, edge_at};
+use crate::priority::{PreferredEdges, edge_at, merges_at};
 use std::marker::Model;
 
 /// A network of splitters: each input and each output has one edge, and each splitter has at most
@@ -13,33 +13,34 @@ use std::marker::Model;
 /// and at least one output, and every edge has a cap from 1 to `MOST_CAP`.
 ///
 /// A splitter may prefer one of its out edges, which then gets all that fits, and one of its in edges, of
-/// which it then takes all that it has.
+/// which it then takes all that it has; or it may prefer any in edge, or none, where what it prefers isn't known.
 #[derive(Drop)]
 pub struct Net {
     inputs: u32,
     outputs: u32,
     splitters: u32,
     edges: Vec<Edge>,
-    preferred: Option<Preferred>,
+    preferred: Option<PreferredEdges>,
+    merges: Option<Vec<bool>>,
 }
 
 impl Model for Net {
     ghost use Rattle.bt_net.specs.Network.{Network, IsNetwork, network_of};
-    ghost use Rattle.bt_net.specs.inner.Preferred.{with_preferred};
+    ghost use Rattle.bt_net.specs.inner.Preferred.{with_preferred, with_merges};
 
     ghost Value = { Network };
 
-    ghost view = { λ n. with_preferred n.preferred
-        (network_of n.inputs n.outputs n.splitters n.edges.items) };
-
-    ghost invariant = { λ n. IsNetwork (with_preferred n.preferred
+    ghost view = { λ n. with_merges n.merges (with_preferred n.preferred
         (network_of n.inputs n.outputs n.splitters n.edges.items)) };
+
+    ghost invariant = { λ n. IsNetwork (with_merges n.merges (with_preferred n.preferred
+        (network_of n.inputs n.outputs n.splitters n.edges.items))) };
 }
 
 impl Net {
-    ghost use Rattle.bt_net.specs.Network.{HasNoPriorities, IsNetwork, IsPrioritised, give_of, take_of};
+    ghost use Rattle.bt_net.specs.Network.{HasNoPriorities, IsNetwork, IsPrioritised, give_of, merges_any, take_of};
     ghost use Rattle.bt_net.specs.NetText.{alone};
-    ghost use Rattle.bt_net.specs.Priorities.{preferring};
+    ghost use Rattle.bt_net.specs.Priorities.{merging, preferring};
 
     /// The network of these counts and edges, in which the edges have their places as numbers, and no
     /// splitter prefers an edge.
@@ -65,6 +66,7 @@ impl Net {
             splitters,
             edges,
             preferred: None,
+            merges: None,
         })
     }
 
@@ -109,6 +111,16 @@ impl Net {
         }
     }
 
+    /// Whether a splitter may prefer any of its in edges, or none: no law says how it takes from them.
+    pub fn merges_any(&self, splitter: usize) -> bool
+        ensures { result ≡ merges_any self.now splitter }
+    {
+        match &self.merges {
+            Some(merges) => merges_at(merges, splitter),
+            None => false,
+        }
+    }
+
     /// The same network, in which each splitter prefers the edges that the lists name at its number: one of its out
     /// edges or none, and one of its in edges or none.
     pub fn preferring(self, gives: Vec<Option<usize>>, takes: Vec<Option<usize>>) -> Net
@@ -120,11 +132,28 @@ impl Net {
             outputs: self.outputs,
             splitters: self.splitters,
             edges: self.edges,
-            preferred: Some(Preferred { gives, takes }),
+            preferred: Some(PreferredEdges { gives, takes }),
+            merges: self.merges,
         }
     }
 
-    /// The same network, in which no splitter prefers an edge.
+    /// The same network, in which each splitter may prefer any of its in edges, or none, where the list says so at its
+    /// number.
+    pub fn merging(self, merges: Vec<bool>) -> Net
+        requires { IsPrioritised (merging self merges.items) }
+        ensures { result ≡ merging self merges.items }
+    {
+        Net {
+            inputs: self.inputs,
+            outputs: self.outputs,
+            splitters: self.splitters,
+            edges: self.edges,
+            preferred: self.preferred,
+            merges: Some(merges),
+        }
+    }
+
+    /// The same network, in which no splitter prefers an edge, and each is even.
     pub fn alone(self) -> Net
         ensures net { result ≡ alone self }
         ensures plain { HasNoPriorities result }
@@ -135,6 +164,7 @@ impl Net {
             splitters: self.splitters,
             edges: self.edges,
             preferred: None,
+            merges: None,
         }
     }
 

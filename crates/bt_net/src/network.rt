@@ -35,13 +35,15 @@ pub struct Edge {
     pub cap: u32,
 }
 
-/// What a splitter prefers, by the numbers of the splitter and of the edge.
+/// What a splitter prefers, by the numbers of the splitter and of the edge; or that it may prefer any in edge.
 #[derive(Clone, Copy, PartialEq, Eq)]
 pub enum Priority {
     /// It gives this out edge all that fits before the other gets anything.
     Give { splitter: u32, edge: u32 },
     /// It takes all of this in edge before anything of the other.
     Take { splitter: u32, edge: u32 },
+    /// It may prefer any of its in edges, or none: no law says how it takes from them.
+    Any { splitter: u32 },
 }
 
 /// An input or an output, by its number from 0.

@@ -4,7 +4,7 @@
 ghost use Rattle.std.specs.Prelude.{◌≡◌, ◌↔◌, ◌+◌, ◌≤◌, ◌<◌, ◌^◌, [], length, IfOk, IsTrue};
 ghost use Rattle.bt_text.specs.Answers.{Answers, UnlessMemory, seen};
 ghost use Rattle.bt_net.specs.PinText.{IsDemandHere, IsBlockHere};
-ghost use Rattle.bt_net.specs.Priorities.{AdmitsPriorities};
+ghost use Rattle.bt_net.specs.Priorities.{AdmitsPriority};
 ghost use Rattle.bt_net.specs.Readings.{IsNetRead, what_is_read};
 ghost use Rattle.bt_net.specs.Wiring.{HasSmallSizes};
 ghost use Rattle.bt_net.specs.inner.Items.{ItemsStand};
@@ -16,7 +16,7 @@ use crate::fault::NetFault;
 use crate::header::read_header;
 use crate::net::Net;
 use crate::network::{Admitted, Block, Demand, Edge, MOST_OF_EACH, Priority};
-use crate::priority::{Preferred, is_free, none_each, prefer, read_priority};
+use crate::priority::{Preferred, even_each, is_free, none_each, prefer, read_priority};
 use crate::wiring::Wiring;
 use crate::words::read_edge;
 use bt_text::first_line;
@@ -36,10 +36,11 @@ pub struct NetRead {
 /// The network at the front of these bytes, with its priorities, its pins, sides and rows, and its blocks. The bytes
 /// begin with a line `net I O S` of the numbers of inputs, outputs and splitters, and have a line for each edge. Then
 /// come, where such lines are admitted: in any order lines `give sN E` and `take sN E`, by which splitter N prefers its
-/// out edge, or its in edge, with the number E, at most one of each kind for a splitter; then in any order lines
-/// `pin E X Y` or `pin E X Y D` for cells on which ends stand, `side E D` for sides at which they do, where E may also
-/// be `inputs` or `outputs`, and `row K` for ends that stand in a row, where K is `inputs` or `outputs`; then lines
-/// `block X Y` for cells on which no part stands. A line `end` comes last. What follows that line is not read.
+/// out edge, or its in edge, with the number E, or `take sN any`, by which it may prefer any in edge, at most one `give`
+/// and one `take` for a splitter; then in any order lines `pin E X Y` or `pin E X Y D` for cells on which ends stand,
+/// `side E D` for sides at which they do, where E may also be `inputs` or `outputs`, and `row K` for ends that stand in a
+/// row, where K is `inputs` or `outputs`; then lines `block X Y` for cells on which no part stands. A line `end` comes
+/// last. What follows that line is not read.
 pub fn read(alloc: Global, admitted: Admitted, bytes: &[u8]) -> Result<NetRead, NetFault>
     ensures { Answers NetFault.Memory (IsNetRead admitted bytes.now) (seen what_is_read result) }
 {
@@ -50,7 +51,7 @@ pub fn read(alloc: Global, admitted: Admitted, bytes: &[u8]) -> Result<NetRead, 
     let rest = read_end(&wiring, items.lines, items.rest)?;
     let net = wiring.into_net()?;
     Ok(NetRead {
-        net: net.preferring(items.preferred.gives, items.preferred.takes),
+        net: net.preferring(items.preferred.gives, items.preferred.takes).merging(items.preferred.merges),
         demands: items.demands,
         blocks: items.blocks,
         used: bytes.len() - rest.len(),
@@ -128,6 +129,7 @@ fn read_priorities<'a>(
     let mut preferred = Preferred {
         gives: none_each(alloc, splitters)?,
         takes: none_each(alloc, splitters)?,
+        merges: even_each(alloc, splitters)?,
     };
     let mut count = 0;
     let mut rest = text;
@@ -146,8 +148,8 @@ fn read_priorities<'a>(
     }
 }
 
-/// The priority of this line. None where no priorities are admitted, where it is another line, where the splitter lacks
-/// the edge, or where it prefers an edge of that kind already.
+/// The priority of this line. None where it isn't admitted, where it is another line, where the splitter lacks the edge,
+/// or where something is said already of its edges of that kind.
 fn next_priority(
     admitted: Admitted,
     wiring: &Wiring,
@@ -158,25 +160,30 @@ fn next_priority(
     requires few { length wiring.now.edges ≤ MOST_OF_EACH }
     ensures { IsNextPriority admitted wiring.now preferred.now line.now result }
 {
-    if admits_priorities(admitted) {
-        next_owned(wiring, preferred, line)
+    let priority = next_owned(wiring, preferred, line)?;
+    if admits(admitted, priority) {
+        Some(priority)
     } else {
         None
     }
 }
 
-/// Whether lines of priorities may stand in the text.
-fn admits_priorities(admitted: Admitted) -> bool
-    ensures { IsTrue result ↔ AdmitsPriorities admitted }
+/// Whether a line of this priority may stand in the text.
+fn admits(admitted: Admitted, priority: Priority) -> bool
+    ensures { IsTrue result ↔ AdmitsPriority admitted priority }
 {
     match admitted {
         Admitted::Nothing => false,
-        Admitted::Priorities | Admitted::Sides | Admitted::All => true,
+        Admitted::Priorities => true,
+        Admitted::Sides | Admitted::All => match priority {
+            Priority::Give { .. } | Priority::Take { .. } => true,
+            Priority::Any { .. } => false,
+        },
     }
 }
 
-/// The priority of this line. None where it is another line, where the splitter lacks the edge, or where it prefers an
-/// edge of that kind already.
+/// The priority of this line. None where it is another line, where the splitter lacks the edge, or where something is
+/// said already of its edges of that kind.
 fn next_owned(wiring: &Wiring, preferred: &Preferred, line: &[u8]) -> Option<Priority>
     requires small { HasSmallSizes wiring.now }
     requires few { length wiring.now.edges ≤ MOST_OF_EACH }

@@ -81,7 +81,7 @@ impl Wiring {
     }
 
     /// Whether the priority's edge is an out edge of its splitter, where the priority gives, or an in edge of it, where
-    /// it takes. False where there is no such edge or splitter.
+    /// it takes, and there is the splitter. False where there is no such edge or splitter.
     pub fn owns(&self, priority: Priority) -> bool
         ensures { IsTrue result ↔ Owns self.now priority }
     {
@@ -94,6 +94,7 @@ impl Wiring {
                 Some(found) => found.target == Target::Split(splitter),
                 None => false,
             },
+            Priority::Any { splitter } => (splitter as usize) < self.leaving.len(),
         }
     }
 

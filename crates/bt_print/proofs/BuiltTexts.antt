@@ -1,15 +1,15 @@
 -- The request that is written for a network is read as one for this network.
-use Rattle.std.proofs.Common.{◌≡◌, ℕ, ◌+◌, ◌∙◌, List, [], ◌∷◌, ◌++◌, length, drop, map, sym, ap, inl, inr, refl, arith, Ok}
+use Rattle.std.proofs.Common.{◌≡◌, ℕ, ◌+◌, ◌∙◌, List, [], ◌∷◌, ◌++◌, length, drop, map, sym, ap, subst, Bool, false, Option, Some, None, inl, inr, refl, arith, Ok}
 use Rattle.std.specs.Prelude.{codes}
-use Rattle.std.specs.List.{flat_map}
+use Rattle.std.specs.List.{flat_map, range_with_len, AllByRecursion}
 use Rattle.std.proofs.lemmas.List.{append_assoc, append-nil, drop_all}
 use Rattle.std.proofs.lemmas.List.Concat.{flat_map-append}
 use Rattle.bt_net.specs.declared.network.Admitted.TheVariants.{All}
 use Rattle.bt_net.specs.declared.network.Priority.{Priority}
-use Rattle.bt_net.specs.Network.{Network, IsNetwork}
+use Rattle.bt_net.specs.Network.{Network, IsNetwork, give_of, take_of, merges_any}
 use Rattle.bt_net.specs.NetText.{line, header, edge_text, alone}
 use Rattle.bt_net.specs.PinText.{AreLinesFrom, IsDemandHere}
-use Rattle.bt_net.specs.Priorities.{priority_text, priorities_of, IsPriorityLine, IsPriorityHere}
+use Rattle.bt_net.specs.Priorities.{priority_text, priorities_of, priorities_at, gives_at, takes_at, merges_at, AdmitsPriority, IsPriorityLine, IsPriorityHere}
 use Rattle.bt_net.specs.Readings.{Reading, IsNetRead}
 use Rattle.bt_net.proofs.NetLines.{printed_lines, lines_of}
 use Rattle.bt_net.proofs.PrintedPriorities.{priority_lines, are_priority_lines, becomes_itself}
@@ -24,12 +24,30 @@ use Rattle.bt_designs.proofs.LongerDesigns.{not_json}
 use Rattle.bt_print.specs.Answers.{built_text}
 use Rattle.bt_print.specs.BuiltTexts.{BuiltIsRead, facing_rows}
 
--- where all may stand, lines of priorities stand
-lines_here : (n : Network) (number : ℕ) (lines : List (List ℕ)) (ps : List Priority) → AreLinesFrom (IsPriorityLine n) number lines ps → AreLinesFrom (IsPriorityHere All n) number lines ps
-lines_here n number [] [] are = tt
-lines_here n number [] (p ∷ ps) are = absurd are
-lines_here n number (l ∷ ls) [] are = absurd are
-lines_here n number (l ∷ ls) (p ∷ ps) are = ((tt, are.0), lines_here n (number + 1) ls ps are.1)
+-- where these priorities may stand, their lines do
+lines_here : (n : Network) (number : ℕ) (lines : List (List ℕ)) (ps : List Priority) → AllByRecursion (AdmitsPriority All) ps → AreLinesFrom (IsPriorityLine n) number lines ps → AreLinesFrom (IsPriorityHere All n) number lines ps
+lines_here n number [] [] may are = tt
+lines_here n number [] (p ∷ ps) may are = absurd are
+lines_here n number (l ∷ ls) [] may are = absurd are
+lines_here n number (l ∷ ls) (p ∷ ps) may are = ((may.0, are.0), lines_here n (number + 1) ls ps may.1 are.1)
+
+-- those of edges may stand
+joined : (P : Priority → Type 0) (ps qs : List Priority) → AllByRecursion P ps → AllByRecursion P qs → AllByRecursion P (ps ++ qs)
+joined P [] qs first second = second
+joined P (p ∷ ps) qs first second = (first.0, joined P ps qs first.1 second)
+
+edges_admitted : (k : ℕ) (give take : Option ℕ) → AllByRecursion (AdmitsPriority All) (gives_at k give ++ takes_at k take ++ merges_at k false)
+edges_admitted k None None = tt
+edges_admitted k None (Some b) = (tt, tt)
+edges_admitted k (Some a) None = (tt, tt)
+edges_admitted k (Some a) (Some b) = (tt, (tt, tt))
+
+all_admitted : (n : Network) → ((k : ℕ) → merges_any n k ≡ false) → (ks : List ℕ) → AllByRecursion (AdmitsPriority All) (flat_map (priorities_at n) ks)
+all_admitted n even [] = tt
+all_admitted n even (k ∷ ks) =
+    joined (AdmitsPriority All) (priorities_at n k) (flat_map (priorities_at n) ks)
+    (subst (λ any. AllByRecursion (AdmitsPriority All) (gives_at k (give_of n k) ++ takes_at k (take_of n k) ++ merges_at k any)) (sym (even k)) (edges_admitted k (give_of n k) (take_of n k)))
+    (all_admitted n even ks)
 
 -- the four lines of the rows
 abbrev row_words : List (List ℕ)
@@ -57,7 +75,7 @@ not_blank (inr (inl e)) = omega (arith, e)
 not_blank (inr (inr (inl e))) = omega (arith, e)
 not_blank (inr (inr (inr e))) = omega (arith, e)
 
-module _ (n : Network) (is : IsNetwork n) where
+module _ (n : Network) (is : IsNetwork n) (even : (k : ℕ) → merges_any n k ≡ false) where
   abbrev text : List ℕ
   text = built_text built.Request n
 
@@ -103,7 +121,7 @@ module _ (n : Network) (is : IsNetwork n) where
       are_edges = printed_lines n.edges;
       priorities = priorities_of n;
       priority_lines = map priority_text (priorities_of n);
-      are_priorities = lines_here (alone n) (length n.edges + 2) (map priority_text (priorities_of n)) (priorities_of n) (are_priority_lines n is.prioritised (length n.edges + 2));
+      are_priorities = lines_here (alone n) (length n.edges + 2) (map priority_text (priorities_of n)) (priorities_of n) (all_admitted n even (range_with_len 0 n.splitters)) (are_priority_lines n is.prioritised (length n.edges + 2));
       becomes = becomes_itself n is.prioritised;
       demand_lines = row_words;
       are_demands = rows_are (alone n) (length n.edges + length (priorities_of n) + 2);
@@ -125,4 +143,4 @@ module _ (n : Network) (is : IsNetwork n) where
       ([], record { blanks = []; are_blanks = All-nil IsBlank; text_is = none_left; no_more = λ some. absurd (omega (arith, some)) }, inl (refl, refl))
 
 pub built_read : BuiltIsRead
-built_read n is = alone_read n is
+built_read n is even = alone_read n is even

@@ -3,7 +3,7 @@ ghost use Rattle.std.specs.Prelude.{◌≡◌, ℕ, ◌<◌, ◌≤◌, ◌^◌,
 ghost use Rattle.bt_io.specs.Bytes.{WritesText};
 ghost use Rattle.bt_io.specs.Passages.{passage};
 ghost use Rattle.bt_net.specs.NetText.{line, header, edge_text, net_text};
-ghost use Rattle.bt_net.specs.Priorities.{preference_text, splitter_text, priorities_text};
+ghost use Rattle.bt_net.specs.Priorities.{merge_text, preference_text, splitter_text, priorities_text};
 ghost use Rattle.bt_print.specs.NetTexts.{text_with};
 
 use crate::line_buffer::LineBuffer;
@@ -61,7 +61,19 @@ fn print_splitter<K: Sink>(net: &Net, splitter: u32, sink: &mut K) -> Result<(),
     // It is a network, so the numbers of its edges are small.
     let _edges = net.edges();
     print_preference(b"give s", splitter, net.give(splitter as usize), sink)?;
-    print_preference(b"take s", splitter, net.take(splitter as usize), sink)
+    print_preference(b"take s", splitter, net.take(splitter as usize), sink)?;
+    print_merge(splitter, net.merges_any(splitter as usize), sink)
+}
+
+/// Writes the line that says that a splitter may prefer any in edge, where it may.
+fn print_merge<K: Sink>(splitter: u32, any: bool, sink: &mut K) -> Result<(), WriteFault>
+    ensures { WritesText (passage K.held K.faults sink.old sink.new) (merge_text splitter any) result }
+{
+    if any {
+        write_all_of(sink, any_line(splitter).as_bytes())
+    } else {
+        Ok(())
+    }
 }
 
 /// Writes the line that begins with a word and names the edge that a splitter prefers, where it prefers one.
@@ -106,6 +118,17 @@ fn edge_line(edge: Edge) -> LineBuffer
     line.push_target(edge.target);
     line.push_cap(edge.cap);
     line.push(b"\n");
+    line
+}
+
+/// The line that says that a splitter may prefer any in edge.
+fn any_line(splitter: u32) -> LineBuffer
+    ensures { result ≡ line (codes "take s" ++ decimal splitter ++ codes " any") }
+{
+    let mut line = LineBuffer::new();
+    line.push(b"take s");
+    line.push_number(splitter);
+    line.push(b" any\n");
     line
 }
 

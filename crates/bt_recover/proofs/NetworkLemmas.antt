@@ -322,6 +322,6 @@ large_exists parts clean naming names many =
       net_with naming found.0,
       naming,
       numbered parts clean naming found.0 names found.1,
-      record { gives = refl; takes = refl },
+      record { gives = refl; takes = refl; merges = refl },
       ⊎_elim (λ i. inl i) (λ more. ⊎_elim (λ o. inr (inl o)) (λ s. inr (inr (inl s))) more) many,
     )

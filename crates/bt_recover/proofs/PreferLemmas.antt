@@ -1,5 +1,5 @@
 -- The edges that splitters prefer.
-use Rattle.std.proofs.Common.{◌≡◌, ◌≢◌, ◌⊎◌, ℕ, zero, suc, ◌+◌, ◌-◌, ◌<◌, List, [], ◌∷◌, map, length, get_or, Option, Some, None, true, IsTrue, refl, sym, ◌∙◌, ap, subst, inl, inr, ⊎_elim, arith}
+use Rattle.std.proofs.Common.{◌≡◌, ◌≢◌, ◌⊎◌, ℕ, zero, suc, ◌+◌, ◌-◌, ◌<◌, List, [], ◌∷◌, map, length, get_or, Option, Some, None, true, false, replicate, IsTrue, refl, sym, ◌∙◌, ap, subst, inl, inr, ⊎_elim, arith}
 use Rattle.std.specs.Prelude.{MatchOption, Ok, Err}
 use Rattle.std.specs.List.{slice_get, AllPairs, AllZip, Contains}
 use Rattle.std.proofs.Common.{set}
@@ -12,7 +12,7 @@ use Rattle.bt_parts.specs.declared.hand.Hand.{Hand}
 use Rattle.bt_parts.specs.Hands.{half_on}
 use Rattle.std.proofs.lemmas.Bool.{cases_lt, cases_eq}
 use Rattle.std.proofs.lemmas.Grind.{get_or-set_at}
-use Rattle.std.proofs.lemmas.List.{get_or-set_other, length-set}
+use Rattle.std.proofs.lemmas.List.{get_or-set_other, length-set, length-replicate}
 use Rattle.std.proofs.lemmas.Option.{same_Some, none-some, slice_get_within, slice_get-get_or, get_or_from_slice_get}
 use Rattle.bt_parts.specs.declared.hand.Priority.{Priority}
 use Rattle.bt_parts.specs.declared.part.Cell.{Cell}
@@ -26,7 +26,7 @@ use Rattle.bt_parts.proofs.Places.{same_part, own_cell, covers_at}
 use Rattle.bt_parts.proofs.Steps.{near_end}
 use Rattle.bt_net.specs.Network.{Network, HasNoPriorities, IsNetwork, IsPrioritised, none_each, leaves as leaves_from, enters as enters_to}
 use Rattle.bt_net.specs.Priorities.{preferring}
-use Rattle.bt_net.proofs.Preference.{plain_is_prioritised, preferring_network}
+use Rattle.bt_net.proofs.Preference.{plain_is_prioritised, preferring_network, none_any}
 use Rattle.bt_model.specs.Handing.{FeedsFrom}
 use Rattle.bt_net.specs.declared.network.Edge.{Edge}
 use Rattle.bt_net.specs.declared.network.Start.{Start}
@@ -332,10 +332,11 @@ preferred_within Prefers splitters chains edges k a are is =
 -- the edges that are preferred are the splitters' own
 pub prioritised : (parts : List Part) (priorities : List Priority) (n : Network) (naming : Naming) (gives takes : List (Option ℕ)) (h : IsNumbered parts n naming)
     → ArePreferred (IsGivenFirst parts priorities) naming.splitters h.chains gives → ArePreferred (IsTakenFirst parts priorities) naming.splitters h.chains takes
-    → IsPrioritised (preferring n gives takes)
-prioritised parts priorities n naming gives takes h given taken = record {
+    → n.merges ≡ replicate n.splitters false → IsPrioritised (preferring n gives takes)
+prioritised parts priorities n naming gives takes h given taken even = record {
   gives_each = given.count ∙ sym h.names.splitter_count;
   takes_each = taken.count ∙ sym h.names.splitter_count;
+  merges_each = ap length even ∙ length-replicate n.splitters false;
   gives = λ k a is.
       let s = preferred_within (IsGivenFirst parts priorities) naming.splitters h.chains gives k a given is in
       let e = zip_back (IsEdgeOf parts naming) h.chains n.edges a s.2.0 h.named s.2.1 in
@@ -344,6 +345,7 @@ prioritised parts priorities n naming gives takes h given taken = record {
       let s = preferred_within (IsTakenFirst parts priorities) naming.splitters h.chains takes k a taken is in
       let e = zip_back (IsEdgeOf parts naming) h.chains n.edges a s.2.0 h.named s.2.1 in
       (e.0, e.1, enters_passes k e.0 (target_of naming e.0.target k s.0 h.names.splitters.once s.1 (subst (λ x. IsTargetOf naming x e.0.target) s.2.2.1.sink e.2.target)));
+  one_of_both = λ k any. absurd (let none : get_or n.merges k false ≡ false = ap (λ merges. get_or merges k false) even ∙ none_any n.splitters k in cc);
 }
 
 -- ---- one network
@@ -427,7 +429,7 @@ same_preferring parts priorities m n naming h k =
     (λ c there. y.each_once.all c (x.each_once.only c there)) (λ c there. x.each_once.all c (y.each_once.only c there)) in
     let alone : preferring m (none_each m.splitters) (none_each m.splitters) ≡ preferring n (none_each n.splitters) (none_each n.splitters) =
     same_network parts (preferring m (none_each m.splitters) (none_each m.splitters)) (preferring n (none_each n.splitters) (none_each n.splitters)) naming naming
-    (record { gives = refl; takes = refl }) (record { gives = refl; takes = refl })
+    (record { gives = refl; takes = refl; merges = h.merges }) (record { gives = refl; takes = refl; merges = k.merges })
     (renumbered parts m naming (none_each m.splitters) (none_each m.splitters) x) (renumbered parts n naming (none_each n.splitters) (none_each n.splitters) y) in
     let gives : m.gives ≡ n.gives = one_preferred (IsGivenFirst parts priorities) naming.splitters x.chains x.each_once.once
     (λ s c d in_c in_d p q. one_given parts priorities x.clean s c d (x.each_once.only c in_c) (x.each_once.only d in_d) p q) m.gives n.gives h.gives
@@ -449,7 +451,7 @@ one_preferring parts priorities m n a b h k =
 alone_recovered : (parts : List Part) (priorities : List Priority) (n : Network) (naming : Naming) → IsPreferring parts priorities n naming → IsNetwork n
     → IsRecovered parts (Ok (preferring n (none_each n.splitters) (none_each n.splitters), naming))
 alone_recovered parts priorities n naming h is =
-    let plain : HasNoPriorities (preferring n (none_each n.splitters) (none_each n.splitters)) = record { gives = refl; takes = refl } in (
+    let plain : HasNoPriorities (preferring n (none_each n.splitters) (none_each n.splitters)) = record { gives = refl; takes = refl; merges = h.merges } in (
       renumbered parts n naming (none_each n.splitters) (none_each n.splitters) h.numbered,
       preferring_network n (none_each n.splitters) (none_each n.splitters) is (plain_is_prioritised (preferring n (none_each n.splitters) (none_each n.splitters)) plain),
       plain,
@@ -488,7 +490,7 @@ found_recovered parts found h =
     let numbered_here = numbered_of parts h.clean (naming_of found.names) edges found.joints.items h.names refl h.joints in (
       subst (λ n. IsNumbered parts n (naming_of found.names)) (sym h.net_is) numbered_here,
       h.network,
-      subst HasNoPriorities (sym h.net_is) (record { gives = refl; takes = refl }),
+      subst HasNoPriorities (sym h.net_is) (record { gives = refl; takes = refl; merges = refl }),
     )
 
 -- what is preferred by the halves of the edges is preferred in the numbered network
@@ -505,9 +507,9 @@ found_with parts priorities found gives takes h given taken =
     let numbered_here = numbered_joints parts h.clean naming found.joints.items h.names h.joints in
     let gives_are = given naming h.joints.0 refl h.joints.1.named in
     let takes_are = taken naming h.joints.0 refl h.joints.1.named in
-    let own : IsPrioritised (preferring n gives takes) = prioritised parts priorities n naming gives takes numbered_here gives_are takes_are in
+    let own : IsPrioritised (preferring n gives takes) = prioritised parts priorities n naming gives takes numbered_here gives_are takes_are refl in
     let numbered_so : IsPreferring parts priorities (preferring n gives takes) naming =
-    record { numbered = renumbered parts n naming gives takes numbered_here; gives = gives_are; takes = takes_are } in
+    record { numbered = renumbered parts n naming gives takes numbered_here; gives = gives_are; takes = takes_are; merges = refl } in
     let own_here : IsPrioritised (preferring found.net gives takes) = subst (λ m. IsPrioritised (preferring m gives takes)) (sym h.net_is) own in (
       own_here,
       (subst (λ m. IsPreferring parts priorities (preferring m gives takes) naming) (sym h.net_is) numbered_so, preferring_network found.net gives takes h.network own_here),
@@ -548,6 +550,7 @@ plain_recovery parts priorities none (Ok found) h = (
         (λ c s given. never_on parts s (priority_of priorities s).give given.0 (ap (λ p. p.give) (none s)) given.2) h.0.gives;
     takes = never_preferred (IsTakenFirst parts priorities) found.1.splitters h.0.numbered.chains found.0.takes found.0.splitters h.0.numbered.names.splitter_count
         (λ c s taken. never_on parts s (priority_of priorities s).take taken.0 (ap (λ p. p.take) (none s)) taken.2) h.0.takes;
+    merges = h.0.merges;
   },
 )
 plain_recovery parts priorities none (Err fault) h = h

@@ -48,7 +48,7 @@ text_pinned : (bytes : List ℕ) (n : PinnedNet) (used : ℕ) → IsPinnedText S
 text_pinned bytes n used (stopped fault h e) = absurd (not_both (n, used) (net_told fault) e)
 text_pinned bytes n used (went_on read h e) =
     let other = net_first bytes (drop read.used bytes) read.net (h.begins.edge_lines ++ (h.begins.priority_lines ++ (h.begins.demand_lines ++ (h.begins.block_lines ++ codes "end" ∷ [])))) h.begins.begins in
-    inr (subst (λ b. IsJsonText b → ⊥) (append-nil bytes) (other_text_stays bytes [] other), went_on read (wider_is_read Sides bytes read h) e)
+    inr (subst (λ b. IsJsonText b → ⊥) (append-nil bytes) (other_text_stays bytes [] other), went_on read (wider_is_read bytes read h) e)
 
 same_found : (first other_first : Option Rect) (found other : Smallest) (priorities others : Vec Priority) → answer.Least first found priorities ≡ answer.Least other_first other others → found ≡ other
 same_found first other_first found other priorities others e = cc

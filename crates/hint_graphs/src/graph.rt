@@ -178,10 +178,11 @@ pub fn ends_of(alloc: Global, graph: &Graph, backed: bool) -> Result<Vec<usize>,
     Ok(ends)
 }
 
-/// Whether no splitter prefers an edge.
+/// Whether each splitter is even: none prefers an edge, or may prefer any.
 pub fn has_no_preference(net: &Net) -> bool {
     for splitter in 0..net.splitters() as usize {
-        if net.give(splitter).is_some() || net.take(splitter).is_some() {
+        let is_preferring = net.give(splitter).is_some() || net.take(splitter).is_some();
+        if is_preferring || net.merges_any(splitter) {
             return false;
         }
     }

@@ -33,6 +33,7 @@ pub record SameSizes (m n : Network) : Type 0 where
   pub splitters : m.splitters ≡ n.splitters
   pub gives : m.gives ≡ n.gives
   pub takes : m.takes ≡ n.takes
+  pub merges : m.merges ≡ n.merges
 
 -- the number of a start has at most 32 bits
 abbrev pub StartFits : Start → Type 0

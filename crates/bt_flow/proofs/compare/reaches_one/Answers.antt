@@ -1,4 +1,4 @@
-use Rattle.std.proofs.Common.{◌+◌, inl, inr, ℤ, ◌≤ℤ◌, ◌<ℤ◌, sym, ◌∙◌, refl, arith}
+use Rattle.std.proofs.Common.{◌+◌, inl, inr, ℤ, ◌≤ℤ◌, ◌<ℤ◌, sym, ◌∙◌, arith}
 use Rattle.std.proofs.lemmas.Bool.{false≢true, cases_lt}
 use Rattle.std.proofs.lemmas.Int.{ints}
 use borrow.Author.Differences.{up, down}

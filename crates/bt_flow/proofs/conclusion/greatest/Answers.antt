@@ -1,6 +1,6 @@
-use Rattle.std.proofs.Common.{◌<◌, ◌≤◌, ◌+◌, ◌≤ℤ◌, length, sym, subst, ap, ◌∙◌, arith}
+use Rattle.std.proofs.Common.{◌<◌, ◌≤◌, ◌+◌, length, sym, subst, ◌∙◌, arith}
 use Rattle.std.proofs.lemmas.Bool.{false≢true}
-use Rattle.bt_flow.specs.States.{Flows, StandsFor, flow_at}
+use Rattle.bt_flow.specs.States.{flow_at}
 use Rattle.bt_flow.specs.inner.Shares.{IsGreatest}
 use Rattle.bt_flow.proofs.AtEdges.{flow_read}
 use Rattle.bt_flow.proofs.Adding.{no_edge}

@@ -1,4 +1,4 @@
-use Rattle.std.proofs.Common.{◌++◌, ◌∷◌, [], ap, ◌∙◌, arith}
+use Rattle.std.proofs.Common.{None, ◌++◌, ◌∷◌, [], ap, ◌∙◌, arith}
 use Rattle.std.proofs.lemmas.List.{take_all}
 use Rattle.bt_grids.proofs.Copied.{one_more}
 use Rattle.bt_grids.proofs.again.gives_of.Goals as goal
@@ -8,7 +8,7 @@ loop-splitter-preserved c =
     let count = c.requires.prioritised.gives_each in
     let lt = c.loop-splitter-test.true in
     c.in_ok-push.ensures.items ∙ ap (λ edge. c.loop-splitter.gives.items ++ edge ∷ []) c.give.ensures
-    ∙ one_more c.args.net.now.gives c.loop-splitter.gives.items c.loop-splitter.splitter (omega (arith, count, lt, c.splitters-splitter-end.ensures)) c.loop-splitter.invariant
+    ∙ one_more None c.args.net.now.gives c.loop-splitter.gives.items c.loop-splitter.splitter (omega (arith, count, lt, c.splitters-splitter-end.ensures)) c.loop-splitter.invariant
 
 pub returns : goal.returns
 returns c =

@@ -12,5 +12,5 @@ returns c =
     rw c.in_ok-wiring.ensures (record {
       line_is = rw (inputs, outputs, splitters) header;
       no_edges = refl;
-      small = record { plain = record { gives = refl; takes = refl }; few_inputs = omega arith; few_outputs = omega arith; few_splitters = omega arith };
+      small = record { plain = record { gives = refl; takes = refl; merges = refl }; few_inputs = omega arith; few_outputs = omega arith; few_splitters = omega arith };
     })

@@ -1,8 +1,8 @@
-use Rattle.std.proofs.Common.{◌∙◌, ap, length, subst, sym, arith}
+use Rattle.std.proofs.Common.{◌∙◌, ap, subst, arith}
 use Rattle.std.proofs.lemmas.Result.{err_from_is_err_and}
 use Rattle.bt_net.specs.Network.{IsNetwork}
-use Rattle.bt_net.specs.Priorities.{preferring}
-use Rattle.bt_net.proofs.OneReading.{header_answers, memory_answers, edges_answer, last_answers, net_answers, end_prioritised, end_within, stands}
+use Rattle.bt_net.specs.Priorities.{preferring, merging}
+use Rattle.bt_net.proofs.OneReading.{header_answers, edges_answer, last_answers, net_answers, end_prioritised, end_less, end_within, stands}
 use Rattle.bt_net.proofs.reading.read.Goals as goal
 
 pub returns-in_err-wiring : goal.returns-in_err-wiring
@@ -36,7 +36,15 @@ pub preferring-requires : goal.preferring-requires
 preferring-requires c =
     let edges = c.in_ok-behind_edges.ensures in
     let items = c.in_ok-items.items in
-    rw c.in_ok-net.ensures.right.0 (end_prioritised c.args.admitted _ _ _ _ _ c.first_line.ensures c.in_ok-wiring.ensures edges.sizes items.preferred items.demands.items items.blocks.items items.lines _ _
+    rw c.in_ok-net.ensures.right.0 (end_less c.args.admitted _ _ _ _ _ c.first_line.ensures c.in_ok-wiring.ensures edges.sizes items.preferred items.demands.items items.blocks.items items.lines _ _
+    edges.read c.in_ok-items.ensures)
+
+pub merging-requires : goal.merging-requires
+merging-requires c =
+    let edges = c.in_ok-behind_edges.ensures in
+    let items = c.in_ok-items.items in
+    rw (c.preferring.ensures ∙ ap (λ n. preferring n items.preferred.gives.items items.preferred.takes.items) c.in_ok-net.ensures.right.0)
+    (end_prioritised c.args.admitted _ _ _ _ _ c.first_line.ensures c.in_ok-wiring.ensures edges.sizes items.preferred items.demands.items items.blocks.items items.lines _ _
     edges.read c.in_ok-items.ensures)
 
 pub overflow_sub-result : goal.overflow_sub-result
@@ -51,6 +59,6 @@ returns c =
     let edges = c.in_ok-behind_edges.ensures in
     let items = c.in_ok-items.items in
     let net = c.in_ok-net.ensures.right in
-    rw (c.preferring.ensures ∙ ap (λ n. preferring n items.preferred.gives.items items.preferred.takes.items) net.0)
+    rw (c.merging.ensures ∙ ap (λ n. merging n items.preferred.merges.items) (c.preferring.ensures ∙ ap (λ n. preferring n items.preferred.gives.items items.preferred.takes.items) net.0))
     (stands c.args.admitted _ _ _ _ _ c.first_line.ensures c.in_ok-wiring.ensures edges.sizes items.preferred items.demands.items items.blocks.items items.lines _ _
     edges.read c.in_ok-items.ensures _ c.in_ok-rest.ensures.0 (subst IsNetwork net.0 net.1) _ (omega arith))

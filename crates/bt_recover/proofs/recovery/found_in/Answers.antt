@@ -27,7 +27,7 @@ returns-in_err-net c =
     rw (p.1, p.2)
     (net_refused c.args.grid.now (net_with (naming_of c.in_ok-names.names) c.in_ok-edges.edges.items) (naming_of c.in_ok-names.names) _
     (numbered_of c.args.grid.now c.in_ok-pairs.ensures.clean (naming_of c.in_ok-names.names) c.in_ok-edges.edges.items c.in_ok-joints.joints.items c.in_ok-names.ensures (c.in_ok-edges.ensures ∙ ap (map (λ joint. joint.edge)) c.deref.ensures.value) c.in_ok-joints.ensures)
-    (record { gives = refl; takes = refl }) c.in_err-net.ensures)
+    (record { gives = refl; takes = refl; merges = refl }) c.in_err-net.ensures)
 
 pub returns : goal.returns
 returns c = record {

@@ -33,7 +33,7 @@ returns-in-Split c =
     subst (λ x. Decides x test.EvenOut a c.shares_at.result) c.self.view_is
     (λ s h.
     evens_at n s c.edges.result.now a no_edge c.edges.ensures.edges l OutOf true k port (λ m. leaves-split e k m c.in-Split.is) (c.self.invariant.ports.out_of.at k few Unused)
-    c.shares_at.result (rw (← c.give.ensures) (c.shares_at.ensures s h)))
+    (λ none. none) c.shares_at.result (rw (← c.give.ensures) (c.shares_at.ensures s h)))
 
 pub returns-in-Input : goal.returns-in-Input
 returns-in-Input c =

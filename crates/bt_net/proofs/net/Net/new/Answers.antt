@@ -6,7 +6,7 @@ use Rattle.bt_net.proofs.net.Net.new.Goals as goal
 pub invariant_of-result : goal.invariant_of-result
 invariant_of-result c = record {
   wired = c.requires;
-  prioritised = plain_is_prioritised _ (record { gives = refl; takes = refl });
+  prioritised = plain_is_prioritised _ (record { gives = refl; takes = refl; merges = refl });
   few_inputs = omega arith;
   few_outputs = omega arith;
   few_splitters = omega arith;
@@ -20,7 +20,7 @@ returns c = net_answers _ _ (
   refl,
   record {
     wired = c.requires;
-    prioritised = plain_is_prioritised _ (record { gives = refl; takes = refl });
+    prioritised = plain_is_prioritised _ (record { gives = refl; takes = refl; merges = refl });
     few_inputs = omega arith;
     few_outputs = omega arith;
     few_splitters = omega arith;
