@@ -8,6 +8,8 @@ docs/ANSWERS.md and docs/REFUSALS.md. What it does stands in the folder opinion/
     check.py flow-check PROPERTY < BOTH   a design, and behind it a state in which the property
                                           fails
     check.py recover < DESIGN             the text of the design's network
+    check.py recover --lanes [--merges any|straight|rear] [--stubs LIST] < DESIGN
+                                          that of its lanes
     check.py laid --grid WxH [--tier TIER] REQUEST < BLUEPRINT
                                           0 and `laid` where the blueprint lays the request, else
                                           1 and `not laid`; 3 for a refused request, 9 for a

@@ -9,6 +9,7 @@ each byte. To be read in this order:
     json_text       JSON, and where it goes wrong
     parts           the belts, underground pieces and splitters of a blueprint
     recovery        the network that they show
+    lanes           the network of their lanes, where belts are loaded from a side
     designs         a network, by its text or by a blueprint
     properties      the six properties
     states          the laws of a steady state, and when a property fails in it
@@ -25,6 +26,7 @@ from opinion.definitions import define
 from opinion.designs import read_design
 from opinion.formula import FlowFormula, Formula
 from opinion.json_text import json_value
+from opinion.lanes import recover_lanes
 from opinion.layouts import are_alike, lays, read_request, stand_in_row
 from opinion.lines import lines_of, nothing_after
 from opinion.networks import WAYS, Edge, Extras, Net, Pin, Row, read_net

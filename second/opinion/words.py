@@ -8,6 +8,7 @@ from opinion.certificates import check_steps, read_dimacs
 from opinion.designs import own_tier, read_design
 from opinion.formula import FlowFormula
 from opinion.json_text import json_value
+from opinion.lanes import ANY, LAWS
 from opinion.layouts import lays, read_request
 from opinion.lines import lines_of, past_blanks
 from opinion.parts import TIERS, parts_of
@@ -16,6 +17,7 @@ from opinion.states import read_state, tests
 
 DESIGN_BYTES, ALL_BYTES = 1 << 24, 1 << 30  # of a design alone, and with what is behind it
 ACROSS = "([1-9][0-9]?|1[0-5][0-9]|160)"
+NUMBER = re.compile("0|[1-9][0-9]{0,8}")
 GRID = re.compile(f"{ACROSS}x{ACROSS}")
 
 
@@ -37,8 +39,9 @@ def run(words, read, read_file):
 def answer(words, read, read_file):
     """The verdict of the command that the words tell; `usage` where they tell none."""
     match words:
-        case ["recover"]:
-            return recovered(text_of(read, DESIGN_BYTES))
+        case ["recover", *options]:
+            by_lanes = words_of_lanes(options)
+            return recovered(text_of(read, DESIGN_BYTES), by_lanes)
         case ["check", prop] if prop in PROPERTIES:
             return checked(prop, text_of(read, ALL_BYTES))
         case ["flow-check", prop] if prop in PROPERTIES:
@@ -84,6 +87,23 @@ def words_of_laid(words):
     return (int(rectangle[1]), int(rectangle[2])), tier and TIERS.index(tier), rest[0]
 
 
+def words_of_lanes(words):
+    """The law of merges and the stubs: `--lanes [--merges LAW] [--stubs LIST]`; None without words.
+
+    They stand in this order. The list has numbers of at most nine digits, each once, with commas.
+    """
+    if not words:
+        return None
+    front, *rest = words
+    merges, rest = option("--merges", rest)
+    stubs, rest = option("--stubs", rest)
+    numbers = [] if stubs is None else stubs.split(",")
+    is_list = all(map(NUMBER.fullmatch, numbers)) and len(set(numbers)) == len(numbers)
+    if front != "--lanes" or merges not in (None, *LAWS) or not is_list or rest:
+        raise Answer(USAGE, "usage")
+    return merges or ANY, [int(number) for number in numbers]
+
+
 def option(name, words):
     """The value of an option at the front of words, or None, and the words behind it."""
     front, *rest = words or [""]
@@ -94,9 +114,9 @@ def option(name, words):
     return None, words
 
 
-def recovered(text):
-    """`recover`: the text of a design's network."""
-    return Answer(0, read_design(text, alone=True).net.text())
+def recovered(text, by_lanes):
+    """`recover`: the text of a design's network, or of that of its lanes."""
+    return Answer(0, read_design(text, alone=True, by_lanes=by_lanes).net.text())
 
 
 def checked(prop, text):
