@@ -1,5 +1,5 @@
 //! The lines that say where ends stand, and where no part does, and their words.
-ghost use Rattle.std.specs.Prelude.{◌≡◌, ◌↔◌, ℕ, ◌^◌, ◌<◌, ◌++◌, Option, codes, decimal, IsTrue, IfSome, IfNone};
+ghost use Rattle.std.specs.Prelude.{◌≡◌, ℕ, ◌^◌, ◌<◌, ◌++◌, Option, codes, decimal, IfSome, IfNone};
 ghost use Rattle.bt_parts.specs.declared.part.Dir.{Dir};
 ghost use Rattle.bt_net.specs.declared.network.Block.{Block};
 ghost use Rattle.bt_net.specs.declared.network.End.{End};
@@ -11,7 +11,7 @@ ghost use Rattle.bt_net.specs.inner.PinWords.{AreCellAndWay, AreRowAndWay};
 
 use crate::network::{Block, End, NO_COORDINATE, Pin};
 use crate::wiring::Wiring;
-use crate::words::{number_behind, read_number};
+use crate::words::{is_word, number_behind, read_number};
 use bt_parts::Dir;
 use bt_text::{after_word, split_once};
 
@@ -104,13 +104,6 @@ pub fn read_dir(word: &[u8]) -> Option<Dir>
     } else {
         None
     }
-}
-
-/// Whether the word is this one.
-pub fn is_word(word: &[u8], other: &[u8]) -> bool
-    ensures { IsTrue result ↔ (word.now ≡ other.now) }
-{
-    word == other
 }
 
 /// The whole number of at most nine digits that a word spells. None where it spells none.

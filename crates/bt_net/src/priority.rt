@@ -6,8 +6,7 @@ ghost use Rattle.bt_net.specs.inner.Preferred.{PriorityFits, HasPlace, told};
 ghost use Rattle.bt_net.specs.declared.network.Priority.{Priority};
 
 use crate::network::Priority;
-use crate::pins::is_word;
-use crate::words::read_number;
+use crate::words::{is_word, read_number};
 use bt_text::{after_word, split_once};
 use std::alloc::{AllocError, Global};
 

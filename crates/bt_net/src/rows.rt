@@ -5,7 +5,7 @@ ghost use Rattle.bt_net.specs.declared.network.Row.{Row};
 ghost use Rattle.bt_net.specs.PinText.{kind_text, IsRowLine};
 
 use crate::network::{EndKind, Row};
-use crate::pins::is_word;
+use crate::words::is_word;
 use bt_text::after_word;
 
 /// The row that a line `row inputs` or `row outputs` with this number asks for. None where it is another line.

@@ -7,8 +7,9 @@ ghost use Rattle.bt_net.specs.Wiring.{HasSmallSizes};
 ghost use Rattle.bt_net.specs.inner.Lines.{EndsFit};
 
 use crate::network::{Ends, Side};
-use crate::pins::{is_word, read_dir, read_end};
+use crate::pins::{read_dir, read_end};
 use crate::wiring::Wiring;
+use crate::words::is_word;
 use bt_text::{after_word, split_once};
 
 /// The side of a line `side E D` with this number. None where it is another line, or names an end that the network

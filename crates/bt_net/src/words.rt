@@ -1,5 +1,5 @@
 //! The words of an edge line, and numbers.
-ghost use Rattle.std.specs.Prelude.{◌≡◌, ℕ, ◌^◌, ◌<◌, ◌∷◌, decimal, IfSome, IfNone};
+ghost use Rattle.std.specs.Prelude.{◌≡◌, ◌↔◌, ℕ, ◌^◌, ◌<◌, ◌∷◌, decimal, IsTrue, IfSome, IfNone};
 ghost use Rattle.bt_net.specs.NetText.{start_text, target_text, IsEdgeLine};
 ghost use Rattle.bt_net.specs.Network.{IsCap};
 ghost use Rattle.bt_net.specs.inner.Lines.{StartFits, TargetFits, EdgeFits, IsTargetAndCap};
@@ -22,6 +22,13 @@ pub fn read_edge(line: &[u8]) -> Option<Edge>
     let start = read_start(start)?;
     let (target, cap) = read_target_and_cap(words)?;
     Some(Edge { start, target, cap })
+}
+
+/// Whether the word is this one.
+pub fn is_word(word: &[u8], other: &[u8]) -> bool
+    ensures { IsTrue result ↔ (word.now ≡ other.now) }
+{
+    word == other
 }
 
 /// The target of an edge and its cap, which is 1 where none is written. None where the words are others.
