@@ -49,7 +49,8 @@ def answer(words, read, read_file):
             certificate = text_of(read, ALL_BYTES)
             return refuted(decoded(read_file(path)), certificate)
         case ["check-fewest", wish, *ends] if is_wish(wish) and are_ends(ends):
-            return Answer(1, check_fewest(wish.split(","), *map(int, ends), text_of(read, ALL_BYTES)))
+            text = text_of(read, ALL_BYTES)
+            return Answer(1, check_fewest(wish.split(","), *map(int, ends), text))
         case ["laid", *options]:
             rectangle, tier, path = words_of_laid(options)
             blueprint = text_of(read, ALL_BYTES)
@@ -58,7 +59,7 @@ def answer(words, read, read_file):
 
 
 def is_wish(word):
-    """Whether the word is names of properties, joined by commas, each at most once, with `balanced` among them."""
+    """Whether the word names properties, each at most once, with `balanced` among them."""
     names = word.split(",")
     return len(set(names)) == len(names) and "balanced" in names and set(names) <= set(PROPERTIES)
 
