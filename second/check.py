@@ -17,6 +17,9 @@ docs/ANSWERS.md and docs/REFUSALS.md. What it does stands in the folder opinion/
     check.py none FORMULA < CERTIFICATE   1 and `none` where the certificate refutes the formula,
                                           which is in DIMACS; 3 and `refused formula N` where
                                           line N of it may not stand there
+    check.py check-fewest PROPERTIES INPUTS OUTPUTS < EVIDENCE
+                                          1 and `none below K` where the evidence shows that no
+                                          network of fewer than K splitters has the properties
 
 This reads priorities: behind the edges of a network text, `give sN E` and `take sN E` say that
 edge E out of, or into, splitter N comes first; in a blueprint a splitter's preferred sides do.

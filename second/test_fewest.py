@@ -26,6 +26,56 @@ def answer(lines, wish=tuple(ALL), inputs=2, outputs=3):
 def changed(number, line):
     return SMALLER + THREE[: number - 1] + [line] + THREE[number:]
 
+# one to three, of three splitters: the network that is balanced lets too little through where outputs are blocked
+BLOCKED = """none 0
+end
+none 1
+c 0 F 0 0 -1
+c 1 F 0 0 -1
+c 6 F 0 0 -1
+c 8 F 0 0 -1
+c 12 F 0 0 -1
+c 13 F 0 0 -1
+c 15 F 0 0 -1
+c 16 F 0 0 -1
+end
+none 2
+c 0 F 0 0 -1
+c 1 F 0 0 -1
+c 6 F 0 0 -1
+c 8 F 0 0 -1
+c 12 F 0 0 -1
+c 13 F 0 0 -1
+c 15 F 0 0 -1
+c 16 F 0 0 -1
+end
+none 3
+c 0 F 0 0 -1
+c 1 F 0 0 -1
+c 6 F 0 0 -1
+c 8 F 0 0 -1
+c 12 F 0 0 -1
+c 13 F 0 0 -1
+c 15 F 0 0 -1
+c 16 F 0 0 -1
+i 1
+X 0 0 1 1 2
+X 0 1 1
+i 1
+X 0 0 1 1 2
+i 0
+X 0 0 1
+i 1
+i 2
+N
+no unlimited
+load 1
+room 0 0 1
+flow 1/2 0 0 1/2 1/2 0 1
+mark b b b f f b f
+end
+""".splitlines()
+
 
 class Evidence(unittest.TestCase):
     def test_accepted(self):
@@ -45,6 +95,12 @@ class Evidence(unittest.TestCase):
             self.assertEqual(answer(changed(8, f"X 0 0 {weight}")), f"{line} 16")
         self.assertEqual(answer(changed(8, "B 0 0 1"), BOTH), f"{line} 16")
         self.assertEqual(answer(["none 0", "end"], ALL, 1, 1), f"{line} 1")
+
+    def test_states(self):
+        wish = ["balanced", "drawn-evenly", "unlimited"]
+        self.assertEqual(answer(BLOCKED, wish, 1, 3), "none below 4")
+        unlike = [line.replace("room 0 0 1", "room 0 0 0") for line in BLOCKED]
+        self.assertEqual(answer(unlike, wish, 1, 3).split()[:3], ["refused", "54", "NotBreaking"])
 
 
 if __name__ == "__main__":

@@ -17,6 +17,7 @@ each byte. To be read in this order:
     definitions     rows, columns and variables that a certificate brings
     certificates    definitions, and steps that refute a formula
     layouts         requests, and whether a blueprint lays one
+    fewest          evidence that no network of fewer splitters does it
     words           the commands
 """
 

@@ -52,12 +52,15 @@ class Partial:
         return self.classes[s].ports[side] - self.classes[s].ends[side] - taken
 
     def splitters(self):
+        """The numbers of the splitters."""
         return range(len(self.classes))
 
     def is_touched(self, s):
+        """Whether a splitter was chosen, or a port of it is joined."""
         return s in self.chosen or any(s in join for join in self.joins)
 
     def has_end(self, side, s, end):
+        """Whether a splitter has this input, or by side 1 this output."""
         return self.first[side][s] <= end < self.first[side][s + 1]
 
     def ways(self, side, s, before):
@@ -79,6 +82,7 @@ class Partial:
         return [t for t in untouched if self.numbers[t] >= self.numbers[first]]
 
     def join(self, side, s, t):
+        """Joins a port of s on a side to t."""
         self.joins.append((s, t) if side else (t, s))
 
     def net(self):
@@ -96,11 +100,11 @@ class Partial:
         return net
 
     def refutes(self, kind, end, weights):
-        """Whether no small flows meet the weighted sum of rows."""
+        """Whether no small flows meet the weighted sum of rows of a kind and an end."""
         side = 0 if kind in "BZ" else 1
         shares = kind in "FB"
         lines = self.ends[side]
-        # a share's row goes along edges to an end of `side`, a flow's against them from one of the other side
+        # shares go along edges to an end of `side`, flows against them to one of the other side
         along = side if shares else 1 - side
         constant, negatives = 0, 0
         sums = {s: self.classes[s].ports[side] * weights.get(s, 0) for s in self.splitters()}
@@ -129,13 +133,14 @@ def is_dead(net):
             before = reached
             reached = reached | {end for start, end in ways if start in reached}
         found.append(reached)
-    return not found[0].intersection(found[1]).issuperset(net.ends("s"))
+    return not (found[0] & found[1]).issuperset(net.ends("s"))
 
 
 def starts(inputs, outputs, count, refuted):
     """The starts of so many splitters without a refuted class, in lexicographic order."""
 
     def longer(left, least, ins, outs, more):
+        """The rests of starts of so many classes, from the least on."""
         if min(ins, outs) < 0 or abs(more) > left:
             return
         if left == 0:
@@ -147,7 +152,8 @@ def starts(inputs, outputs, count, refuted):
             if number in refuted or (count > 1 and one.ports == one.ends):
                 continue
             gained = one.ports[1] - one.ports[0]
-            for rest in longer(left - 1, number, ins - one.ends[0], outs - one.ends[1], more - gained):
+            ends = ins - one.ends[0], outs - one.ends[1]
+            for rest in longer(left - 1, number, *ends, more - gained):
                 yield [number, *rest]
 
     return longer(count, 0, inputs, outputs, outputs - inputs)
@@ -163,19 +169,34 @@ class Reader:
         self.move()
 
     def move(self):
+        """Goes to the next line. One that is too long is none that may stand in a block."""
         self.line = next(self.lines, None)
         self.number += 1
+        if self.line and len(self.line) > MOST_LINE and self.line[:4] != "net ":
+            self.line = "too long"
+
+    def stands(self, right):
+        """Refuses the line unless it may stand there."""
+        need(right, 50, "CertLine", self.number)
+
+    def refutes(self, right):
+        """Refuses a claim that is wrong."""
+        need(right, 55, "NotRefuted", self.number)
 
     def take(self, wanted):
-        need(self.line == wanted, 50, "CertLine", self.number)
+        """Takes this line."""
+        self.stands(self.line == wanted)
         self.move()
 
     def words(self):
+        """The words of the line."""
         return [] if self.line is None else self.line.split(" ")
 
     def blocks(self):
+        """Takes all blocks, and tells how many there are."""
         count = 0
-        while self.line == f"none {count}" and count <= MOST_SPLITTERS and (count or self.ends != (1, 1)):
+        while self.line == f"none {count}" and count <= MOST_SPLITTERS:
+            self.stands(count or self.ends != (1, 1))
             self.move()
             self.block(count)
             self.take("end")
@@ -183,50 +204,54 @@ class Reader:
         return count
 
     def block(self, count):
+        """Takes what stands between the first line of a block and its end."""
         refuted = []
         while count and self.words()[:1] == ["c"]:
             words = self.words()
             right = len(words) > 1 and NUMBER.fullmatch(words[1]) and len(words[1]) < 3
-            need(right and max(refuted, default=-1) < int(words[1]) < len(CLASSES), 50, "CertLine", self.number)
+            self.stands(right and max(refuted, default=-1) < int(words[1]) < len(CLASSES))
             refuted.append(int(words[1]))
             self.leaf(Partial(self.ends, refuted[-1:]), words[2:], 2)
         for start in starts(*self.ends, count, refuted):
             self.tree(Partial(self.ends, start))
 
     def leaf(self, partial, words, ends=None):
-        """A leaf that refutes the partial network; in front of its kind stand words that were read."""
+        """Takes a leaf that refutes the partial network, with an end below `ends`."""
         kinds = "FXBZ" if "drawn-evenly" in self.wish else "FX"
-        right = len(words) >= 4 and len(words) % 2 == 0 and words[0] in kinds and len(words[0]) == 1
-        numbers = right and [word for word in words[1:2] + words[2::2]]
-        right = right and all(NUMBER.fullmatch(word) and len(word) < 5 for word in numbers)
+        right = len(words) >= 4 and len(words) % 2 == 0 and words[0] in [*kinds]
+        right = right and all(NUMBER.fullmatch(word) and len(word) < 5 for word in words[2::2])
+        right = right and NUMBER.fullmatch(words[1]) and len(words[1]) < 5
         right = right and all(WEIGHT.fullmatch(word) and len(word) < 9 for word in words[3::2])
-        need(right, 50, "CertLine", self.number)
+        self.stands(right)
         end, splitters = int(words[1]), [int(word) for word in words[2::2]]
         weights = [int(word) for word in words[3::2]]
         most = self.ends[0 if words[0] in "XB" else 1]
         right = end < most and (ends is None or end < ends)
         right = right and all(a < b for a, b in zip(splitters, splitters[1:]))
-        right = right and splitters[-1] < len(partial.classes) and max(map(abs, weights)) <= MOST_WEIGHT
-        need(right, 50, "CertLine", self.number)
-        need(partial.refutes(words[0], end, dict(zip(splitters, weights))), 55, "NotRefuted", self.number)
+        right = right and splitters[-1] < len(partial.classes)
+        right = right and max(map(abs, weights)) <= MOST_WEIGHT
+        self.stands(right)
+        self.refutes(partial.refutes(words[0], end, dict(zip(splitters, weights))))
         self.move()
 
     def tree(self, partial):
+        """Takes a tree that refutes the partial network."""
         words = self.words()
         if self.line == "N":
             return self.complete(partial)
         if words[:1] not in (["o"], ["i"]):
             return self.leaf(partial, words)
         right = len(words) == 2 and NUMBER.fullmatch(words[1]) and len(words[1]) < 5
-        need(right and int(words[1]) < len(partial.classes), 50, "CertLine", self.number)
+        self.stands(right and int(words[1]) < len(partial.classes))
         side, s = "io".index(words[0]), int(words[1])
-        need(partial.open(side, s), 50, "CertLine", self.number)
+        self.stands(partial.open(side, s))
         self.move()
         partial.chosen.append(s)
         self.ways(partial, side, s, None)
         partial.chosen.pop()
 
     def ways(self, partial, side, s, before):
+        """Takes what each way of a branch's next port leads to."""
         for t in partial.ways(side, s, before):
             touched = partial.is_touched(t)
             partial.join(side, s, t)
@@ -240,21 +265,23 @@ class Reader:
             partial.joins.pop()
 
     def complete(self, partial):
+        """Takes why a complete network does not do it."""
         net = partial.net()
-        need(net is not None, 50, "CertLine", self.number)
+        self.stands(net is not None)
         self.move()
         if self.line == "dead":
-            need(is_dead(net), 55, "NotRefuted", self.number)
+            self.refutes(is_dead(net))
             return self.move()
         prop = next((one for one in self.wish if self.line == f"no {one}"), None)
-        need(prop, 50, "CertLine", self.number)
+        self.stands(prop)
         self.move()
         lists = []
-        for word, count in zip(("load", "room", "flow", "mark"), (*self.ends, *[len(net.edges)] * 2)):
+        counts = *self.ends, len(net.edges), len(net.edges)
+        for word, count in zip(("load", "room", "flow", "mark"), counts):
             first, *values = self.words() or [None]
             read = MARKS.get if word == "mark" else fraction_of
             values = [read(value) for value in values]
-            need(first == word and len(values) == count and None not in values, 50, "CertLine", self.number)
+            self.stands(first == word and len(values) == count and None not in values)
             lists.append(values)
             self.move()
         for word, place, passes in tests(net, prop, *State(*lists)):
@@ -266,10 +293,6 @@ def check(wish, inputs, outputs, text):
     lines = text.split("\n")
     if lines[-1] == "":
         lines.pop()
-    for number, line in enumerate(lines, 1):
-        if line.startswith("net "):
-            break
-        need(len(line) <= MOST_LINE, 50, "CertLine", number)
     reader = Reader(wish, inputs, outputs, lines)
     count = reader.blocks()
     if reader.line is not None and not reader.line.startswith("net "):

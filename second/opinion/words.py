@@ -6,6 +6,7 @@ from opinion.answers import EVIDENCE_REFUSED, INPUT_REFUSED, TOO_LONG, UNREADABL
 from opinion.answers import Answer, need
 from opinion.certificates import check_steps, read_dimacs
 from opinion.designs import own_tier, read_design
+from opinion.fewest import check as check_fewest
 from opinion.formula import FlowFormula
 from opinion.json_text import json_value
 from opinion.lanes import ANY, LAWS
@@ -19,6 +20,7 @@ DESIGN_BYTES, ALL_BYTES = 1 << 24, 1 << 30  # of a design alone, and with what i
 ACROSS = "([1-9][0-9]?|1[0-5][0-9]|160)"
 NUMBER = re.compile("0|[1-9][0-9]{0,8}")
 GRID = re.compile(f"{ACROSS}x{ACROSS}")
+ENDS = re.compile("[1-9]|1[0-6]")  # a number of inputs or outputs of a network of fewest splitters
 
 
 def run(words, read, read_file):
@@ -49,11 +51,25 @@ def answer(words, read, read_file):
         case ["none", path] if path:
             certificate = text_of(read, ALL_BYTES)
             return refuted(decoded(read_file(path)), certificate)
+        case ["check-fewest", wish, *ends] if is_wish(wish) and are_ends(ends):
+            text = text_of(read, ALL_BYTES)
+            return Answer(1, check_fewest(wish.split(","), *map(int, ends), text))
         case ["laid", *options]:
             rectangle, tier, path = words_of_laid(options)
             blueprint = text_of(read, ALL_BYTES)
             return laid(decoded(read_file(path)), rectangle, tier, blueprint)
     raise Answer(USAGE, "usage")
+
+
+def is_wish(word):
+    """Whether the word names properties, each at most once, with `balanced` among them."""
+    names = word.split(",")
+    return len(set(names)) == len(names) and "balanced" in names and set(names) <= set(PROPERTIES)
+
+
+def are_ends(words):
+    """Whether the words are a number of inputs and one of outputs."""
+    return len(words) == 2 and all(map(ENDS.fullmatch, words))
 
 
 def decoded(data):
