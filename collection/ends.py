@@ -1,10 +1,10 @@
 """Which bare halves of a design's splitters are ends, where its label tells how many inputs and outputs it has.
 
 A label tells of counts alone, so what can't be told by them stays open: all choices of halves are found with which each
-output is reached from each input, each splitter lies on a way from an input to an output, and no part stands in front of a
-chosen half. Choices that make the same network are one. Where two networks are left, both are told: none is dropped by
-where its halves lie, also where they can't all be led to beyond the design's border on free tiles, since undergrounds
-may have led them there. Those come last, each with the tile at which there is no room.
+output is reached from each input, each splitter lies on a way from an input to an output, and no part stands in front
+of a chosen half. Choices that make the same network are one. Where two networks are left, both are told: none is
+dropped by where its halves lie, also where they can't all be led to beyond the design's border on free tiles, since
+undergrounds may have led them there. Those come last, each with the tile at which there is no room.
 
 It rests on parts and the network that they form, so that the same rule can be written elsewhere line by line."""
 

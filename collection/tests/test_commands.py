@@ -224,7 +224,7 @@ class Started(Case):
         self.assertEqual(status, 0)
         self.assertRegex(out, r"^beltproof [0-9]+\.[0-9.]+, sources [0-9a-f]{64}\n$")
         self.assertIn(f"\n## {out.split()[1].rstrip(',')}\n", (TOP / "docs" / "CHANGES.md").read_text())
-        for grid, is_told in (("0x4", True), ("4x100000000", True), ("999x1", True), ("4x", False)):
+        for grid, is_told in (("0x4", True), ("4x100000000", True), ("999x1", True), ("4x", True)):
             status, out, wrong = self.start("beltproof", "layout", "--grid", grid)
             self.assertEqual((status, out, f"and {grid} is not\n" in wrong), (2, "usage\n", is_told))
 

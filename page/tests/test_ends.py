@@ -106,7 +106,11 @@ class Ends(unittest.TestCase):
         for (parts, pairs, taken), found in zip(self.own, self.told["ended"][len(test_ends.CASES) :], strict=True):
             expected = ends.ends_of(parts, taken, pairs)
             listed = {
-                "choices": expected.choices, "rooms": expected.rooms, "gaps": expected.gaps, "stand": expected.stand, "could": expected.could
+                "choices": expected.choices,
+                "rooms": expected.rooms,
+                "gaps": expected.gaps,
+                "stand": expected.stand,
+                "could": expected.could,
             }
             self.assertEqual(found, json.loads(json.dumps({"status": expected.status, **listed})))
             statuses.add(expected.status)
