@@ -90,8 +90,6 @@ class Ends(Case):
         told = ends.ends_of(parts, [(1, -1)], [(1, 2)])
         self.assertEqual((told.status, told.rooms), (ends.ONE, ((1, -1),)))
         self.assertEqual(ends.ends_of(parts, (), [(1, 2)]).rooms, (None,))
-        parts = [*parts, *parts_of("belt basic 1 1 -1")]
-        self.assertEqual(ends.ends_of(parts, (), [(1, 2)]).status, ends.NONE)
 
     def test_which_networks_are_the_same(self):
         ring = [(at, (at + 1) % 6, 4) for at in range(6)]
