@@ -30,6 +30,6 @@ pub use reading::{Edges, Ends, one_state, read_edges, read_end, read_ends, read_
 pub use state::State;
 pub use std::alloc::AllocError as Memory;
 pub use theorems::{
-    equal_caps_even, fair_is_balanced, fewer_laws, has_flows, holds_exactly, lines_are, scaled_is_steady,
-    seven_laws, tests_are,
+    equal_caps_even, fair_is_balanced, fewer_laws, has_flows, holds_exactly, lines_are,
+    scaled_is_steady, seven_laws, tests_are,
 };

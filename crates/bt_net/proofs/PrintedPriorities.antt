@@ -33,7 +33,7 @@ joined_lines ps qs = sym (flat_map-append line (map priority_text ps) (map prior
 splitter_lines : (n : Network) (k : ℕ) → splitter_text n k ≡ flat_map line (map priority_text (priorities_at n k))
 splitter_lines n k =
     let edges : preference_text (codes "give s") k (give_of n k) ++ preference_text (codes "take s") k (take_of n k) ≡ flat_map line (map priority_text (gives_at k (give_of n k) ++ takes_at k (take_of n k)))
-        = (λ i. one_give k (give_of n k) i ++ one_take k (take_of n k) i) ∙ joined_lines (gives_at k (give_of n k)) (takes_at k (take_of n k)) in
+    = (λ i. one_give k (give_of n k) i ++ one_take k (take_of n k) i) ∙ joined_lines (gives_at k (give_of n k)) (takes_at k (take_of n k)) in
     (λ i. edges i ++ one_merge k (merges_any n k) i) ∙ joined_lines (gives_at k (give_of n k) ++ takes_at k (take_of n k)) (merges_at k (merges_any n k))
 
 lines_at : (n : Network) (ks : List ℕ) → flat_map (splitter_text n) ks ≡ flat_map line (map priority_text (flat_map (priorities_at n) ks))
@@ -174,7 +174,7 @@ module _ (n : Network) (is : IsPrioritised n) where
       let none : b ≡ true → take_of taken k ≡ None = λ any. ap (λ o. preferred_in (filled m.takes k o) k) (is.one_of_both k any) ∙ takes.beyond k (omega arith) in
       let free : merges_any m k ≡ false = merges.beyond k (omega arith) in
       let parts : ((gives_at k g ++ takes_at k t) ++ merges_at k b) ++ rest ≡ gives_at k g ++ (takes_at k t ++ (merges_at k b ++ rest))
-          = append_assoc (gives_at k g ++ takes_at k t) (merges_at k b) rest ∙ append_assoc (gives_at k g) (takes_at k t) (merges_at k b ++ rest) in
+      = append_assoc (gives_at k g ++ takes_at k t) (merges_at k b) rest ∙ append_assoc (gives_at k g) (takes_at k t) (merges_at k b ++ rest) in
       subst (λ ps. Becomes m ps n) (sym parts)
       (give_first m n k g (takes_at k t ++ (merges_at k b ++ rest)) (gives.beyond k (omega arith))
       (take_first given n k t (merges_at k b ++ rest) (takes.beyond k (omega arith), free)

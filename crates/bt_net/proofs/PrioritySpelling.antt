@@ -142,4 +142,3 @@ other_here may n number bytes p byte is first low = other_first n number bytes p
 -- nor of one that begins with another letter
 pub letter_here : (may : Admitted) (n : Network) (number : ℕ) (bytes : List ℕ) (p : Priority) → IsPriorityHere may n number bytes p → 103 < get_or bytes 0 0 → get_or bytes 0 0 < 116 → ⊥
 letter_here may n number bytes p is high low = elim (priority_first n number bytes p is.1) [ inl g ↦ omega (arith, g, high) | inr t ↦ omega (arith, t, low) ]
-

@@ -51,7 +51,9 @@ pub fn read(alloc: Global, admitted: Admitted, bytes: &[u8]) -> Result<NetRead, 
     let rest = read_end(&wiring, items.lines, items.rest)?;
     let net = wiring.into_net()?;
     Ok(NetRead {
-        net: net.preferring(items.preferred.gives, items.preferred.takes).merging(items.preferred.merges),
+        net: net
+            .preferring(items.preferred.gives, items.preferred.takes)
+            .merging(items.preferred.merges),
         demands: items.demands,
         blocks: items.blocks,
         used: bytes.len() - rest.len(),
