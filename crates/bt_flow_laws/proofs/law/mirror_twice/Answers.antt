@@ -1,5 +1,0 @@
-use Rattle.bt_flow_laws.proofs.MirrorNetwork as proved
-use Rattle.bt_flow_laws.proofs.law.mirror_twice.Goals as goal
-
-pub returns : goal.returns
-returns c = proved.mirror_twice
