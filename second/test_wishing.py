@@ -27,7 +27,8 @@ class Readings(unittest.TestCase):
                 ("any 0 4\nend\n", "40 NetLine 1"), ("any 65 1\nend\n", "40 NetLine 1"),
                 ("any 4 4 x\nend\n", "40 NetLine 1"), ("any 4 4\nfull\nfull\nend\n", "40 NetLine 3"),
                 ("any 4 4\npin i0 0 0\nend\n", "40 NetLine 2"), ("any 4 4\ngive s0 1\nend\n", "40 NetLine 2"),
-                ("any 4 4\nside i0 south\nend\n", "40 NetLine 2"), ("any 4 4\nblock 0 0\nrow inputs\nend\n", "40 NetLine 3"),
+                ("any 4 4\nside i0 south\nend\n", "40 NetLine 2"),
+                ("any 4 4\nblock 0 0\nrow inputs\nend\n", "40 NetLine 3"),
                 ("any 4 4\nrow inputs\nrow inputs\nend\n", "44 Pin 3"), ("any 4 4\nblock 3 0\nend\n", "46 Block 2"),
                 ("any 4 4\n", "40 NetLine 2")):
             with self.assertRaises(Answer) as raised:

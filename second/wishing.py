@@ -7,8 +7,8 @@ It lists every layout of at most three splitters, inputs and outputs in some gri
 and asks PROGRAM which of their networks are `balanced` and `full`. So it knows which wishes of at most three inputs and
 outputs are laid there. Of each wish, with `full` and without, `cadical` is asked for facts that keep the formula, whose
 rows are told by thresholds of what cells hand on: each of these clauses follows from rows and clauses of the formula.
-What is found is a proposal: where it doesn't lay the wish, it is left out, and the next one is asked for. A wish must be
-found exactly where it is laid. It prints what it compared, and ends with 1 where one is wrong."""
+What is found is a proposal: where it doesn't lay the wish, it is left out, and the next one is asked for. A wish must
+be found exactly where it is laid. It prints what it compared, and ends with 1 where one is wrong."""
 
 import argparse
 import subprocess
@@ -225,7 +225,8 @@ def compare(asking, width, height, most):
         dropped += failed
         if found is not ((inputs, outputs, full) in laid):
             wrong.append(f"{width}x{height}, found: {found}\n{text}")
-    print(f"{width}x{height}: {listing.count} layouts, {len(laid)} wishes laid, {dropped} proposals left out", flush=True)
+    counts = f"{listing.count} layouts, {len(laid)} wishes laid, {dropped} proposals left out"
+    print(f"{width}x{height}: {counts}", flush=True)
     return wrong
 
 
