@@ -23,7 +23,7 @@ def fork():
 
 class Models(unittest.TestCase):
     def test_none_is_lost(self):
-        held = extending.held(120)
+        held = extending.held(180)
         self.assertEqual(held.wrong, 0)
         self.assertTrue(all(held.told[f"definitions {letter}"] > 100 for letter in "pcv"), held.told)
         self.assertTrue(

@@ -92,6 +92,9 @@ class Turned(unittest.TestCase):
                 net = opinion.read_net(text)[0]
             except opinion.Answer:
                 continue
+            # What may prefer any in edge has no mirror: no line says that of out edges.
+            if any(line.endswith(" any") for line in text.splitlines()):
+                continue
             self.assertEqual(opinion.read_net(turned.turned(text))[0].counts["i"], net.counts["o"])
 
 

@@ -16,7 +16,7 @@ def book(designs):
     return json.dumps({"blueprint_book": {"item": "blueprint-book", "blueprints": listed}})
 
 
-SEVERAL = {"universal-1-to-3-in-10x12", "universal-3-to-3-in-13x15"}
+SEVERAL = {"lossless-loop-1-to-3", "universal-1-to-3-in-10x12", "universal-3-to-3-in-13x15"}
 """The examples with halves that lead nowhere, so that several choices of halves make the ends that the label tells."""
 
 

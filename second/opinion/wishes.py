@@ -277,7 +277,8 @@ class WishFormula(Formula):
     def demanded(self):
         """Ends stand at their sides and in their rows, and blocked cells are empty."""
         for letter, side in self.wish.sides.items():
-            word, shapes = (("begins", (BELT, ENTRANCE)) if letter == "i" else ("ends", (BELT, EXIT)))
+            is_input = letter == "i"
+            word, shapes = ("begins", (BELT, ENTRANCE)) if is_input else ("ends", (BELT, EXIT))
             way = (side + TURNED_BACK) % 4 if letter == "i" else side
             for cell in self.border:
                 is_there = not self.has(moved(cell, side))
